@@ -1,0 +1,34 @@
+// The two players of a parity game, and the two kinds of numbers that a game is made of (player.rs, the index types of parity_game.rs).
+ghost use mathlib.Core.Path.{_≡_};
+ghost use Rattle.player.specs.Player.{playerIndex, otherPlayer};
+
+pub enum Player {
+    Even,
+    Odd,
+}
+
+// The number of a vertex. Only where words are written is it taken apart.
+pub struct VertexIndex(pub u32);
+
+// The priority of a vertex. Only where words are written is it taken apart.
+pub struct Priority(pub u32);
+
+// Even is 0, Odd is 1.
+pub fn to_index(p: Player) -> u32
+    ensures { λ r. ⌜ r ≡ playerIndex p ⌝ }
+{
+    match p {
+        Player::Even => 0,
+        Player::Odd => 1,
+    }
+}
+
+// The opponent of a player.
+pub fn opponent(p: Player) -> Player
+    ensures { λ r. ⌜ r ≡ otherPlayer p ⌝ }
+{
+    match p {
+        Player::Even => Player::Odd,
+        Player::Odd => Player::Even,
+    }
+}

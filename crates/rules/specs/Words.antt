@@ -1,0 +1,55 @@
+-- The words handed over to a run and the room lent to it (document 01, "Words handed over"), and every limit. Assumes nothing: these are definitions.
+use Prim.Native.Nat.{ℕ, _+_, _*_}
+use mathlib.Core.List.{List}
+
+-- the four slices of words that describe a run
+pub record Input : Type 0 where
+  pub labels : List ℕ
+  pub system : List ℕ
+  pub actions : List ℕ
+  pub formula : List ℕ
+
+-- the room lent for a game: vertices and edges
+pub record Room : Type 0 where
+  pub vertices : ℕ
+  pub edges : ℕ
+
+abbrev pub inputOf : List ℕ → List ℕ → List ℕ → List ℕ → Input
+inputOf ls ss acts f = record { labels = ls; system = ss; actions = acts; formula = f }
+
+abbrev pub roomOf : ℕ → ℕ → Room
+roomOf v e = record { vertices = v; edges = e }
+
+-- ---- limits
+
+-- "L (0 to 4,096), A (0 to 16,384)"
+unfoldable pub mostLabels : ℕ
+mostLabels = 4_096
+
+unfoldable pub mostActions : ℕ
+mostActions = 16_384
+
+-- "S (1 to 65,535), T (0 to 262,144)"
+unfoldable pub mostStates : ℕ
+mostStates = 65_535
+
+unfoldable pub mostTransitions : ℕ
+mostTransitions = 262_144
+
+-- "m (0 to 1,024)", "n (1 to 1,024)"
+unfoldable pub mostNodes : ℕ
+mostNodes = 1_024
+
+-- "Room is V (1 to 1,048,576) vertices and E (1 to 4,194,304) edges"
+unfoldable pub mostVertices : ℕ
+mostVertices = 1_048_576
+
+unfoldable pub mostEdges : ℕ
+mostEdges = 4_194_304
+
+-- "the game slice has exactly 4 + 3V + E words, the work slice exactly 8V + 2E"
+unfoldable pub gameLength : Room → ℕ
+gameLength r = 4 + 3 * r .vertices + r .edges
+
+unfoldable pub workLength : Room → ℕ
+workLength r = 8 * r .vertices + 2 * r .edges
