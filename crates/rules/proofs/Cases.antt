@@ -133,6 +133,9 @@ games =
     ∷ runs (inputOf (2 ∷ 4 ∷ 0 ∷ 0 ∷ 1 ∷ 1 ∷ 7 ∷ 8 ∷ 8 ∷ 7 ∷ []) (1 ∷ 1 ∷ 0 ∷ 1 ∷ 1 ∷ 0 ∷ []) (2 ∷ 2 ∷ 2 ∷ 0 ∷ 1 ∷ []) (5 ∷ 2 ∷ 5 ∷ 0 ∷ 5 ∷ 0 ∷ 3 ∷ 0 ∷ 0 ∷ 1 ∷ 0 ∷ [])) (roomOf 6 8) 512 (Done 4 4 5) (4 ∷ 5 ∷ 0 ∷ 1 ∷ 1 ∷ 0 ∷ 1 ∷ 1 ∷ 0 ∷ 0 ∷ 0 ∷ 0 ∷ 1 ∷ 3 ∷ 4 ∷ 5 ∷ 1 ∷ 2 ∷ 2 ∷ 3 ∷ 3 ∷ [])
     -- labels tau, {7, 7} and {7}: not (tau or {7, 7}); true
     ∷ runs (inputOf (3 ∷ 3 ∷ 1 ∷ 1 ∷ 2 ∷ 7 ∷ 7 ∷ 7 ∷ []) (2 ∷ 3 ∷ 0 ∷ 3 ∷ 0 ∷ 1 ∷ 0 ∷ 2 ∷ 1 ∷ 0 ∷ 1 ∷ []) (5 ∷ 5 ∷ 3 ∷ 2 ∷ 2 ∷ 0 ∷ 0 ∷ 3 ∷ 0 ∷ 1 ∷ 0 ∷ []) (6 ∷ 2 ∷ 5 ∷ 0 ∷ 4 ∷ 5 ∷ 0 ∷ 3 ∷ 0 ∷ 0 ∷ 4 ∷ 0 ∷ 0 ∷ [])) (roomOf 6 8) 512 (Done 6 6 8) (6 ∷ 8 ∷ 0 ∷ 1 ∷ 1 ∷ 0 ∷ 1 ∷ 0 ∷ 1 ∷ 1 ∷ 0 ∷ 0 ∷ 0 ∷ 1 ∷ 0 ∷ 0 ∷ 1 ∷ 3 ∷ 4 ∷ 6 ∷ 7 ∷ 8 ∷ 1 ∷ 2 ∷ 3 ∷ 5 ∷ 4 ∷ 2 ∷ 4 ∷ 5 ∷ [])
+    -- the action formulas true and false
+    ∷ runs (acting (1 ∷ 0 ∷ 0 ∷ []) (2 ∷ 5 ∷ 0 ∷ 0 ∷ 0 ∷ [])) (roomOf 6 8) 512 (Done 3 3 3) (3 ∷ 3 ∷ 0 ∷ 1 ∷ 0 ∷ 1 ∷ 1 ∷ 0 ∷ 0 ∷ 0 ∷ 1 ∷ 2 ∷ 3 ∷ 1 ∷ 2 ∷ 2 ∷ [])
+    ∷ runs (acting (1 ∷ 1 ∷ 0 ∷ []) (2 ∷ 5 ∷ 0 ∷ 0 ∷ 0 ∷ [])) (roomOf 6 8) 512 (Done 2 2 2) (2 ∷ 2 ∷ 0 ∷ 1 ∷ 0 ∷ 1 ∷ 1 ∷ 0 ∷ 1 ∷ 2 ∷ 1 ∷ 1 ∷ [])
     -- three states, three labels, every kind of action formula
     ∷ runs (inputOf (3 ∷ 4 ∷ 0 ∷ 1 ∷ 2 ∷ 2 ∷ 7 ∷ 8 ∷ 7 ∷ 8 ∷ []) (3 ∷ 6 ∷ 0 ∷ 3 ∷ 2 ∷ 1 ∷ 0 ∷ 1 ∷ 2 ∷ 1 ∷ 0 ∷ 2 ∷ 0 ∷ 1 ∷ 2 ∷ 2 ∷ 0 ∷ 1 ∷ []) (11 ∷ 3 ∷ 2 ∷ 2 ∷ 5 ∷ 2 ∷ 4 ∷ 5 ∷ 2 ∷ 5 ∷ 2 ∷ 0 ∷ 2 ∷ 0 ∷ 1 ∷ 0 ∷ 0 ∷ 8 ∷ 0 ∷ 0 ∷ 0 ∷ 2 ∷ 0 ∷ []) (9 ∷ 2 ∷ 5 ∷ 4 ∷ 1 ∷ 3 ∷ 5 ∷ 0 ∷ 4 ∷ 1 ∷ 4 ∷ 0 ∷ 3 ∷ 0 ∷ 7 ∷ 5 ∷ 0 ∷ 10 ∷ 0 ∷ [])) (roomOf 12 18) 512 (Done 12 12 18) (12 ∷ 18 ∷ 0 ∷ 1 ∷ 1 ∷ 0 ∷ 0 ∷ 0 ∷ 1 ∷ 0 ∷ 0 ∷ 0 ∷ 1 ∷ 1 ∷ 1 ∷ 1 ∷ 0 ∷ 0 ∷ 0 ∷ 0 ∷ 0 ∷ 1 ∷ 1 ∷ 1 ∷ 0 ∷ 0 ∷ 0 ∷ 0 ∷ 1 ∷ 3 ∷ 5 ∷ 7 ∷ 8 ∷ 11 ∷ 12 ∷ 13 ∷ 14 ∷ 15 ∷ 17 ∷ 18 ∷ 1 ∷ 2 ∷ 3 ∷ 10 ∷ 11 ∷ 4 ∷ 5 ∷ 9 ∷ 6 ∷ 7 ∷ 8 ∷ 6 ∷ 7 ∷ 8 ∷ 9 ∷ 7 ∷ 8 ∷ 8 ∷ [])
     -- the placeholder's depth: diamond of greatest Y, least Z, Z
@@ -296,7 +299,7 @@ unfolding from sum largest zeros tally every seek sumWords has place insert inse
     wrongReference refusal45 inputRefusal refusal walkOf verticesOf exceeds doneOrCut finished outOfRoom walked refusedOr run
 cases = (
   refl & refl & refl & refl & refl & refl & refl & refl & refl & refl & (refl & refl) & refl & refl & tt,
-  refl & refl & refl & refl & refl & (refl & refl) & refl & refl & refl & refl & refl & refl & refl & refl & refl & refl & refl & refl & tt,
+  refl & refl & refl & refl & refl & refl & refl & (refl & refl) & refl & refl & refl & refl & refl & refl & refl & refl & refl & refl & refl & refl & tt,
   refl & refl & refl & refl & refl & refl & refl & refl & refl & refl & refl & refl & refl & refl & refl & refl & refl & refl & refl & refl &
       refl & refl & refl & refl & refl & refl & refl & refl & refl & refl & refl & refl & refl & refl & refl & refl & refl & refl & refl & refl &
       refl & refl & refl & refl & refl & refl & refl & refl & refl & refl & tt,
