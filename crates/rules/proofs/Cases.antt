@@ -24,6 +24,7 @@ use Rattle.rules.specs.Walk.{pushNew, settle, stepFrom, step, stepsFrom,
 use Rattle.rules.specs.Reach.{allTargets, reachedIn, reachablePairs, N}
 use Rattle.rules.specs.Game.{waitingVertex, stuckPriority, settledVertex, vertexAt, vertices, edgeCount, offsets, edgeTargets, gameOf, padded}
 use Rattle.rules.specs.Refusal.{outside, differ, faultFrom, lowerFault, refusal1, refusal2, refusal11, refusal12, badLabel, refusal13, refusal21, refusal22, refusal23, refusal24, tooLarge, refusal25, refusal26, refusal31, refusal32, refusal33, wrongActionOperand, badActionOperand, refusal34, refusal41, refusal42, refusal43, namesNoTree, wrongFormulaOperand, badFormulaOperand, wrongEnd, refusal44, encloses, wrongReference, refusal45, inputRefusal, refusal}
+use Rattle.rules.specs.GameRefusal.{refusal51, falls, refusal52, refusal53, gameRefusal}
 use Rattle.rules.specs.Run.{Outcome, walkOf, verticesOf, exceeds, doneOrCut, finished, outOfRoom, walked, refusedOr, run}
 
 -- label 0 is action 7, state 0 is the only state, with a loop on label 0, and the action formula is label 0
@@ -284,8 +285,29 @@ limits =
     ∷ checks (refusal43 (1 ∷ 8 ∷ 0 ∷ [])) Passed
     ∷ []
 
+-- games handed over
+abbrev pub handed : List Case
+handed =
+    -- a game handed over: without edges (C1), beginning anywhere (C3), with words past its end (C4), cut (C5), with an offset above the edge count (C6), with a repeated edge (C7)
+    checks (gameRefusal (1 ∷ 0 ∷ 0 ∷ 1 ∷ 0 ∷ 0 ∷ 0 ∷ [])) Passed
+    ∷ checks (gameRefusal (2 ∷ 1 ∷ 1 ∷ 0 ∷ 0 ∷ 0 ∷ 0 ∷ 0 ∷ 0 ∷ 1 ∷ 1 ∷ [])) Passed
+    ∷ checks (gameRefusal (1 ∷ 1 ∷ 0 ∷ 0 ∷ 0 ∷ 0 ∷ 1 ∷ 0 ∷ 0 ∷ [])) (Fault 51 0)
+    ∷ checks (gameRefusal (1 ∷ 0 ∷ 0 ∷ 2 ∷ 0 ∷ 0 ∷ 0 ∷ [])) (Fault 53 3)
+    ∷ checks (gameRefusal (2 ∷ 2 ∷ 0 ∷ 0 ∷ 0 ∷ 0 ∷ 0 ∷ 0 ∷ 5 ∷ 2 ∷ 0 ∷ 0 ∷ [])) (Fault 52 9)
+    ∷ checks (gameRefusal (1 ∷ 2 ∷ 0 ∷ 0 ∷ 0 ∷ 0 ∷ 2 ∷ 0 ∷ 0 ∷ [])) Passed
+    -- 51 to 53: too short, no vertex, a first offset, a last offset, an initial vertex, a target; the smallest place
+    ∷ checks (gameRefusal (1 ∷ 0 ∷ [])) (Fault 51 0)
+    ∷ checks (gameRefusal (0 ∷ 0 ∷ 0 ∷ 0 ∷ [])) (Fault 51 0)
+    ∷ checks (refusal51 (1048577 ∷ 0 ∷ 0 ∷ [])) (Fault 51 0)
+    ∷ checks (gameRefusal (1 ∷ 1 ∷ 0 ∷ 0 ∷ 0 ∷ 1 ∷ 1 ∷ 0 ∷ [])) (Fault 52 5)
+    ∷ checks (gameRefusal (1 ∷ 1 ∷ 0 ∷ 0 ∷ 0 ∷ 0 ∷ 0 ∷ 0 ∷ [])) (Fault 52 6)
+    ∷ checks (gameRefusal (1 ∷ 1 ∷ 1 ∷ 0 ∷ 0 ∷ 0 ∷ 1 ∷ 0 ∷ [])) (Fault 53 2)
+    ∷ checks (gameRefusal (1 ∷ 1 ∷ 0 ∷ 0 ∷ 0 ∷ 0 ∷ 1 ∷ 1 ∷ [])) (Fault 53 7)
+    ∷ checks (gameRefusal (1 ∷ 1 ∷ 0 ∷ 2 ∷ 0 ∷ 0 ∷ 1 ∷ 1 ∷ [])) (Fault 53 3)
+    ∷ []
+
 -- the rules give what is said of each case
-pub cases : All starred × All games × All refused × All limits
+pub cases : All starred × All games × All refused × All limits × All handed
 unfolding from sum largest zeros tally every seek sumWords has place insert insertAll once mostLabels mostActions mostStates mostTransitions mostNodes
     mostVertices mostEdges gameLength workLength said faultIf andThen firstFault times sameLabel multiset firstTransition transitions decodeAction
     actionNode actionArity decodeFormula formulaNode formulaArity endOfTrees treeEnd isEnd isNotEnd isBeforeEnd comesTo onRow actionOf actionTo
@@ -296,7 +318,8 @@ unfolding from sum largest zeros tally every seek sumWords has place insert inse
     settledVertex vertexAt vertices edgeCount offsets edgeTargets gameOf padded outside differ faultFrom lowerFault refusal1 refusal2 refusal11
     refusal12 badLabel refusal13 refusal21 refusal22 refusal23 refusal24 tooLarge refusal25 refusal26 refusal31 refusal32 refusal33 wrongActionOperand
     badActionOperand refusal34 refusal41 refusal42 refusal43 namesNoTree wrongFormulaOperand badFormulaOperand wrongEnd refusal44 encloses
-    wrongReference refusal45 inputRefusal refusal walkOf verticesOf exceeds doneOrCut finished outOfRoom walked refusedOr run
+    wrongReference refusal45 inputRefusal refusal walkOf verticesOf exceeds doneOrCut finished outOfRoom walked refusedOr run refusal51 falls refusal52 refusal53
+    gameRefusal
 cases = (
   refl & refl & refl & refl & refl & refl & refl & refl & refl & refl & (refl & refl) & refl & refl & tt,
   refl & refl & refl & refl & refl & refl & refl & (refl & refl) & refl & refl & refl & refl & refl & refl & refl & refl & refl & refl & refl & refl & tt,
@@ -306,4 +329,5 @@ cases = (
   refl & refl & refl & refl & refl & refl & refl & refl & refl & refl & refl & refl & refl & refl & refl & refl & refl & refl & refl & refl &
       refl & refl & refl & refl & refl & refl & refl & refl & refl & refl & refl & refl & refl & refl & refl & refl & refl & refl & refl & refl &
       refl & refl & refl & refl & refl & tt,
+  refl & refl & refl & refl & refl & refl & refl & refl & refl & refl & refl & refl & refl & refl & tt,
 )

@@ -13,6 +13,7 @@ pub mod Walk
 pub mod Reach
 pub mod Game
 pub mod Refusal
+pub mod GameRefusal
 pub mod Run
 pub mod Good
 pub mod Demands
