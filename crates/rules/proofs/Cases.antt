@@ -25,6 +25,8 @@ use Rattle.rules.specs.Reach.{allTargets, reachedIn, reachablePairs, N}
 use Rattle.rules.specs.Game.{waitingVertex, stuckPriority, settledVertex, vertexAt, vertices, edgeCount, offsets, edgeTargets, gameOf, padded}
 use Rattle.rules.specs.Refusal.{outside, differ, faultFrom, lowerFault, refusal1, refusal2, refusal11, refusal12, badLabel, refusal13, refusal21, refusal22, refusal23, refusal24, tooLarge, refusal25, refusal26, refusal31, refusal32, refusal33, wrongActionOperand, badActionOperand, refusal34, refusal41, refusal42, refusal43, namesNoTree, wrongFormulaOperand, badFormulaOperand, wrongEnd, refusal44, encloses, wrongReference, refusal45, inputRefusal, refusal}
 use Rattle.rules.specs.GameRefusal.{refusal51, falls, refusal52, refusal53, gameRefusal}
+use Rattle.rules.specs.Restrict.{searchFrom, reachedVertices, newNumber, keptVertex, keptVertices, vertexMap, restrictionRefusal, Restricted, restrictedTo, restrictedOr, restriction}
+use Rattle.rules.specs.Game.{vertexCount}
 use Rattle.rules.specs.Run.{Outcome, walkOf, verticesOf, exceeds, doneOrCut, finished, outOfRoom, walked, refusedOr, run}
 
 -- label 0 is action 7, state 0 is the only state, with a loop on label 0, and the action formula is label 0
@@ -59,7 +61,8 @@ game5 = 6 ∷ 8 ∷ 0 ∷ 1 ∷ 0 ∷ 0 ∷ 1 ∷ 0 ∷ 1 ∷ 1 ∷ 0 ∷ 0 ∷ 
 
 -- What is said of a case. `runs x r k a g`: in room r with limit k the run on x answers a and leaves the game g, with zeros past it, and a work slice of zeros.
 -- `refuses x r n p`: it is refused, by number and place, and leaves both slices as they were. `ranks x ds ps`: the equations of x have these depths and priorities.
--- `deep x i d`: equation i of x has depth d. `reaches x n`: n pairs are reachable. `has x n`: x has n items. `checks c d`: a single check gives d
+-- `deep x i d`: equation i of x has depth d. `reaches x n`: n pairs are reachable. `has x n`: x has n items. `checks c d`: a single check gives d.
+-- `restricts g a h ns`: the restriction of g answers the words a and leaves the game h, with zeros past it, the map ns and a work slice of zeros
 pub data Case : Type 0 where
   runs : Input → Room → ℕ → Answer → List ℕ → Case
   refuses : Input → Room → ℕ → ℕ → Case
@@ -68,6 +71,7 @@ pub data Case : Type 0 where
   reaches : Input → ℕ → Case
   counts : Input → ℕ → Case
   checks : Check → Check → Case
+  restricts : List ℕ → List ℕ → List ℕ → List ℕ → Case
 
 -- the slices are lent with a 9 in each word
 abbrev nines : ℕ → List ℕ
@@ -86,6 +90,9 @@ Holds (deep x i d) = depth x i ≡ d
 Holds (reaches x n) = N x ≡ n
 Holds (counts x n) = length (items x) ≡ n
 Holds (checks c d) = c ≡ d
+Holds (restricts g a h ns) =
+    restriction g (nines (length g)) (nines (vertexCount g)) (nines (vertexCount g))
+    ≡ record { answer = a; out = padded (length g) h; numbers = ns; work = replicate (vertexCount g) 0 }
 
 abbrev pub All : List Case → Type 0
 All [] = Unit {0}
@@ -306,8 +313,28 @@ handed =
     ∷ checks (gameRefusal (1 ∷ 1 ∷ 0 ∷ 2 ∷ 0 ∷ 0 ∷ 1 ∷ 1 ∷ [])) (Fault 53 3)
     ∷ []
 
+-- restrictions
+abbrev pub restrictions : List Case
+restrictions =
+    -- five vertices from vertex 2: breadth first, 3 before 0; vertex 1 and 4 are not reached
+    restricts (5 ∷ 6 ∷ 2 ∷ 0 ∷ 1 ∷ 0 ∷ 1 ∷ 0 ∷ 7 ∷ 6 ∷ 5 ∷ 4 ∷ 3 ∷ 0 ∷ 1 ∷ 2 ∷ 4 ∷ 5 ∷ 6 ∷ 2 ∷ 1 ∷ 3 ∷ 0 ∷ 3 ∷ 4 ∷ []) (0 ∷ 3 ∷ 3 ∷ 4 ∷ []) (3 ∷ 4 ∷ 0 ∷ 0 ∷ 1 ∷ 0 ∷ 5 ∷ 4 ∷ 7 ∷ 0 ∷ 2 ∷ 3 ∷ 4 ∷ 1 ∷ 2 ∷ 1 ∷ 0 ∷ []) (2 ∷ 4294967295 ∷ 0 ∷ 1 ∷ 4294967295 ∷ [])
+    -- breadth first: vertex 1 is gone through before vertex 2
+    ∷ restricts (5 ∷ 6 ∷ 0 ∷ 0 ∷ 0 ∷ 0 ∷ 0 ∷ 0 ∷ 1 ∷ 2 ∷ 3 ∷ 4 ∷ 5 ∷ 0 ∷ 2 ∷ 3 ∷ 4 ∷ 5 ∷ 6 ∷ 1 ∷ 2 ∷ 3 ∷ 4 ∷ 3 ∷ 4 ∷ []) (0 ∷ 5 ∷ 5 ∷ 6 ∷ []) (5 ∷ 6 ∷ 0 ∷ 0 ∷ 0 ∷ 0 ∷ 0 ∷ 0 ∷ 1 ∷ 2 ∷ 3 ∷ 4 ∷ 5 ∷ 0 ∷ 2 ∷ 3 ∷ 4 ∷ 5 ∷ 6 ∷ 1 ∷ 2 ∷ 3 ∷ 4 ∷ 3 ∷ 4 ∷ []) (0 ∷ 1 ∷ 2 ∷ 3 ∷ 4 ∷ [])
+    -- it begins at 0 (C3)
+    ∷ restricts (2 ∷ 1 ∷ 1 ∷ 0 ∷ 0 ∷ 0 ∷ 0 ∷ 0 ∷ 0 ∷ 1 ∷ 1 ∷ []) (0 ∷ 1 ∷ 1 ∷ 1 ∷ []) (1 ∷ 1 ∷ 0 ∷ 0 ∷ 0 ∷ 0 ∷ 1 ∷ 0 ∷ []) (4294967295 ∷ 0 ∷ [])
+    -- without edges (C1), with a repeated edge (C7)
+    ∷ restricts (1 ∷ 0 ∷ 0 ∷ 1 ∷ 0 ∷ 0 ∷ 0 ∷ []) (0 ∷ 1 ∷ 1 ∷ 0 ∷ []) (1 ∷ 0 ∷ 0 ∷ 1 ∷ 0 ∷ 0 ∷ 0 ∷ []) (0 ∷ [])
+    ∷ restricts (1 ∷ 2 ∷ 0 ∷ 0 ∷ 0 ∷ 0 ∷ 2 ∷ 0 ∷ 0 ∷ []) (0 ∷ 1 ∷ 1 ∷ 2 ∷ []) (1 ∷ 2 ∷ 0 ∷ 0 ∷ 0 ∷ 0 ∷ 2 ∷ 0 ∷ 0 ∷ []) (0 ∷ [])
+    -- 2 comes last (C2), and each slice has its length
+    ∷ checks (restrictionRefusal (1 ∷ 1 ∷ 1 ∷ 0 ∷ 0 ∷ 0 ∷ 1 ∷ 0 ∷ []) 0 0 0) (Fault 53 2)
+    ∷ checks (restrictionRefusal (1 ∷ 0 ∷ 0 ∷ 1 ∷ 0 ∷ 0 ∷ 0 ∷ []) 7 1 1) Passed
+    ∷ checks (restrictionRefusal (1 ∷ 0 ∷ 0 ∷ 1 ∷ 0 ∷ 0 ∷ 0 ∷ []) 8 1 1) (Fault 2 0)
+    ∷ checks (restrictionRefusal (1 ∷ 0 ∷ 0 ∷ 1 ∷ 0 ∷ 0 ∷ 0 ∷ []) 7 0 1) (Fault 2 0)
+    ∷ checks (restrictionRefusal (1 ∷ 0 ∷ 0 ∷ 1 ∷ 0 ∷ 0 ∷ 0 ∷ []) 7 1 2) (Fault 2 0)
+    ∷ []
+
 -- the rules give what is said of each case
-pub cases : All starred × All games × All refused × All limits × All handed
+pub cases : All starred × All games × All refused × All limits × All handed × All restrictions
 unfolding from sum largest zeros tally every seek sumWords has place insert insertAll once mostLabels mostActions mostStates mostTransitions mostNodes
     mostVertices mostEdges gameLength workLength said faultIf andThen firstFault times sameLabel multiset firstTransition transitions decodeAction
     actionNode actionArity decodeFormula formulaNode formulaArity endOfTrees treeEnd isEnd isNotEnd isBeforeEnd comesTo onRow actionOf actionTo
@@ -319,7 +346,7 @@ unfolding from sum largest zeros tally every seek sumWords has place insert inse
     refusal12 badLabel refusal13 refusal21 refusal22 refusal23 refusal24 tooLarge refusal25 refusal26 refusal31 refusal32 refusal33 wrongActionOperand
     badActionOperand refusal34 refusal41 refusal42 refusal43 namesNoTree wrongFormulaOperand badFormulaOperand wrongEnd refusal44 encloses
     wrongReference refusal45 inputRefusal refusal walkOf verticesOf exceeds doneOrCut finished outOfRoom walked refusedOr run refusal51 falls refusal52 refusal53
-    gameRefusal
+    gameRefusal searchFrom reachedVertices newNumber keptVertex keptVertices vertexMap restrictionRefusal restrictedTo restrictedOr restriction
 cases = (
   refl & refl & refl & refl & refl & refl & refl & refl & refl & refl & (refl & refl) & refl & refl & tt,
   refl & refl & refl & refl & refl & refl & refl & (refl & refl) & refl & refl & refl & refl & refl & refl & refl & refl & refl & refl & refl & refl & tt,
@@ -330,4 +357,5 @@ cases = (
       refl & refl & refl & refl & refl & refl & refl & refl & refl & refl & refl & refl & refl & refl & refl & refl & refl & refl & refl & refl &
       refl & refl & refl & refl & refl & tt,
   refl & refl & refl & refl & refl & refl & refl & refl & refl & refl & refl & refl & refl & refl & tt,
+  refl & refl & refl & refl & refl & refl & refl & refl & refl & refl & tt,
 )

@@ -17,3 +17,5 @@ pub mod GameRefusal
 pub mod Run
 pub mod Good
 pub mod Demands
+pub mod Restrict
+pub mod Restricts

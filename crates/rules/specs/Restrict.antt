@@ -1,0 +1,72 @@
+-- The restriction (document 01, "Restriction": "From the initial vertex, breadth first, targets in order; the first met gets the next number; owners, priorities and edge
+-- order stay. The map holds 4,294,967,295 for a vertex not reached"). Assumes nothing: these are definitions.
+use Prim.Native.Nat.{ℕ, zero, suc}
+use mathlib.Core.Bool.{Bool, cond, _||_}
+use mathlib.Core.List.{List, [], _∷_, map}
+use lib.ListN.{length, getD}
+use lib.Dec.{eqb, ltb}
+use Rattle.rules.specs.declared.Check.{Check}
+use Rattle.rules.specs.declared.Check.the-variants.{Passed, Fault}
+use Rattle.rules.specs.Lists.{from, zeros, has, place, insertAll}
+use Rattle.rules.specs.Answers.{faultIf, andThen}
+use Rattle.rules.specs.Game.{Vertex, edgeCount, gameOf, padded, vertexCount, initialIn, ownerIn, priorityIn, targetsIn}
+use Rattle.rules.specs.Refusal.{differ}
+use Rattle.rules.specs.GameRefusal.{gameRefusal}
+
+-- ---- the search
+
+-- The vertices met, by their new numbers, once those numbered from i on have been gone through in turn, at most `turns` of them: the targets of each that are new
+-- get the next numbers, in order
+unfoldable pub searchFrom : List ℕ → (turns i : ℕ) → List ℕ → List ℕ
+searchFrom g zero i met = met
+searchFrom g (suc turns) i met =
+    let more = searchFrom g turns (suc i) (insertAll eqb met (targetsIn g (getD met i 0))) in
+    cond (ltb i (length met)) more met
+
+-- the vertices reached: no more are gone through than there are (theorem `reached-all`)
+unfoldable pub reachedVertices : List ℕ → List ℕ
+reachedVertices g = searchFrom g (vertexCount g) 0 (initialIn g ∷ [])
+
+-- ---- the game that is written, and the map
+
+-- the new number of vertex v, given the vertices reached
+unfoldable pub newNumber : List ℕ → ℕ → ℕ
+newNumber met v = cond (has eqb v met) (place eqb v met) 4_294_967_295
+
+unfoldable pub keptVertex : List ℕ → List ℕ → ℕ → Vertex
+keptVertex g met v = record { owner = ownerIn g v; priority = priorityIn g v; edges = map (newNumber met) (targetsIn g v) }
+
+unfoldable pub keptVertices : List ℕ → List ℕ → List Vertex
+keptVertices g met = map (keptVertex g met) met
+
+unfoldable pub vertexMap : List ℕ → List ℕ → List ℕ
+vertexMap g met = map (newNumber met) (from 0 (vertexCount g))
+
+-- ---- the answer, and what the lent slices hold afterwards
+
+-- "For the restriction: output as long as the input, map and work as many words as vertices"; "51, 52, 53, then 2". The lengths are those of the lent slices
+unfoldable pub restrictionRefusal : List ℕ → (out numbers work : ℕ) → Check
+restrictionRefusal g out numbers work =
+    andThen (gameRefusal g) (faultIf 2 0 (differ out (length g) || (differ numbers (vertexCount g) || differ work (vertexCount g))))
+
+-- the four words of the answer (`said`), and the lent slices as the call leaves them
+pub record Restricted : Type 0 where
+  pub answer : List ℕ
+  pub out : List ℕ
+  pub numbers : List ℕ
+  pub work : List ℕ
+
+-- "A game that is restricted .. counts its vertices as steps"
+unfoldable pub restrictedTo : List ℕ → List ℕ → List ℕ → List ℕ → Restricted
+restrictedTo g met out work =
+    let vs = keptVertices g met in
+    record { answer = 0 ∷ length vs ∷ length vs ∷ edgeCount vs ∷ []; out = padded (length out) (gameOf vs); numbers = vertexMap g met; work = zeros work }
+
+-- a refusal alters nothing
+unfoldable pub restrictedOr : Check → List ℕ → List ℕ → List ℕ → List ℕ → Restricted
+restrictedOr Passed g out numbers work = restrictedTo g (reachedVertices g) out work
+restrictedOr (Fault n p) g out numbers work = record { answer = 2 ∷ n ∷ p ∷ 0 ∷ []; out = out; numbers = numbers; work = work }
+
+-- the restriction of game g, with the slices as they are at entry
+unfoldable pub restriction : List ℕ → (out numbers work : List ℕ) → Restricted
+restriction g out numbers work = restrictedOr (restrictionRefusal g (length out) (length numbers) (length work)) g out numbers work
