@@ -3,19 +3,15 @@ use borrow.Author.Needs.{needs}
 use Rattle.words.proofs.at.Statement.{statement}
 use Rattle.words.proofs.at.Tie as tie
 
--- src/lib.rt:19:5
 mul-result : tie.Need-mul-result
 mul-result c = search needs
 
--- src/lib.rt:19:5
 shared-slice-read-result : tie.Need-shared-slice-read-result
 shared-slice-read-result c = search needs
 
--- src/lib.rt:19:5
 cast-result : tie.Need-cast-result
 cast-result c = omega (arith, c .shared-slice-known .given (c .before .args .p))
 
--- src/lib.rt:15:1
 returns : tie.Need-returns
 returns c = (search needs, omega (arith, c .shared-slice-known .given (c .before .args .p)))
 

@@ -1,0 +1,95 @@
+use Rattle.action_words.proofs.Actions.{row-whole, row-broken}
+use Rattle.faults.proofs.Chains.{then-same}
+use Prim.Native.Nat.{_-_}
+use native.Mathlib.Omega.{arith}
+use mathlib.Core.Path.{_≡_, refl, sym, _∙_, ap}
+use mathlib.Core.Bool.{not}
+use denote.Ref.{now}
+use Rattle.rules.specs.declared.Check.the-variants.{Fault}
+use Rattle.rules.specs.Answers.{faultIf, andThen}
+use Rattle.rules.specs.Table.{size, actionChildren, onRow}
+use Rattle.rules.specs.Refusal.{faultFrom, badActionOperand, refusal34}
+use Rattle.tables.proofs.Faults.{if-true, if-false, from-stop, from-next, from-done, then-fault, then-passed}
+use Rattle.tables.proofs.Pools.{refusal34-scan}
+use borrow.Author.Needs.{needs}
+use Rattle.action_words.proofs.check_operands.Statement.{statement}
+use Rattle.action_words.proofs.check_operands.Tie as tie
+use Rattle.action_words.proofs.check_operands.Reads as reads
+use Rattle.action_words.proofs.check_operands.Lts as lts
+use Rattle.action_words.proofs.bad_operand.Reads as bad-operand-reads
+use Rattle.words.proofs.at.Reads as at-reads
+
+abbrev Inv-loop : tie.InvT-loop
+Inv-loop labels acts ends firsts m v₀ v = refusal34 labels acts ≡ andThen (faultFrom 34 v (size acts) (badActionOperand labels acts)) (faultIf 34 (size acts) (not (onRow (actionChildren acts) (size acts) (size acts))))
+
+abbrev μ-loop : tie.MeasureT-loop
+μ-loop labels acts ends firsts m v₀ v = m - v
+
+-- src/lib.rt:46:9
+at-requires : tie.Need-at-requires Inv-loop μ-loop
+at-requires c κs = search needs
+
+-- src/lib.rt:48:5
+loop-holds : tie.Need-loop-holds Inv-loop μ-loop
+loop-holds c = refusal34-scan _ _
+
+-- src/lib.rt:49:12
+bad-operand-requires : tie.Need-bad-operand-requires Inv-loop μ-loop
+bad-operand-requires c κs = ((c .before .before .before .before .before .pre .0 .0, c .before .before .before .before .before .pre .0 .1, omega arith), c .before .before .before .before .before .pre .1 .0)
+
+-- src/lib.rt:50:37
+cast-t9 : tie.Need-cast-t9 Inv-loop μ-loop
+cast-t9 c = search needs
+
+-- src/lib.rt:50:13
+returns : tie.Need-returns Inv-loop μ-loop
+returns c = sym (c .before .before .before .loop .inv ∙ then-fault _ (from-stop _ _ _ _ (omega arith) (cc)))
+
+-- src/lib.rt:52:9
+add-v : tie.Need-add-v Inv-loop μ-loop
+add-v c = search needs
+
+-- src/lib.rt:48:5
+loop-less : tie.Need-loop-less Inv-loop μ-loop
+loop-less c = search needs
+
+-- src/lib.rt:48:5
+loop-again : tie.Need-loop-again Inv-loop μ-loop
+loop-again c = c .before .before .before .loop .inv ∙ then-same _ (from-next _ _ _ _ (cc))
+
+-- src/lib.rt:54:8
+element-copy-out-if2 : tie.Need-element-copy-out-if2 Inv-loop μ-loop
+element-copy-out-if2 c = search needs
+
+-- src/lib.rt:55:9
+returns-2 : tie.Need-returns-2 Inv-loop μ-loop
+returns-2 c = let s = c .before .before .before .before .before .before .before in
+    sym (c .before .before .before .loop .inv ∙ then-passed _ (from-done _ _ _ _ (omega arith)) ∙ row-whole (now (s .args .acts)) (now (s .args .firsts)) (c .before .before .before .before .at .result) (c .before .before .before .before .at .ensures .0) (s .pre .1 .1) (c .if2 .taken))
+
+-- src/lib.rt:57:22
+cast-t14 : tie.Need-cast-t14 Inv-loop μ-loop
+cast-t14 c = search needs
+
+-- src/lib.rt:36:1
+returns-3 : tie.Need-returns-3 Inv-loop μ-loop
+returns-3 c = let s = c .before .before .before .before .before .before .before in
+    sym (c .before .before .before .loop .inv ∙ then-passed _ (from-done _ _ _ _ (omega arith)) ∙ row-broken (now (s .args .acts)) (now (s .args .firsts)) (c .before .before .before .before .at .result) (c .before .before .before .before .at .ensures .0) (s .pre .1 .1) (c .if2 .left))
+
+pub check-operands-spec : {M : Type 1} → statement M
+check-operands-spec =
+    tie.close
+    (tie.spec
+    Inv-loop
+    μ-loop
+    at-requires
+    loop-holds
+    bad-operand-requires
+    cast-t9
+    returns
+    add-v
+    loop-less
+    loop-again
+    element-copy-out-if2
+    returns-2
+    cast-t14
+    returns-3)

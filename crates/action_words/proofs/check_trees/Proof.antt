@@ -1,0 +1,31 @@
+use lib.ListN.{length-replicate}
+use mathlib.Core.Bool.{Bool, false}
+use Rattle.table_words.proofs.Row.{blank}
+use borrow.Author.Needs.{needs}
+use Rattle.action_words.proofs.check_trees.Statement.{statement}
+use Rattle.action_words.proofs.check_trees.Tie as tie
+use Rattle.action_words.proofs.check_trees.Reads as reads
+use Rattle.action_words.proofs.check_trees.Lts as lts
+use Rattle.action_words.proofs.check_operands.Reads as check-operands-reads
+use Rattle.table_words.proofs.first_nodes.Reads as first-nodes-reads
+use Rattle.table_words.proofs.tree_ends.Reads as tree-ends-reads
+
+-- src/lib.rt:66:5
+tree-ends-requires : tie.Need-tree-ends-requires
+tree-ends-requires c κs = search needs
+
+-- src/lib.rt:68:5
+first-nodes-requires : tie.Need-first-nodes-requires
+first-nodes-requires c κs = ((c .before .before .before .before .before .before .pre .1, length-replicate {A = Bool} 1025 false), (c .before .before .tree-ends .ensures .0, λ v. blank 1025 v))
+
+-- src/lib.rt:69:5
+check-operands-requires : tie.Need-check-operands-requires
+check-operands-requires c κs = search needs
+
+-- src/lib.rt:61:1
+returns : tie.Need-returns
+returns c = search needs
+
+pub check-trees-spec : {M : Type 1} → statement M
+check-trees-spec =
+    tie.close (tie.spec tree-ends-requires first-nodes-requires check-operands-requires returns)

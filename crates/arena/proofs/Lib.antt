@@ -1,0 +1,12 @@
+pub mod Alike
+pub mod Ranges
+pub mod ItemNumbers
+pub mod Numbering
+pub mod Parts
+pub mod Inside
+pub mod SelfTargets
+pub mod Priorities
+pub mod ByKind
+pub mod SameTrees
+pub mod SameRefusals
+pub mod Multisets

@@ -1,0 +1,241 @@
+-- Good labels, or action formulas that name equal labels, are refused as the others are: the other words decide. Assumes nothing.
+use mathlib.Core.Path.{_≡_, refl, sym, ap, ap₂, _∙_}
+use mathlib.Core.Bool.{Bool, true, false, not, _&&_, _||_}
+use mathlib.Core.List.{List, [], _∷_}
+use mathlib.Core.Option.{Option}
+use Prim.Native.Nat.{ℕ, zero, suc, _+_, _*_, _-_, _≤_, _<_}
+use native.Mathlib.Decide.{decLt, ℕ-discrete}
+use native.Mathlib.Omega.{arith}
+use lib.Dec.{eqb, ltb, leb}
+use lib.ListN.{length}
+use borrow.Author.Tests.{eq-eqb, ne-eqb, le-ltb, lt-leb}
+use Rattle.rules.specs.declared.Check.{Check}
+use Rattle.rules.specs.declared.Check.the-variants.{Passed}
+use Rattle.rules.specs.Lists.{word}
+use Rattle.rules.specs.Words.{Input, Room, mostLabels, mostActions, mostNodes}
+use Rattle.rules.specs.Answers.{faultIf, firstFault}
+use Rattle.rules.specs.Labels.{labelCount, actionCount, labelAt}
+use Rattle.rules.specs.System.{stateCount, transitionCount}
+use Rattle.rules.specs.Table.{size, kind, operand, decodeAction, actionNode, actionArity, actionChildren, formulaNode, formulaChildren, treeEnd, onRow}
+use Rattle.rules.specs.Table.{FormulaNode, truthNode, falsityNode, andNode, orNode, boxNode, diamondNode, leastNode, greatestNode, referenceNode, noFormulaNode}
+use Rattle.rules.specs.Refusal.{differ, faultFrom, lowerFault, refusal1, refusal2, refusal11, refusal12, badLabel, refusal13}
+use Rattle.rules.specs.Refusal.{refusal21, refusal22, refusal23, refusal24, tooLarge, refusal25, refusal26}
+use Rattle.rules.specs.Refusal.{refusal31, refusal32, refusal33, wrongActionOperand, badActionOperand, refusal34, refusal41, refusal42, refusal43}
+use Rattle.rules.specs.Refusal.{namesNoTree, wrongFormulaOperand, badFormulaOperand, wrongEnd, refusal44, refusal45}
+use Rattle.rules.specs.Refusal.{inputRefusal, refusal}
+use Rattle.rules.specs.Good.{GoodLabels, GoodActions}
+use Rattle.tables.proofs.Faults.{if-false, from-none, from-same}
+use Rattle.tables.proofs.Decode.{action-at, action-past}
+use Rattle.arena.specs.Reworded.{reworded, SameActions}
+
+neither : (a b : Bool) → a ≡ false → b ≡ false → (a || b) ≡ false
+neither a b p q = rw (p, q)
+
+second : (a b : Bool) → b ≡ false → (a && b) ≡ false
+second true b e = e
+second false b e = refl
+
+no-difference : (m n : ℕ) → m ≡ n → differ m n ≡ false
+unfolding differ
+no-difference m n e = rw (eq-eqb m n e)
+
+-- ---- labels
+
+module _ (ls : List ℕ) (good : GoodLabels ls) where
+  passed-11 : refusal11 ls ≡ Passed
+  unfolding refusal11
+  passed-11 =
+      let s = good .sized in
+      if-false 11 0 (neither (ltb (length ls) 2) (differ (length ls) (2 + 2 * actionCount ls)) (le-ltb (length ls) 2 (omega arith)) (no-difference (length ls) (2 + 2 * actionCount ls) s))
+
+  passed-12 : refusal12 ls ≡ Passed
+  unfolding refusal12 mostLabels mostActions
+  passed-12 =
+      if-false 12 0 (neither (ltb 4_096 (labelCount ls)) (ltb 16_384 (actionCount ls)) (le-ltb 4_096 (labelCount ls) (good .few)) (le-ltb 16_384 (actionCount ls) (good .small)))
+
+  labels-right : (w : ℕ) → leb (labelCount ls) (word ls w) ≡ false → (ltb 2 w && ltb (word ls w) (word ls (w - 1))) ≡ false → badLabel ls w ≡ false
+  unfolding badLabel
+  labels-right w p q = neither (leb (labelCount ls) (word ls w)) (ltb 2 w && ltb (word ls w) (word ls (w - 1))) p q
+
+  passed-13 : refusal13 ls ≡ Passed
+  unfolding refusal13
+  passed-13 = from-none 13 2 (2 + actionCount ls) (badLabel ls) right
+    where
+      at : (w : ℕ) → 2 ≤ w → labelAt ls (w - 2) ≡ word ls w
+      at w a = ap (word ls) (let e : 2 + (w - 2) ≡ w = omega arith in e)
+
+      small : (w : ℕ) → 2 ≤ w → w < 2 + actionCount ls → leb (labelCount ls) (word ls w) ≡ false
+      small w a b = let k = good .below (w - 2) (omega arith) in let e = at w a in lt-leb (labelCount ls) (word ls w) (omega arith)
+
+      rises : (w : ℕ) → 2 ≤ w → w < 2 + actionCount ls → Dec (2 < w) → (ltb 2 w && ltb (word ls w) (word ls (w - 1))) ≡ false
+      rises w a b (yes h) =
+          let k = good .order (w - 1 - 2) (w - 2) (omega arith) (omega arith) in
+          let e = at w a in
+          let f = at (w - 1) (omega arith) in
+          second (ltb 2 w) (ltb (word ls w) (word ls (w - 1))) (le-ltb (word ls w) (word ls (w - 1)) (omega arith))
+      rises w a b (no h) = rw (le-ltb 2 w (omega arith))
+
+      right : (w : ℕ) → 2 ≤ w → w < 2 + actionCount ls → badLabel ls w ≡ false
+      right w a b = labels-right w (small w a b) (rises w a b (decLt 2 w))
+
+-- good labels, as many of them, are not refused either, and the rest is judged by their number
+pub relabelled-refusal : (x : Input) (ls′ : List ℕ) → GoodLabels (x .labels) → GoodLabels ls′ → labelCount ls′ ≡ labelCount (x .labels)
+    → (r : Room) (game work : ℕ) → refusal (reworded x ls′ (x .actions)) r game work ≡ refusal x r game work
+unfolding refusal inputRefusal refusal25 refusal34 badActionOperand
+relabelled-refusal x ls′ good good′ e r game work i =
+    firstFault
+    (refusal1 r ∷ refusal2 r game work
+    ∷ firstFault
+    (p11 i ∷ p12 i ∷ p13 i
+    ∷ refusal21 (x .system) ∷ refusal22 (x .system) ∷ refusal23 (x .system) ∷ refusal24 (x .system)
+    ∷ faultFrom 25 (3 + stateCount (x .system)) (3 + stateCount (x .system) + transitionCount (x .system)) (tooLarge (x .system) (e i)) ∷ refusal26 (x .system)
+    ∷ refusal31 (x .actions) ∷ refusal32 (x .actions) ∷ refusal33 (x .actions) ∷ p34 i
+    ∷ refusal41 (x .formula) ∷ refusal42 (x .formula) ∷ refusal43 (x .formula) ∷ refusal44 (x .actions) (x .formula) ∷ refusal45 (x .formula)
+    ∷ [])
+    ∷ [])
+  where
+    p11 : refusal11 ls′ ≡ refusal11 (x .labels)
+    p11 = passed-11 ls′ good′ ∙ sym (passed-11 (x .labels) good)
+
+    p12 : refusal12 ls′ ≡ refusal12 (x .labels)
+    p12 = passed-12 ls′ good′ ∙ sym (passed-12 (x .labels) good)
+
+    p13 : refusal13 ls′ ≡ refusal13 (x .labels)
+    p13 = passed-13 ls′ good′ ∙ sym (passed-13 (x .labels) good)
+
+    p34 : refusal34 ls′ (x .actions) ≡ refusal34 (x .labels) (x .actions)
+    p34 =
+        ap
+        (λ (n : ℕ).
+        lowerFault (faultFrom 34 0 (size (x .actions)) (λ v. wrongActionOperand n (operand (x .actions) v) (treeEnd (actionChildren (x .actions)) (size (x .actions)) (suc v)) (actionNode (x .actions) v)))
+        (faultIf 34 (size (x .actions)) (not (onRow (actionChildren (x .actions)) (size (x .actions)) (size (x .actions))))))
+        e
+
+-- ---- action formulas
+
+arity-same : (k o o′ : ℕ) → actionArity (decodeAction k o′) ≡ actionArity (decodeAction k o)
+unfolding actionArity decodeAction
+arity-same zero o o′ = refl
+arity-same (suc zero) o o′ = refl
+arity-same (suc (suc zero)) o o′ = refl
+arity-same (suc (suc (suc zero))) o o′ = refl
+arity-same (suc (suc (suc (suc zero)))) o o′ = refl
+arity-same (suc (suc (suc (suc (suc zero))))) o o′ = refl
+arity-same (suc (suc (suc (suc (suc (suc k)))))) o o′ = refl
+
+-- a label that is one is right, whichever it is
+operand-same : (n o o′ : ℕ) (end : Option ℕ) (k : ℕ) → ((¬ (k ≡ 2)) → o′ ≡ o) → (k ≡ 2 → (o < n) × (o′ < n))
+    → wrongActionOperand n o′ end (decodeAction k o′) ≡ wrongActionOperand n o end (decodeAction k o)
+operand-same n o o′ end k p q = go (ℕ-discrete k 2)
+  where
+    label : (l : ℕ) → l < n → wrongActionOperand n l end (decodeAction 2 l) ≡ false
+    label l h = unfold wrongActionOperand decodeAction in lt-leb n l h
+
+    go : Dec (k ≡ 2) → wrongActionOperand n o′ end (decodeAction k o′) ≡ wrongActionOperand n o end (decodeAction k o)
+    go (yes e) =
+        let (a, b) = q e in
+        ap (λ (j : ℕ). wrongActionOperand n o′ end (decodeAction j o′)) e
+        ∙ label o′ b
+        ∙ sym (label o a)
+        ∙ ap (λ (j : ℕ). wrongActionOperand n o end (decodeAction j o)) (sym e)
+    go (no d) = ap (λ (l : ℕ). wrongActionOperand n l end (decodeAction k l)) (p d)
+
+module _ (ls acts acts′ : List ℕ) (good : GoodActions (labelCount ls) acts) (good′ : GoodActions (labelCount ls) acts′) (same : SameActions ls ls acts acts′) where
+  children-same : (v : ℕ) → actionChildren acts′ v ≡ actionChildren acts v
+  children-same v = go (decLt v (size acts))
+    where
+      go : Dec (v < size acts) → actionChildren acts′ v ≡ actionChildren acts v
+      go (yes h) =
+          ap actionArity (action-at acts′ v (let e = same .sizes in omega arith) ∙ ap (λ (k : ℕ). decodeAction k (operand acts′ v)) (same .kinds v h))
+          ∙ arity-same (kind acts v) (operand acts v) (operand acts′ v)
+          ∙ ap actionArity (sym (action-at acts v h))
+      go (no h) = ap actionArity (action-past acts′ v (let e = same .sizes in omega arith) ∙ sym (action-past acts v (omega arith)))
+
+  children-path : actionChildren acts′ ≡ actionChildren acts
+  children-path i v = children-same v i
+
+  same-31 : refusal31 acts′ ≡ refusal31 acts
+  same-31 = passed acts′ (good′ .sized) ∙ sym (passed acts (good .sized))
+    where
+      passed : (ws : List ℕ) → length ws ≡ 1 + 2 * size ws → refusal31 ws ≡ Passed
+      passed ws e =
+          unfold refusal31 in
+          if-false 31 0 (neither (eqb (length ws) 0) (differ (length ws) (1 + 2 * size ws)) (ne-eqb (length ws) 0 (λ z. omega arith)) (no-difference (length ws) (1 + 2 * size ws) e))
+
+  same-32 : refusal32 acts′ ≡ refusal32 acts
+  unfolding refusal32
+  same-32 = ap (λ (n : ℕ). faultIf 32 0 (ltb mostNodes n)) (same .sizes)
+
+  same-33 : refusal33 acts′ ≡ refusal33 acts
+  unfolding refusal33
+  same-33 =
+      ap (λ (n : ℕ). faultFrom 33 0 n (λ v. ltb 5 (kind acts′ v))) (same .sizes)
+      ∙ from-same 33 0 (size acts) (λ v. ltb 5 (kind acts′ v)) (λ v. ltb 5 (kind acts v)) (λ v a b. ap (ltb 5) (same .kinds v b))
+
+  operands-same : (v : ℕ) → v < size acts → badActionOperand ls acts′ v ≡ badActionOperand ls acts v
+  unfolding badActionOperand
+  operands-same v h =
+      (λ i. wrongActionOperand (labelCount ls) (operand acts′ v) (treeEnd (children-path i) (same .sizes i) (suc v)) (decoded i))
+      ∙ operand-same (labelCount ls) (operand acts v) (operand acts′ v) (treeEnd (actionChildren acts) (size acts) (suc v)) (kind acts v) (same .operands v h) (λ e. are-labels e)
+      ∙ ap (wrongActionOperand (labelCount ls) (operand acts v) (treeEnd (actionChildren acts) (size acts) (suc v))) (sym (action-at acts v h))
+    where
+      inside : v < size acts′
+      inside = let e = same .sizes in omega arith
+
+      decoded : actionNode acts′ v ≡ decodeAction (kind acts v) (operand acts′ v)
+      decoded = action-at acts′ v inside ∙ ap (λ (k : ℕ). decodeAction k (operand acts′ v)) (same .kinds v h)
+
+      are-labels : kind acts v ≡ 2 → (operand acts v < labelCount ls) × (operand acts′ v < labelCount ls)
+      are-labels e =
+          let f = same .kinds v h in
+          (good .nodes v h .label (omega arith) (omega arith), good′ .nodes v inside .label (omega arith) (omega arith))
+
+  same-34 : refusal34 ls acts′ ≡ refusal34 ls acts
+  unfolding refusal34
+  same-34 =
+      ap₂ lowerFault
+      (ap (λ (n : ℕ). faultFrom 34 0 n (badActionOperand ls acts′)) (same .sizes)
+      ∙ from-same 34 0 (size acts) (badActionOperand ls acts′) (badActionOperand ls acts) (λ v a b. operands-same v b))
+      (ap₂ (λ (c : ℕ → ℕ) (n : ℕ). faultIf 34 n (not (onRow c n n))) children-path (same .sizes))
+
+  same-names : (a : ℕ) → namesNoTree acts′ a ≡ namesNoTree acts a
+  unfolding namesNoTree
+  same-names a = ap₂ (λ (c : ℕ → ℕ) (n : ℕ). leb n a || not (onRow c n a)) children-path (same .sizes)
+
+  formula-operand-same : (o : ℕ) (end : Option ℕ) (n : FormulaNode) → wrongFormulaOperand acts′ o end n ≡ wrongFormulaOperand acts o end n
+  unfolding wrongFormulaOperand
+  formula-operand-same o end truthNode = refl
+  formula-operand-same o end falsityNode = refl
+  formula-operand-same o end (andNode r) = refl
+  formula-operand-same o end (orNode r) = refl
+  formula-operand-same o end (boxNode a) = same-names a
+  formula-operand-same o end (diamondNode a) = same-names a
+  formula-operand-same o end leastNode = refl
+  formula-operand-same o end greatestNode = refl
+  formula-operand-same o end (referenceNode u) = refl
+  formula-operand-same o end noFormulaNode = refl
+
+  same-44 : (f : List ℕ) → refusal44 acts′ f ≡ refusal44 acts f
+  unfolding refusal44 badFormulaOperand
+  same-44 f =
+      ap (λ (c : Check). lowerFault c (wrongEnd (size f) (treeEnd (formulaChildren f) (size f) 0)))
+      (from-same 44 0 (size f) (badFormulaOperand acts′ f) (badFormulaOperand acts f)
+      (λ v a b. formula-operand-same (operand f v) (treeEnd (formulaChildren f) (size f) (suc v)) (formulaNode f v)))
+
+-- action formulas that differ in the names of equal labels are refused alike
+pub renamed-refusal : (x : Input) (acts′ : List ℕ) → GoodActions (labelCount (x .labels)) (x .actions) → GoodActions (labelCount (x .labels)) acts′
+    → SameActions (x .labels) (x .labels) (x .actions) acts′
+    → (r : Room) (game work : ℕ) → refusal (reworded x (x .labels) acts′) r game work ≡ refusal x r game work
+unfolding refusal inputRefusal
+renamed-refusal x acts′ good good′ same r game work i =
+    firstFault
+    (refusal1 r ∷ refusal2 r game work
+    ∷ firstFault
+    (refusal11 (x .labels) ∷ refusal12 (x .labels) ∷ refusal13 (x .labels)
+    ∷ refusal21 (x .system) ∷ refusal22 (x .system) ∷ refusal23 (x .system) ∷ refusal24 (x .system)
+    ∷ refusal25 (x .labels) (x .system) ∷ refusal26 (x .system)
+    ∷ same-31 (x .labels) (x .actions) acts′ good good′ same i ∷ same-32 (x .labels) (x .actions) acts′ good good′ same i
+    ∷ same-33 (x .labels) (x .actions) acts′ good good′ same i ∷ same-34 (x .labels) (x .actions) acts′ good good′ same i
+    ∷ refusal41 (x .formula) ∷ refusal42 (x .formula) ∷ refusal43 (x .formula) ∷ same-44 (x .labels) (x .actions) acts′ good good′ same (x .formula) i ∷ refusal45 (x .formula)
+    ∷ [])
+    ∷ [])

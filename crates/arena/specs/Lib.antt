@@ -1,0 +1,2 @@
+pub mod Arena
+pub mod Reworded

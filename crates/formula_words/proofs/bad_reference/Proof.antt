@@ -1,0 +1,75 @@
+use native.Mathlib.Omega.{arith}
+use Rattle.formula_words.proofs.References.{no-reference, later, low, high, broken, whole}
+use borrow.Author.Needs.{needs}
+use Rattle.formula_words.proofs.bad_reference.Statement.{statement}
+use Rattle.formula_words.proofs.bad_reference.Tie as tie
+use Rattle.formula_words.proofs.bad_reference.Reads as reads
+use Rattle.formula_words.proofs.bad_reference.Lts as lts
+use Rattle.table_words.proofs.kind_at.Reads as kind-at-reads
+use Rattle.table_words.proofs.operand_at.Reads as operand-at-reads
+use Rattle.words.proofs.at.Reads as at-reads
+
+-- src/lib.rt:86:8
+kind-at-requires : tie.Need-kind-at-requires
+kind-at-requires c κs = search needs
+
+-- src/lib.rt:87:9
+returns : tie.Need-returns
+returns c = no-reference _ _ _ (c .before .before .before .pre .1) (c .before .kind-at .ensures) (c .if1 .taken)
+
+-- src/lib.rt:89:9
+operand-at-requires : tie.Need-operand-at-requires
+operand-at-requires c κs = search needs
+
+-- src/lib.rt:91:9
+returns-2 : tie.Need-returns-2
+returns-2 c = later _ _ _ (c .before .before .before .before .before .pre .1) (c .before .before .before .kind-at .ensures) (c .before .before .if1 .left) _ (c .before .operand-at .ensures) (c .if2 .taken)
+
+-- src/lib.rt:93:9
+kind-at-requires-2 : tie.Need-kind-at-requires-2
+kind-at-requires-2 c κs = search needs
+
+-- src/lib.rt:95:9
+returns-3 : tie.Need-returns-3
+returns-3 c = low _ _ _ (c .before .before .before .before .before .before .before .pre .1) (c .before .before .before .before .before .kind-at .ensures) (c .before .before .before .before .if1 .left) _ (c .before .before .before .operand-at .ensures) (c .before .before .if2 .left) _ (c .before .kind-at2 .ensures) (c .if3 .taken)
+
+-- src/lib.rt:98:9
+returns-4 : tie.Need-returns-4
+returns-4 c = high _ _ _ (c .before .before .before .before .before .before .before .before .pre .1) (c .before .before .before .before .before .before .kind-at .ensures) (c .before .before .before .before .before .if1 .left) _ (c .before .before .before .before .operand-at .ensures) (c .before .before .before .if2 .left) _ (c .before .before .kind-at2 .ensures) (c .if4 .taken)
+
+-- src/lib.rt:100:15
+mul-end : tie.Need-mul-end
+mul-end c = search needs
+
+-- src/lib.rt:100:15
+element-copy-out-end : tie.Need-element-copy-out-end
+element-copy-out-end c = search needs
+
+-- src/lib.rt:101:8
+at-requires : tie.Need-at-requires
+at-requires c κs = search needs
+
+-- src/lib.rt:102:9
+returns-5 : tie.Need-returns-5
+returns-5 c = broken _ _ _ (c .before .before .before .before .before .before .before .before .before .before .before .pre .1) (c .before .before .before .before .before .before .before .before .before .kind-at .ensures) (c .before .before .before .before .before .before .before .before .if1 .left) _ (c .before .before .before .before .before .before .before .operand-at .ensures) (c .before .before .before .before .before .before .if2 .left) _ (c .before .before .before .before .before .kind-at2 .ensures) (c .before .before .before .before .if3 .left) (c .before .before .before .if4 .left) _ _ (c .before .at .ensures .0) (c .before .before .before .before .before .before .before .before .before .before .before .pre .2 (c .before .before .before .before .before .before .before .operand-at .result) (omega arith)) (c .if5 .taken)
+
+-- src/lib.rt:82:1
+returns-6 : tie.Need-returns-6
+returns-6 c = whole _ _ _ (c .before .before .before .before .before .before .before .before .before .before .before .pre .1) (c .before .before .before .before .before .before .before .before .before .kind-at .ensures) (c .before .before .before .before .before .before .before .before .if1 .left) _ (c .before .before .before .before .before .before .before .operand-at .ensures) (c .before .before .before .before .before .before .if2 .left) _ (c .before .before .before .before .before .kind-at2 .ensures) (c .before .before .before .before .if3 .left) (c .before .before .before .if4 .left) _ _ (c .before .at .ensures .0) (c .before .before .before .before .before .before .before .before .before .before .before .pre .2 (c .before .before .before .before .before .before .before .operand-at .result) (omega arith)) (c .if5 .left)
+
+pub bad-reference-spec : {M : Type 1} → statement M
+bad-reference-spec =
+    tie.close
+    (tie.spec
+    kind-at-requires
+    returns
+    operand-at-requires
+    returns-2
+    kind-at-requires-2
+    returns-3
+    returns-4
+    mul-end
+    element-copy-out-end
+    at-requires
+    returns-5
+    returns-6)

@@ -1,0 +1,109 @@
+use Prim.Native.Nat.{_-_}
+use native.Mathlib.Omega.{arith}
+use mathlib.Core.Path.{_≡_, sym, _∙_}
+use mathlib.Core.Bool.{_||_}
+use lib.Dec.{eqb, ltb}
+use denote.Ref.{now}
+use Rattle.rules.specs.Answers.{faultIf, andThen}
+use Rattle.rules.specs.Table.{size, formulaChildren}
+use Rattle.rules.specs.Refusal.{faultFrom, badFormulaOperand, refusal44}
+use Rattle.tables.specs.Ends.{endOf}
+use Rattle.tables.proofs.Faults.{from-stop, from-next, from-done, then-fault, then-passed}
+use Rattle.tables.proofs.Pools.{refusal44-scan}
+use Rattle.faults.proofs.Chains.{then-same}
+use Rattle.formula_words.proofs.Formula.{unfinished, finished, bad-node, left-over, good-node}
+use borrow.Author.Needs.{needs}
+use Rattle.formula_words.proofs.check_operands.Statement.{statement}
+use Rattle.formula_words.proofs.check_operands.Tie as tie
+use Rattle.formula_words.proofs.check_operands.Reads as reads
+use Rattle.formula_words.proofs.check_operands.Lts as lts
+use Rattle.formula_words.proofs.bad_operand.Reads as bad-operand-reads
+use Rattle.words.proofs.at.Reads as at-reads
+
+abbrev Inv-loop : tie.InvT-loop
+Inv-loop acts firsts f ends n end v₀ v = refusal44 acts f ≡ andThen (faultFrom 44 v (size f) (λ j. badFormulaOperand acts f j || eqb j (endOf (formulaChildren f) (size f) 0))) (faultIf 44 (size f) (ltb (size f) (endOf (formulaChildren f) (size f) 0)))
+
+abbrev μ-loop : tie.MeasureT-loop
+μ-loop acts firsts f ends n end v₀ v = n - v
+
+-- src/lib.rt:63:9
+at-requires : tie.Need-at-requires Inv-loop μ-loop
+at-requires c κs = search needs
+
+-- src/lib.rt:64:15
+element-copy-out-end : tie.Need-element-copy-out-end Inv-loop μ-loop
+element-copy-out-end c = search needs
+
+-- src/lib.rt:66:5
+loop-holds : tie.Need-loop-holds Inv-loop μ-loop
+loop-holds c = refusal44-scan _ _
+
+-- src/lib.rt:67:12
+bad-operand-requires : tie.Need-bad-operand-requires Inv-loop μ-loop
+bad-operand-requires c κs = (c .before .before .before .before .before .before .pre .0, (c .before .before .before .before .before .before .pre .1 .0, omega arith, c .before .before .before .before .before .before .pre .1 .1))
+
+-- src/lib.rt:68:37
+cast-t13 : tie.Need-cast-t13 Inv-loop μ-loop
+cast-t13 c = search needs
+
+-- src/lib.rt:68:13
+returns : tie.Need-returns Inv-loop μ-loop
+returns c = let s = c .before .before .before .before .before .before .before .before in
+    sym (c .before .before .before .loop .inv ∙ then-fault _ (from-stop _ _ _ _ (omega arith) (bad-node (now (s .args .acts)) (now (s .args .f)) (c .before .before .before .loop .v) _ _ (c .before .bad-operand .ensures) (s .pre .1 .1 0 (omega arith)) (c .if1 .taken))))
+
+-- src/lib.rt:71:37
+cast-t14 : tie.Need-cast-t14 Inv-loop μ-loop
+cast-t14 c = search needs
+
+-- src/lib.rt:71:13
+returns-2 : tie.Need-returns-2 Inv-loop μ-loop
+returns-2 c = let s = c .before .before .before .before .before .before .before .before .before in
+    sym (c .before .before .before .before .loop .inv ∙ then-fault _ (from-stop _ _ _ _ (omega arith) (left-over (now (s .args .acts)) (now (s .args .f)) (c .before .before .before .before .loop .v) _ _ (c .before .before .bad-operand .ensures) (s .pre .1 .1 0 (omega arith)) (c .if2 .taken))))
+
+-- src/lib.rt:73:9
+add-v : tie.Need-add-v Inv-loop μ-loop
+add-v c = search needs
+
+-- src/lib.rt:66:5
+loop-less : tie.Need-loop-less Inv-loop μ-loop
+loop-less c = search needs
+
+-- src/lib.rt:66:5
+loop-again : tie.Need-loop-again Inv-loop μ-loop
+loop-again c = let s = c .before .before .before .before .before .before .before .before .before in
+    c .before .before .before .before .loop .inv ∙ then-same _ (from-next _ _ _ _ (good-node (now (s .args .acts)) (now (s .args .f)) (c .before .before .before .before .loop .v) _ _ (c .before .before .bad-operand .ensures) (s .pre .1 .1 0 (omega arith)) (c .before .if1 .left) (c .if2 .left)))
+
+-- src/lib.rt:76:33
+cast-t16 : tie.Need-cast-t16 Inv-loop μ-loop
+cast-t16 c = search needs
+
+-- src/lib.rt:76:9
+returns-3 : tie.Need-returns-3 Inv-loop μ-loop
+returns-3 c = let s = c .before .before .before .before .before .before .before in
+    sym (c .before .before .loop .inv ∙ then-passed _ (from-done _ _ _ _ (omega arith)) ∙ unfinished (now (s .args .f)) _ _ (c .before .before .before .before .at .ensures .0) (s .pre .1 .1 0 (omega arith)) (c .if3 .taken))
+
+-- src/lib.rt:53:1
+returns-4 : tie.Need-returns-4 Inv-loop μ-loop
+returns-4 c = let s = c .before .before .before .before .before .before .before in
+    sym (c .before .before .loop .inv ∙ then-passed _ (from-done _ _ _ _ (omega arith)) ∙ finished (now (s .args .f)) _ _ (c .before .before .before .before .at .ensures .0) (s .pre .1 .1 0 (omega arith)) (c .if3 .left))
+
+pub check-operands-spec : {M : Type 1} → statement M
+check-operands-spec =
+    tie.close
+    (tie.spec
+    Inv-loop
+    μ-loop
+    at-requires
+    element-copy-out-end
+    loop-holds
+    bad-operand-requires
+    cast-t13
+    returns
+    cast-t14
+    returns-2
+    add-v
+    loop-less
+    loop-again
+    cast-t16
+    returns-3
+    returns-4)

@@ -1,0 +1,72 @@
+use Prim.Native.Nat.{_-_}
+use native.Mathlib.Omega.{arith}
+use mathlib.Core.Path.{_≡_, sym, _∙_}
+use Rattle.rules.specs.Table.{size, formulaNode}
+use Rattle.rules.specs.Refusal.{faultFrom, wrongReference, refusal45}
+use Rattle.tables.proofs.Faults.{from-stop, from-next, from-done}
+use Rattle.formula_words.proofs.References.{references-45}
+use borrow.Author.Needs.{needs}
+use Rattle.formula_words.proofs.check_references.Statement.{statement}
+use Rattle.formula_words.proofs.check_references.Tie as tie
+use Rattle.formula_words.proofs.check_references.Reads as reads
+use Rattle.formula_words.proofs.check_references.Lts as lts
+use Rattle.formula_words.proofs.bad_reference.Reads as bad-reference-reads
+use Rattle.words.proofs.at.Reads as at-reads
+
+abbrev Inv-loop : tie.InvT-loop
+Inv-loop f ends n v₀ v = refusal45 f ≡ faultFrom 45 v (size f) (λ j. wrongReference f j (formulaNode f j))
+
+abbrev μ-loop : tie.MeasureT-loop
+μ-loop f ends n v₀ v = n - v
+
+-- src/lib.rt:112:9
+at-requires : tie.Need-at-requires Inv-loop μ-loop
+at-requires c κs = search needs
+
+-- src/lib.rt:114:5
+loop-holds : tie.Need-loop-holds Inv-loop μ-loop
+loop-holds c = references-45 _
+
+-- src/lib.rt:115:12
+bad-reference-requires : tie.Need-bad-reference-requires Inv-loop μ-loop
+bad-reference-requires c κs = (c .before .before .before .before .pre .0, omega arith, c .before .before .before .before .pre .1)
+
+-- src/lib.rt:116:37
+cast-t7 : tie.Need-cast-t7 Inv-loop μ-loop
+cast-t7 c = search needs
+
+-- src/lib.rt:116:13
+returns : tie.Need-returns Inv-loop μ-loop
+returns c = sym (c .before .before .before .loop .inv ∙ from-stop _ _ _ _ (omega arith) (cc))
+
+-- src/lib.rt:118:9
+add-v : tie.Need-add-v Inv-loop μ-loop
+add-v c = search needs
+
+-- src/lib.rt:114:5
+loop-less : tie.Need-loop-less Inv-loop μ-loop
+loop-less c = search needs
+
+-- src/lib.rt:114:5
+loop-again : tie.Need-loop-again Inv-loop μ-loop
+loop-again c = c .before .before .before .loop .inv ∙ from-next _ _ _ _ (cc)
+
+-- src/lib.rt:108:1
+returns-2 : tie.Need-returns-2 Inv-loop μ-loop
+returns-2 c = sym (c .before .loop .inv ∙ from-done _ _ _ _ (omega arith))
+
+pub check-references-spec : {M : Type 1} → statement M
+check-references-spec =
+    tie.close
+    (tie.spec
+    Inv-loop
+    μ-loop
+    at-requires
+    loop-holds
+    bad-reference-requires
+    cast-t7
+    returns
+    add-v
+    loop-less
+    loop-again
+    returns-2)

@@ -1,0 +1,65 @@
+use lib.ListN.{length-replicate}
+use mathlib.Core.Path.{sym, _∙_}
+use mathlib.Core.Bool.{Bool, false}
+use Rattle.tables.proofs.Faults.{first-fault, first-next}
+use Rattle.faults.proofs.Chains.{first-one}
+use Rattle.table_words.proofs.Row.{blank}
+use borrow.Author.Needs.{needs}
+use Rattle.formula_words.proofs.check_trees.Statement.{statement}
+use Rattle.formula_words.proofs.check_trees.Tie as tie
+use Rattle.formula_words.proofs.check_trees.Reads as reads
+use Rattle.formula_words.proofs.check_trees.Lts as lts
+use Rattle.formula_words.proofs.check_operands.Reads as check-operands-reads
+use Rattle.formula_words.proofs.check_references.Reads as check-references-reads
+use Rattle.table_words.proofs.first_nodes.Reads as first-nodes-reads
+use Rattle.table_words.proofs.tree_ends.Reads as tree-ends-reads
+
+-- src/lib.rt:129:5
+tree-ends-requires : tie.Need-tree-ends-requires
+tree-ends-requires c κs = search needs
+
+-- src/lib.rt:131:5
+first-nodes-requires : tie.Need-first-nodes-requires
+first-nodes-requires c κs = ((c .before .before .before .before .before .before .pre .0, length-replicate {A = Bool} 1025 false), (c .before .before .tree-ends .ensures .0, λ v. blank 1025 v))
+
+-- src/lib.rt:132:5
+tree-ends-requires-2 : tie.Need-tree-ends-requires-2
+tree-ends-requires-2 c κs = search needs
+
+-- src/lib.rt:133:9
+check-operands-requires : tie.Need-check-operands-requires
+check-operands-requires c κs = search needs
+
+-- src/lib.rt:135:22
+enum-known-nodes : tie.Need-enum-known-nodes
+enum-known-nodes c = search needs
+
+-- src/lib.rt:136:46
+enum-told : tie.Need-enum-told
+enum-told c = search needs
+
+-- src/lib.rt:136:26
+check-references-requires : tie.Need-check-references-requires
+check-references-requires c κs = search needs
+
+-- src/lib.rt:124:1
+returns : tie.Need-returns
+returns c = sym (first-fault _ (sym (c .before .before .before .check-operands .ensures) ∙ c .before .nodes .given .1))
+
+-- src/lib.rt:124:1
+returns-2 : tie.Need-returns-2
+returns-2 c = c .check-references .ensures ∙ sym (first-next _ (sym (c .before .before .before .before .check-operands .ensures) ∙ c .before .before .enum-told .given .1) ∙ first-one _)
+
+pub check-trees-spec : {M : Type 1} → statement M
+check-trees-spec =
+    tie.close
+    (tie.spec
+    tree-ends-requires
+    first-nodes-requires
+    tree-ends-requires-2
+    check-operands-requires
+    enum-known-nodes
+    enum-told
+    check-references-requires
+    returns
+    returns-2)

@@ -1,0 +1,29 @@
+use native.Mathlib.Omega.{arith}
+use denote.Ref.{now}
+use Rattle.formula_words.proofs.Formula.{no-action, some-action}
+use borrow.Author.Needs.{needs}
+use Rattle.formula_words.proofs.names_no_tree.Statement.{statement}
+use Rattle.formula_words.proofs.names_no_tree.Tie as tie
+use Rattle.formula_words.proofs.names_no_tree.Reads as reads
+use Rattle.formula_words.proofs.names_no_tree.Lts as lts
+use Rattle.words.proofs.at.Reads as at-reads
+
+-- src/lib.rt:17:8
+at-requires : tie.Need-at-requires
+at-requires c κs = search needs
+
+-- src/lib.rt:18:9
+returns : tie.Need-returns
+returns c = no-action _ _ _ (c .before .at .ensures .0) (c .if1 .taken)
+
+-- src/lib.rt:20:6
+element-copy-out-result : tie.Need-element-copy-out-result
+element-copy-out-result c = search needs
+
+-- src/lib.rt:13:1
+returns-2 : tie.Need-returns-2
+returns-2 c = let s = c .before .before .before .before in
+    some-action (now (s .args .acts)) (s .args .a) _ (c .before .before .at .ensures .0) (now (s .args .firsts)) (s .pre .1) (c .before .if1 .left)
+
+pub names-no-tree-spec : {M : Type 1} → statement M
+names-no-tree-spec = tie.close (tie.spec at-requires returns element-copy-out-result returns-2)

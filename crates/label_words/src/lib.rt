@@ -1,0 +1,56 @@
+// The check of the label words: L, A, then A label numbers and A action numbers.
+use rules::Check;
+ghost use mathlib.Core.Path.{_≡_};
+ghost use mathlib.Core.List.{[], _∷_};
+ghost use Prim.Native.Nat.{_+_, _*_, _<_, _≤_};
+ghost use lib.ListN.{length};
+ghost use Rattle.rules.specs.Answers.{firstFault};
+ghost use Rattle.rules.specs.Labels.{actionCount};
+ghost use Rattle.rules.specs.Refusal.{badLabel, refusal11, refusal12, refusal13};
+
+// The label number at word p is L or more, or less than the one before it.
+fn bad_label(ls: &[u32], p: usize) -> bool
+    requires { ⌜ (2 ≤ p) × (p < length (now ls)) ⌝ }
+    ensures { λ r. ⌜ r ≡ badLabel (now (ls .entry)) p ⌝ }
+{
+    if ls[0] <= ls[p] {
+        return true;
+    }
+    if 2 < p { ls[p] < ls[p - 1] } else { false }
+}
+
+// 13: the label numbers, of words with the right length.
+fn check_numbers(ls: &[u32]) -> Check
+    requires { ⌜ (length (now ls) ≡ 2 + 2 * actionCount (now ls)) × (actionCount (now ls) ≤ 16384) ⌝ }
+    ensures { λ r. ⌜ r ≡ refusal13 (now (ls .entry)) ⌝ }
+{
+    let end = 2 + words::at(ls, 1);
+    let mut p = 2;
+    while p < end {
+        if bad_label(ls, p) {
+            return Check::Fault(13, p as u32);
+        }
+        p += 1;
+    }
+    Check::Passed
+}
+
+// 11, 12, 13: the label words.
+pub fn check_labels(labels: &[u32]) -> Check
+    ensures { λ r. ⌜ r ≡ firstFault (refusal11 (now (labels .entry)) ∷ refusal12 (now (labels .entry)) ∷ refusal13 (now (labels .entry)) ∷ []) ⌝ }
+{
+    if labels.len() < 2 {
+        return Check::Fault(11, 0);
+    }
+    let actions = words::at(labels, 1);
+    if labels.len() != 2 + 2 * actions {
+        return Check::Fault(11, 0);
+    }
+    if 4_096 < words::at(labels, 0) {
+        return Check::Fault(12, 0);
+    }
+    if 16_384 < actions {
+        return Check::Fault(12, 0);
+    }
+    check_numbers(labels)
+}

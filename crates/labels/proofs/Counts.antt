@@ -1,0 +1,114 @@
+-- The places at which a test holds: how many they are, and whether it holds at each. Assumes nothing.
+use mathlib.Core.Path.{_≡_, refl, sym, ap, ap₂, subst, _∙_}
+use mathlib.Core.Logic.{⊎-elim, _⊎_, inl, inr}
+use mathlib.Core.Bool.{Bool, true, false, _&&_}
+use Prim.Native.Nat.{ℕ, zero, suc, _+_, _-_, _≤_, _<_}
+use native.Mathlib.Omega.{arith}
+use native.Mathlib.Nat.{add-suc, add-assoc, add-zero, eq-or-lt-of-le}
+use Rattle.rules.specs.Lists.{one, tally, every}
+
+-- two flags are equal if each follows from the other
+pub flags : (a b : Bool) → (a ≡ true → b ≡ true) → (b ≡ true → a ≡ true) → a ≡ b
+flags true b p q = sym (p refl)
+flags false true p q = q refl
+flags false false p q = refl
+
+pub both-true : (a b : Bool) → (a && b) ≡ true → (a ≡ true) × (b ≡ true)
+both-true true b h = (refl, h)
+both-true false b h = (h, let z : _≡_ {A = ℕ} 0 1 = cc in absurd (omega arith))
+
+pub one-le : (b : Bool) → one b ≤ 1
+one-le true = omega arith
+one-le false = omega arith
+
+pub tally-cong : (f g : ℕ → Bool) (p n : ℕ) → ((q : ℕ) → p ≤ q → q < p + n → f q ≡ g q) → tally f p n ≡ tally g p n
+unfolding tally
+tally-cong f g p zero h = refl
+tally-cong f g p (suc n) h = ap₂ _+_ (tally-cong f g p n (λ q a b. h q a (omega arith))) (ap one (h (p + n) (omega arith) (omega arith)))
+
+module _ (f : ℕ → Bool) where
+  pub tally-le : (p n : ℕ) → tally f p n ≤ n
+  unfolding tally
+  tally-le p zero = omega arith
+  tally-le p (suc n) = omega (arith, tally-le p n, one-le (f (p + n)))
+
+  tally-zero : (p n : ℕ) → ((q : ℕ) → p ≤ q → q < p + n → f q ≡ false) → tally f p n ≡ 0
+  unfolding tally
+  tally-zero p zero h = refl
+  tally-zero p (suc n) h = rw (h (p + n) (omega arith) (omega arith)) (omega (arith, tally-zero p n (λ q a b. h q a (omega arith))))
+
+  tally-append : (p n m : ℕ) → tally f p (n + m) ≡ tally f p n + tally f (p + n) m
+  unfolding tally
+  tally-append p n zero = simp add-zero
+  tally-append p n (suc m) =
+      ap (tally f p) (add-suc n m)
+      ∙ ap₂ _+_ (tally-append p n m) (ap (λ (k : ℕ). one (f k)) (sym (add-assoc p n m)))
+      ∙ add-assoc (tally f p n) (tally f (p + n) m) (one (f (p + n + m)))
+
+  pub tally-start : (p : ℕ) → 0 ≡ tally f p (p - p)
+  unfolding tally
+  tally-start p = let e : 0 ≡ p - p = omega arith in ap (tally f p) e
+
+  pub every-start : (p : ℕ) → true ≡ every f p (p - p)
+  unfolding every
+  every-start p = let e : 0 ≡ p - p = omega arith in ap (every f p) e
+
+  -- one place more
+  pub tally-more : (p i : ℕ) → p ≤ i → tally f p (i + 1 - p) ≡ tally f p (i - p) + one (f i)
+  unfolding tally
+  tally-more p i h =
+      let e : i + 1 - p ≡ suc (i - p) = omega arith in
+      let a : p + (i - p) ≡ i = omega arith in
+      ap (tally f p) e ∙ ap (λ (k : ℕ). tally f p (i - p) + one (f k)) a
+
+  -- three stretches of which f holds only in the middle one
+  pub tally-middle : (s e n : ℕ) → s ≤ e → e ≤ n → ((q : ℕ) → q < s → f q ≡ false) → ((q : ℕ) → e ≤ q → q < n → f q ≡ false) → tally f 0 n ≡ tally f s (e - s)
+  tally-middle s e n h k below above =
+      let a : n ≡ s + (e - s) + (n - e) = omega arith in
+      let b : 0 + (s + (e - s)) ≡ e = omega arith in
+      let d : 0 + s ≡ s = omega arith in
+      let x = ap (tally f 0) a ∙ tally-append 0 (s + (e - s)) (n - e) in
+      let y = tally-append 0 s (e - s) in
+      let z0 = tally-zero 0 s (λ q l u. below q (omega arith)) in
+      let z1 = tally-zero e (n - e) (λ q l u. above q l (omega arith)) in
+      let v = ap (λ (k : ℕ). tally f k (n - e)) b in
+      let u = ap (λ (k : ℕ). tally f k (e - s)) d in
+      omega (arith, x, y, z0, z1, u, v)
+
+  -- f holds nowhere, or somewhere
+  pub tally-some : (p n : ℕ) → (tally f p n ≡ 0) ⊎ ((q : ℕ) × (p ≤ q) × (q < p + n) × (f q ≡ true))
+  unfolding tally
+  tally-some p zero = inl refl
+  tally-some p (suc n) = go (f (p + n)) refl (tally-some p n)
+    where
+      go : (b : Bool) → f (p + n) ≡ b → (tally f p n ≡ 0) ⊎ ((q : ℕ) × (p ≤ q) × (q < p + n) × (f q ≡ true)) → (tally f p n + one (f (p + n)) ≡ 0) ⊎ ((q : ℕ) × (p ≤ q) × (q < p + suc n) × (f q ≡ true))
+      go true e s = inr (p + n, omega arith, omega arith, e)
+      go false e (inl z) = inl (rw e (omega arith))
+      go false e (inr s) = inr (s .0, s .1, omega arith, s .3)
+
+  pub every-at : (p n : ℕ) → every f p n ≡ true → (q : ℕ) → p ≤ q → q < p + n → f q ≡ true
+  unfolding every
+  every-at p zero h q a b = absurd (omega arith)
+  every-at p (suc n) h q a b =
+      let s = both-true (every f p n) (f (p + n)) h in
+      let l : q ≤ p + n = omega arith in
+      ⊎-elim (λ e. ap f e ∙ s .1) (λ u. every-at p n (s .0) q a u) (eq-or-lt-of-le l)
+
+  pub every-all : (p n : ℕ) → ((q : ℕ) → p ≤ q → q < p + n → f q ≡ true) → every f p n ≡ true
+  unfolding every
+  every-all p zero h = refl
+  every-all p (suc n) h = rw (every-all p n (λ q a b. h q a (omega arith))) (h (p + n) (omega arith) (omega arith))
+
+  pub every-more : (p i : ℕ) → p ≤ i → every f p (i - p) ≡ true → f i ≡ true → every f p (i + 1 - p) ≡ true
+  every-more p i h k e =
+      every-all p (i + 1 - p) (λ q a b. ⊎-elim (λ z. ap f z ∙ e) (λ u. every-at p (i - p) k q a (omega arith)) (eq-or-lt-of-le (le-of q b)))
+    where
+      le-of : (q : ℕ) → q < p + (i + 1 - p) → q ≤ i
+      le-of q b = omega arith
+
+  pub every-not : (p n q : ℕ) → p ≤ q → q < p + n → f q ≡ false → every f p n ≡ false
+  every-not p n q a b e = go (every f p n) refl
+    where
+      go : (t : Bool) → every f p n ≡ t → t ≡ false
+      go true h = sym (every-at p n h q a b) ∙ e
+      go false h = refl

@@ -1,0 +1,5 @@
+pub mod Counts
+pub mod Alike
+pub mod Stretched
+pub mod Tables
+pub mod Cases

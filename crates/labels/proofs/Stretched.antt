@@ -1,0 +1,110 @@
+-- Two labels are the same multiset exactly if the actions of each occur in both their stretches equally often. Assumes nothing.
+use mathlib.Core.Path.{_≡_, refl, sym, ap, ap₂, _∙_}
+use mathlib.Core.Logic.{_⊎_, inl, inr}
+use mathlib.Core.Bool.{Bool, true, false, _&&_}
+use mathlib.Core.List.{List}
+use Prim.Native.Nat.{ℕ, _+_, _-_, _≤_, _<_}
+use native.Mathlib.Omega.{arith}
+use lib.Dec.{eqb}
+use borrow.Author.Tests.{eq-eqb, ne-eqb, eqb-true}
+use Rattle.rules.specs.Lists.{one, tally, every}
+use Rattle.rules.specs.Labels.{labelAt, actionAt, actionCount, times, sameLabel}
+use Rattle.labels.specs.Stretches.{timesIn, covered, Starts, Stretch}
+use Rattle.labels.proofs.Counts.{flags, both-true, tally-start, tally-more, tally-middle, tally-some, tally-cong, every-start, every-more, every-not, every-at, every-all}
+use Rattle.labels.proofs.Alike.{same-times, times-same}
+
+-- label 0 starts at place 0
+pub starts-first : (ls : List ℕ) → Starts ls 0 0
+starts-first ls = record { within = omega arith; before = λ p h. absurd (omega arith); after = λ p h u. omega arith }
+
+module _ (ls : List ℕ) where
+  -- counting: at the first place, and one place more
+  pub times-none : (p a : ℕ) → 0 ≡ timesIn ls p p a
+  unfolding timesIn
+  times-none p a = tally-start (λ i. eqb (actionAt ls i) a) p
+
+  pub times-hit : (p i a n : ℕ) → p ≤ i → n ≡ timesIn ls p i a → actionAt ls i ≡ a → n + 1 ≡ timesIn ls p (i + 1) a
+  unfolding timesIn
+  times-hit p i a n h e y = omega (arith, tally-more (λ j. eqb (actionAt ls j) a) p i h, ap one (eq-eqb (actionAt ls i) a y))
+
+  pub times-miss : (p i a n : ℕ) → p ≤ i → n ≡ timesIn ls p i a → (¬ (actionAt ls i ≡ a)) → n ≡ timesIn ls p (i + 1) a
+  unfolding timesIn
+  times-miss p i a n h e y = omega (arith, tally-more (λ j. eqb (actionAt ls j) a) p i h, ap one (ne-eqb (actionAt ls i) a y))
+
+  -- comparing the counts in two stretches
+  module _ (a e b f p : ℕ) where
+    Equal : ℕ → Bool
+    Equal i = eqb (timesIn ls a e (actionAt ls i)) (timesIn ls b f (actionAt ls i))
+
+    pub covered-none : covered ls p p a e b f ≡ true
+    unfolding covered Equal
+    covered-none = sym (every-start Equal p)
+
+    -- the action at place i occurs m times in the one and n times in the other
+    module _ (i x m n : ℕ) (h : p ≤ i) (at : x ≡ actionAt ls i) (one-count : m ≡ timesIn ls a e x) (other-count : n ≡ timesIn ls b f x) where
+      counted : (m ≡ timesIn ls a e (actionAt ls i)) × (n ≡ timesIn ls b f (actionAt ls i))
+      counted = (one-count ∙ ap (timesIn ls a e) at, other-count ∙ ap (timesIn ls b f) at)
+
+      pub covered-more : covered ls p i a e b f ≡ true → m ≡ n → covered ls p (i + 1) a e b f ≡ true
+      unfolding covered Equal
+      covered-more k y = every-more Equal p i h k (eq-eqb _ _ (sym (counted .0) ∙ y ∙ counted .1))
+
+      pub covered-not : (q : ℕ) → i < q → (¬ (m ≡ n)) → false ≡ covered ls p q a e b f
+      unfolding covered Equal
+      covered-not q u y = sym (every-not Equal p (q - p) i h (omega arith) (ne-eqb _ _ (λ z. y (counted .0 ∙ z ∙ sym (counted .1)))))
+
+  -- the actions of a label are those of its stretch
+  pub times-stretch : (l s e a : ℕ) → Stretch ls l s e → times ls l a ≡ timesIn ls s e a
+  unfolding times timesIn
+  times-stretch l s e a r =
+      tally-middle (λ p. eqb (labelAt ls p) l && eqb (actionAt ls p) a) s e (actionCount ls) (r .forward) (r .ends .within)
+      (λ q u. let h = r .starts .before q u in rw (ne-eqb (labelAt ls q) l (omega arith)))
+      (λ q u v. let h = r .ends .after q u v in rw (ne-eqb (labelAt ls q) l (omega arith)))
+      ∙ tally-cong _ _ s (e - s)
+      (λ q u v. let hi = r .ends .before q (omega (arith, r .forward)) in
+      let end = r .ends .within in
+      let lo = r .starts .after q u (omega (arith, r .forward)) in
+      rw (eq-eqb (labelAt ls q) l (omega arith)))
+
+  module _ (l a e m b f : ℕ) (sl : Stretch ls l a e) (sm : Stretch ls m b f) where
+    -- an action that occurs in one of two stretches occurs equally often in both, and any other in neither
+    in-stretches : covered ls a e a e b f ≡ true → covered ls b f a e b f ≡ true → (x : ℕ) → timesIn ls a e x ≡ timesIn ls b f x
+    unfolding covered timesIn
+    in-stretches h k x = go (tally-some (λ z. eqb (actionAt ls z) x) a (e - a)) (tally-some (λ z. eqb (actionAt ls z) x) b (f - b))
+      where
+        Some : ℕ → ℕ → Type 0
+        Some s t = (timesIn ls s t x ≡ 0) ⊎ ((z : ℕ) × (s ≤ z) × (z < s + (t - s)) × (eqb (actionAt ls z) x ≡ true))
+
+        at : (s t : ℕ) → covered ls s t a e b f ≡ true → (z : ℕ) → s ≤ z → z < s + (t - s) → eqb (actionAt ls z) x ≡ true → timesIn ls a e x ≡ timesIn ls b f x
+        at s t c z lo hi y =
+            let v =
+            eqb-true (timesIn ls a e (actionAt ls z)) (timesIn ls b f (actionAt ls z))
+            (every-at (λ n. eqb (timesIn ls a e (actionAt ls n)) (timesIn ls b f (actionAt ls n))) s (t - s) c z lo hi)
+            in
+            rw (eqb-true (actionAt ls z) x y) at v
+
+        go : Some a e → Some b f → timesIn ls a e x ≡ timesIn ls b f x
+        go (inl y) (inl z) = y ∙ sym z
+        go (inl y) (inr s) = at b f k (s .0) (s .1) (s .2) (s .3)
+        go (inr s) t = at a e h (s .0) (s .1) (s .2) (s .3)
+
+    pub stretches-same : (covered ls a e a e b f && covered ls b f a e b f) ≡ sameLabel ls l m
+    unfolding covered
+    stretches-same =
+        flags (covered ls a e a e b f && covered ls b f a e b f) (sameLabel ls l m)
+        (λ h. let s = both-true (covered ls a e a e b f) (covered ls b f a e b f) h in
+        times-same ls l m (λ x. times-stretch l a e x sl ∙ in-stretches (s .0) (s .1) x ∙ sym (times-stretch m b f x sm)))
+        (λ h. ap₂ _&&_ (all-of h a (e - a)) (all-of h b (f - b)))
+      where
+        all-of : sameLabel ls l m ≡ true → (s n : ℕ) → every (λ z. eqb (timesIn ls a e (actionAt ls z)) (timesIn ls b f (actionAt ls z))) s n ≡ true
+        all-of h s n =
+            every-all _ s n
+            (λ z lo hi. eq-eqb _ _ (sym (times-stretch l a e (actionAt ls z) sl) ∙ same-times ls l m h (actionAt ls z) ∙ times-stretch m b f (actionAt ls z) sm))
+
+    -- in the code's two steps: l's actions are compared, and m's if they passed
+    module _ (first : Bool) (e₁ : first ≡ covered ls a e a e b f) where
+      pub first-differs : first ≡ false → false ≡ sameLabel ls l m
+      first-differs h = ap (λ (t : Bool). t && covered ls b f a e b f) (sym h ∙ e₁) ∙ stretches-same
+
+      pub second-tells : (second : Bool) → second ≡ covered ls b f a e b f → first ≡ true → second ≡ sameLabel ls l m
+      second-tells second e₂ h = e₂ ∙ ap (λ (t : Bool). t && covered ls b f a e b f) (sym h ∙ e₁) ∙ stretches-same

@@ -1,0 +1,28 @@
+-- Label numbers never fall, so the actions of a label stand side by side: in a stretch of places. Assumes nothing: these are definitions.
+use mathlib.Core.Path.{_≡_}
+use mathlib.Core.Bool.{Bool}
+use mathlib.Core.List.{List}
+use Prim.Native.Nat.{ℕ, _+_, _-_, _≤_, _<_}
+use lib.Dec.{eqb}
+use Rattle.rules.specs.Lists.{tally, every}
+use Rattle.rules.specs.Labels.{actionCount, labelAt, actionAt}
+
+-- how often action a occurs from place p up to q, q not among them
+unfoldable pub timesIn : List ℕ → (p q a : ℕ) → ℕ
+timesIn ls p q a = tally (λ i. eqb (actionAt ls i) a) p (q - p)
+
+-- the actions from place p up to q occur as often from a up to e as from b up to f
+unfoldable pub covered : List ℕ → (p q a e b f : ℕ) → Bool
+covered ls p q a e b f = every (λ i. eqb (timesIn ls a e (actionAt ls i)) (timesIn ls b f (actionAt ls i))) p (q - p)
+
+-- the label numbers below l stand before place s, and the others from s on
+pub record Starts (ls : List ℕ) (l s : ℕ) : Type 0 where
+  pub within : s ≤ actionCount ls
+  pub before : (p : ℕ) → p < s → labelAt ls p < l
+  pub after : (p : ℕ) → s ≤ p → p < actionCount ls → l ≤ labelAt ls p
+
+-- label l is the stretch from s up to e
+pub record Stretch (ls : List ℕ) (l s e : ℕ) : Type 0 where
+  pub forward : s ≤ e
+  pub starts : Starts ls l s
+  pub ends : Starts ls (l + 1) e

@@ -1,0 +1,20 @@
+-- `alternation_depth` meets its contract: it is the reading of the equation for itself. Assumes nothing.
+use Rattle.rules.specs.Depth.{depth}
+use borrow.Author.Needs.{needs}
+use Rattle.modal_equation_system.proofs.alternation_depth.Statement.{statement}
+use Rattle.modal_equation_system.proofs.alternation_depth.Tie as tie
+use Rattle.modal_equation_system.proofs.alternation_depth.Reads as reads
+use Rattle.modal_equation_system.proofs.alternation_depth.Lts as lts
+use Rattle.modal_equation_system.proofs.read_equation.Reads as read-equation-reads
+
+-- src/lib.rt:161:5
+read-equation-requires : tie.Need-read-equation-requires
+read-equation-requires c κs = search needs
+
+-- src/lib.rt:156:1
+returns : tie.Need-returns
+unfolding depth
+returns c = c .read-equation .ensures
+
+pub alternation-depth-spec : {M : Type 1} → statement M
+alternation-depth-spec = tie.close (tie.spec read-equation-requires returns)

@@ -1,0 +1,174 @@
+-- `list_equations` meets its contract. The loop's invariant: the tables show the equations before node v. Assumes nothing.
+use mathlib.Core.Path.{_≡_, refl, ap, subst, _∙_}
+use Prim.Native.Nat.{ℕ, _+_, _-_, _≤_}
+use native.Mathlib.Omega.{arith}
+use lib.ListN.{length, set, length-set}
+use lib.Seq.{getD-set-same}
+use lib.Dec.{eqb}
+use Rattle.rules.specs.Lists.{one}
+use Rattle.rules.specs.Table.{size}
+use Rattle.modal_equation_system.proofs.Listing.{Listing, listing-first, listing-next, listing-last}
+use borrow.Author.Needs.{needs}
+use Rattle.modal_equation_system.proofs.list_equations.Statement.{statement}
+use Rattle.modal_equation_system.proofs.list_equations.Tie as tie
+use Rattle.modal_equation_system.proofs.list_equations.Reads as reads
+use Rattle.modal_equation_system.proofs.list_equations.Lts as lts
+use Rattle.modal_equation_system.proofs.fixpoints_at.Reads as fixpoints-at-reads
+use Rattle.modal_equation_system.proofs.is.Reads as is-reads
+use Rattle.modal_equation_system.proofs.kind_at.Reads as kind-at-reads
+use Rattle.words.proofs.at.Reads as at-reads
+
+abbrev Inv-loop : tie.InvT-loop
+Inv-loop formula bodies₀ operators₀ numbers₀ n i₀ v₀ bodies operators numbers i v = (v ≤ n) × (n ≡ size formula) × (length bodies ≡ length bodies₀) × (length operators ≡ length operators₀) × (length numbers ≡ length numbers₀) × (i ≤ v + 1) × Listing formula v i bodies operators numbers
+
+abbrev μ-loop : tie.MeasureT-loop
+μ-loop formula bodies₀ operators₀ numbers₀ n i₀ v₀ bodies operators numbers i v = n - v
+
+-- src/lib.rt:59:9
+at-requires : tie.Need-at-requires Inv-loop μ-loop
+at-requires c κs = search needs
+
+-- src/lib.rt:61:5
+slice-write-bodies : tie.Need-slice-write-bodies Inv-loop μ-loop
+slice-write-bodies c = search needs
+
+-- src/lib.rt:62:5
+slice-write-operators : tie.Need-slice-write-operators Inv-loop μ-loop
+slice-write-operators c = search needs
+
+-- src/lib.rt:63:21
+fixpoints-at-requires : tie.Need-fixpoints-at-requires Inv-loop μ-loop
+fixpoints-at-requires c κs = search needs
+
+-- src/lib.rt:63:17
+sub-i : tie.Need-sub-i Inv-loop μ-loop
+sub-i c = search needs
+
+-- src/lib.rt:65:5
+loop-holds : tie.Need-loop-holds Inv-loop μ-loop
+loop-holds c =
+    let s = c .before .before .before .before .before .before in
+    let first = listing-first (s .args .formula .now) (1 - c .fixpoints-at .result) (set (s .args .bodies .now) 0 0) (set (s .args .operators .now) 0 1) (s .args .numbers .now) (ap (λ (k : ℕ). 1 - k) (c .fixpoints-at .ensures .0)) (getD-set-same {A = ℕ} (s .args .bodies .now) 0 0 0 (omega (arith, s .pre .1 .0))) (getD-set-same {A = ℕ} (s .args .operators .now) 0 1 0 (omega (arith, s .pre .1 .1))) in
+    (omega arith, c .before .at .ensures .0, refl, refl, refl, omega arith, first)
+
+-- src/lib.rt:67:13
+kind-at-requires : tie.Need-kind-at-requires Inv-loop μ-loop
+kind-at-requires c κs = search needs
+
+-- src/lib.rt:68:13
+fixpoints-at-requires-2 : tie.Need-fixpoints-at-requires-2 Inv-loop μ-loop
+fixpoints-at-requires-2 c κs = search needs
+
+-- src/lib.rt:69:22
+cast-numbers : tie.Need-cast-numbers Inv-loop μ-loop
+cast-numbers c = search needs
+
+-- src/lib.rt:69:9
+mul-numbers : tie.Need-mul-numbers Inv-loop μ-loop
+mul-numbers c = search needs
+
+-- src/lib.rt:69:9
+slice-write-numbers : tie.Need-slice-write-numbers Inv-loop μ-loop
+slice-write-numbers c = search needs
+
+-- src/lib.rt:70:21
+cast-bodies : tie.Need-cast-bodies Inv-loop μ-loop
+cast-bodies c = search needs
+
+-- src/lib.rt:70:21
+add-bodies : tie.Need-add-bodies Inv-loop μ-loop
+add-bodies c = search needs
+
+-- src/lib.rt:70:9
+mul-bodies : tie.Need-mul-bodies Inv-loop μ-loop
+mul-bodies c = search needs
+
+-- src/lib.rt:70:9
+slice-write-bodies-2 : tie.Need-slice-write-bodies-2 Inv-loop μ-loop
+slice-write-bodies-2 c = omega (arith, c .before .before .before .loop .inv .2, length-set (c .before .before .before .before .before .before .before .before .before .before .args .bodies .now) 0 0, c .before .before .before .before .before .before .before .before .before .before .pre .1, c .before .before .before .before .before .before .before .before .before .before .pre .0 .formula .few)
+
+-- src/lib.rt:71:24
+is-requires : tie.Need-is-requires Inv-loop μ-loop
+is-requires c κs = search needs
+
+-- src/lib.rt:71:9
+mul-operators : tie.Need-mul-operators Inv-loop μ-loop
+mul-operators c = search needs
+
+-- src/lib.rt:71:9
+slice-write-operators-2 : tie.Need-slice-write-operators-2 Inv-loop μ-loop
+slice-write-operators-2 c = omega (arith, c .before .before .before .before .loop .inv .3, length-set (c .before .before .before .before .before .before .before .before .before .before .before .args .operators .now) 0 1, c .before .before .before .before .before .before .before .before .before .before .before .pre .1, c .before .before .before .before .before .before .before .before .before .before .before .pre .0 .formula .few)
+
+-- src/lib.rt:72:9
+add-i : tie.Need-add-i Inv-loop μ-loop
+add-i c = search needs
+
+-- src/lib.rt:73:9
+add-v : tie.Need-add-v Inv-loop μ-loop
+add-v c = search needs
+
+-- src/lib.rt:65:5
+loop-less : tie.Need-loop-less Inv-loop μ-loop
+loop-less c = search needs
+
+-- src/lib.rt:65:5
+loop-again : tie.Need-loop-again Inv-loop μ-loop
+loop-again c =
+    let s = c .before .before .before .before .before .before .before .before .before .before .before in
+    let l = c .before .before .before .before .loop in
+    let few = s .pre .0 .formula .few in
+    let next = listing-next (s .args .formula .now) (l .v) (l .i) (l .bodies) (l .operators) (l .numbers) (c .before .fixpoints-at2 .result) (c .is .result) (omega arith) (omega (arith, few, length-set (s .args .bodies .now) 0 0)) (omega (arith, few, length-set (s .args .operators .now) 0 1)) (omega arith) (c .before .fixpoints-at2 .ensures .0) (c .is .ensures ∙ ap (λ (k : ℕ). one (eqb k 6)) (c .before .before .kind-at .ensures)) (l .inv .6) in
+    (omega arith, l .inv .1, length-set (l .bodies) (l .i) _ ∙ l .inv .2, length-set (l .operators) (l .i) _ ∙ l .inv .3, length-set (l .numbers) (l .v) _ ∙ l .inv .4, omega arith, next)
+
+-- src/lib.rt:53:1
+same-length : tie.Need-same-length Inv-loop μ-loop
+same-length c = c .before .loop .inv .2 ∙ length-set (c .before .before .before .before .before .before .before .before .args .bodies .now) 0 0
+
+-- src/lib.rt:53:1
+same-length-2 : tie.Need-same-length-2 Inv-loop μ-loop
+same-length-2 c = c .before .loop .inv .3 ∙ length-set (c .before .before .before .before .before .before .before .before .args .operators .now) 0 1
+
+-- src/lib.rt:53:1
+same-length-3 : tie.Need-same-length-3 Inv-loop μ-loop
+same-length-3 c = search needs
+
+-- src/lib.rt:53:1
+returns : tie.Need-returns Inv-loop μ-loop
+returns c =
+    let s = c .before .before .before .before .before .before .before .before in
+    let l = c .before .loop in
+    let e : l .v ≡ size (s .args .formula .now) = omega arith in
+    listing-last (s .args .formula .now) (l .i) (l .bodies) (l .operators) (l .numbers) (s .pre .0) (omega (arith, length-set (s .args .bodies .now) 0 0)) (omega (arith, length-set (s .args .operators .now) 0 1)) (omega arith) (subst (λ (v : ℕ). Listing (s .args .formula .now) v (l .i) (l .bodies) (l .operators) (l .numbers)) e (l .inv .6))
+
+pub list-equations-spec : {M : Type 1} → statement M
+list-equations-spec =
+    tie.close
+    (tie.spec
+    Inv-loop
+    μ-loop
+    at-requires
+    slice-write-bodies
+    slice-write-operators
+    fixpoints-at-requires
+    sub-i
+    loop-holds
+    kind-at-requires
+    fixpoints-at-requires-2
+    cast-numbers
+    mul-numbers
+    slice-write-numbers
+    cast-bodies
+    add-bodies
+    mul-bodies
+    slice-write-bodies-2
+    is-requires
+    mul-operators
+    slice-write-operators-2
+    add-i
+    add-v
+    loop-less
+    loop-again
+    same-length
+    same-length-2
+    same-length-3
+    returns)

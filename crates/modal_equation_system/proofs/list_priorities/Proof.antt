@@ -1,0 +1,79 @@
+-- `list_priorities` meets its contract. The loop's invariant: the table shows the priorities of the first i equations. Assumes nothing.
+use mathlib.Core.Path.{_≡_, refl, subst}
+use Prim.Native.Nat.{ℕ, _-_, _≤_}
+use native.Mathlib.Omega.{arith}
+use lib.ListN.{length}
+use Rattle.modal_equation_system.specs.System.{Ranked}
+use Rattle.modal_equation_system.proofs.Ranking.{ranked-first, ranked-next}
+use borrow.Author.Needs.{needs}
+use Rattle.modal_equation_system.proofs.list_priorities.Statement.{statement}
+use Rattle.modal_equation_system.proofs.list_priorities.Tie as tie
+use Rattle.modal_equation_system.proofs.list_priorities.Reads as reads
+use Rattle.modal_equation_system.proofs.list_priorities.Lts as lts
+use Rattle.modal_equation_system.proofs.priority_of.Reads as priority-of-reads
+
+abbrev Inv-loop : tie.InvT-loop
+Inv-loop formula bodies operators numbers count priorities₀ i₀ priorities i = (i ≤ count) × (length priorities ≡ length priorities₀) × Ranked formula i priorities₀ priorities
+
+abbrev μ-loop : tie.MeasureT-loop
+μ-loop formula bodies operators numbers count priorities₀ i₀ priorities i = count - i
+
+-- src/lib.rt:181:5
+loop-holds : tie.Need-loop-holds Inv-loop μ-loop
+loop-holds c = (omega arith, refl, ranked-first (c .before .before .before .before .before .args .formula .now) (c .before .before .before .before .before .args .priorities .now))
+
+-- src/lib.rt:182:13
+priority-of-requires : tie.Need-priority-of-requires Inv-loop μ-loop
+priority-of-requires c κs = let s = c .before .before .before .before .before .before .before in (s .pre .0, omega (arith, s .pre .1 .0, c .loop-test .taken))
+
+-- src/lib.rt:183:9
+mul-priorities : tie.Need-mul-priorities Inv-loop μ-loop
+mul-priorities c = search needs
+
+-- src/lib.rt:183:9
+slice-write-priorities : tie.Need-slice-write-priorities Inv-loop μ-loop
+slice-write-priorities c = search needs
+
+-- src/lib.rt:184:9
+add-i : tie.Need-add-i Inv-loop μ-loop
+add-i c = search needs
+
+-- src/lib.rt:181:5
+loop-less : tie.Need-loop-less Inv-loop μ-loop
+loop-less c = search needs
+
+-- src/lib.rt:181:5
+loop-again : tie.Need-loop-again Inv-loop μ-loop
+loop-again c =
+    let s = c .before .before .before .before .before .before .before .before in
+    let l = c .before .before .loop in
+    let next = ranked-next (s .args .formula .now) (l .i) (s .args .priorities .now) (l .priorities) (c .priority-of .result .0) (omega (arith, l .inv .1, s .pre .1)) (c .priority-of .ensures) (l .inv .2) in
+    (omega arith, next .sized, next)
+
+-- src/lib.rt:175:1
+same-length : tie.Need-same-length Inv-loop μ-loop
+same-length c = search needs
+
+-- src/lib.rt:175:1
+returns : tie.Need-returns Inv-loop μ-loop
+returns c =
+    let s = c .before .before .before .before .before .before .before in
+    let l = c .before .loop in
+    let e : l .i ≡ s .args .count = omega arith in
+    subst (λ (n : ℕ). Ranked (s .args .formula .now) n (s .args .priorities .now) (l .priorities)) e (l .inv .2)
+
+pub list-priorities-spec : {M : Type 1} → statement M
+list-priorities-spec =
+    tie.close
+    (tie.spec
+    Inv-loop
+    μ-loop
+    loop-holds
+    priority-of-requires
+    mul-priorities
+    slice-write-priorities
+    add-i
+    loop-less
+    loop-again
+    same-length
+    returns)

@@ -1,0 +1,6 @@
+pub mod Bytes
+pub mod Wrap
+pub mod Chain
+pub mod OneMore
+pub mod Begin
+pub mod Uses

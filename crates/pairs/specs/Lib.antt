@@ -1,0 +1,3 @@
+pub mod Slot
+pub mod Table
+pub mod Answers

@@ -1,0 +1,406 @@
+// The table of known pairs in the lent work slice: looking a pair up, and numbering it.
+use player::VertexIndex;
+ghost use mathlib.Core.Path.{_≡_};
+ghost use Prim.Native.Nat.{_*_, _≤_, _<_, _%_, _^_};
+ghost use lib.ListN.{length};
+ghost use Rattle.rules.specs.Lists.{word};
+ghost use Rattle.words.specs.Regions.{region};
+ghost use Rattle.pairs.specs.Slot.{keyOf, slotOf, Multiples};
+ghost use Rattle.pairs.specs.Table.{keysOf, Small, Asks, Started};
+ghost use Rattle.pairs.specs.Answers.{foundIn, Numbering};
+
+// Each byte times 2,654,435,761, with everything above 32 bits dropped.
+const MULTIPLES: [u32; 256] = [
+    0,
+    2654435761,
+    1013904226,
+    3668339987,
+    2027808452,
+    387276917,
+    3041712678,
+    1401181143,
+    4055616904,
+    2415085369,
+    774553834,
+    3428989595,
+    1788458060,
+    147926525,
+    2802362286,
+    1161830751,
+    3816266512,
+    2175734977,
+    535203442,
+    3189639203,
+    1549107668,
+    4203543429,
+    2563011894,
+    922480359,
+    3576916120,
+    1936384585,
+    295853050,
+    2950288811,
+    1309757276,
+    3964193037,
+    2323661502,
+    683129967,
+    3337565728,
+    1697034193,
+    56502658,
+    2710938419,
+    1070406884,
+    3724842645,
+    2084311110,
+    443779575,
+    3098215336,
+    1457683801,
+    4112119562,
+    2471588027,
+    831056492,
+    3485492253,
+    1844960718,
+    204429183,
+    2858864944,
+    1218333409,
+    3872769170,
+    2232237635,
+    591706100,
+    3246141861,
+    1605610326,
+    4260046087,
+    2619514552,
+    978983017,
+    3633418778,
+    1992887243,
+    352355708,
+    3006791469,
+    1366259934,
+    4020695695,
+    2380164160,
+    739632625,
+    3394068386,
+    1753536851,
+    113005316,
+    2767441077,
+    1126909542,
+    3781345303,
+    2140813768,
+    500282233,
+    3154717994,
+    1514186459,
+    4168622220,
+    2528090685,
+    887559150,
+    3541994911,
+    1901463376,
+    260931841,
+    2915367602,
+    1274836067,
+    3929271828,
+    2288740293,
+    648208758,
+    3302644519,
+    1662112984,
+    21581449,
+    2676017210,
+    1035485675,
+    3689921436,
+    2049389901,
+    408858366,
+    3063294127,
+    1422762592,
+    4077198353,
+    2436666818,
+    796135283,
+    3450571044,
+    1810039509,
+    169507974,
+    2823943735,
+    1183412200,
+    3837847961,
+    2197316426,
+    556784891,
+    3211220652,
+    1570689117,
+    4225124878,
+    2584593343,
+    944061808,
+    3598497569,
+    1957966034,
+    317434499,
+    2971870260,
+    1331338725,
+    3985774486,
+    2345242951,
+    704711416,
+    3359147177,
+    1718615642,
+    78084107,
+    2732519868,
+    1091988333,
+    3746424094,
+    2105892559,
+    465361024,
+    3119796785,
+    1479265250,
+    4133701011,
+    2493169476,
+    852637941,
+    3507073702,
+    1866542167,
+    226010632,
+    2880446393,
+    1239914858,
+    3894350619,
+    2253819084,
+    613287549,
+    3267723310,
+    1627191775,
+    4281627536,
+    2641096001,
+    1000564466,
+    3655000227,
+    2014468692,
+    373937157,
+    3028372918,
+    1387841383,
+    4042277144,
+    2401745609,
+    761214074,
+    3415649835,
+    1775118300,
+    134586765,
+    2789022526,
+    1148490991,
+    3802926752,
+    2162395217,
+    521863682,
+    3176299443,
+    1535767908,
+    4190203669,
+    2549672134,
+    909140599,
+    3563576360,
+    1923044825,
+    282513290,
+    2936949051,
+    1296417516,
+    3950853277,
+    2310321742,
+    669790207,
+    3324225968,
+    1683694433,
+    43162898,
+    2697598659,
+    1057067124,
+    3711502885,
+    2070971350,
+    430439815,
+    3084875576,
+    1444344041,
+    4098779802,
+    2458248267,
+    817716732,
+    3472152493,
+    1831620958,
+    191089423,
+    2845525184,
+    1204993649,
+    3859429410,
+    2218897875,
+    578366340,
+    3232802101,
+    1592270566,
+    4246706327,
+    2606174792,
+    965643257,
+    3620079018,
+    1979547483,
+    339015948,
+    2993451709,
+    1352920174,
+    4007355935,
+    2366824400,
+    726292865,
+    3380728626,
+    1740197091,
+    99665556,
+    2754101317,
+    1113569782,
+    3768005543,
+    2127474008,
+    486942473,
+    3141378234,
+    1500846699,
+    4155282460,
+    2514750925,
+    874219390,
+    3528655151,
+    1888123616,
+    247592081,
+    2902027842,
+    1261496307,
+    3915932068,
+    2275400533,
+    634868998,
+    3289304759,
+    1648773224,
+    8241689,
+    2662677450,
+    1022145915,
+    3676581676,
+    2036050141,
+    395518606,
+    3049954367,
+    1409422832,
+    4063858593,
+    2423327058,
+    782795523,
+    3437231284,
+    1796699749,
+    156168214,
+    2810603975,
+    1170072440,
+    3824508201,
+    2183976666,
+    543445131,
+    3197880892,
+    1557349357,
+    4211785118,
+    2571253583,
+];
+
+// The table, to be lent to the functions below. A table that they named would be made again in each call.
+pub fn byte_multiples() -> [u32; 256]
+    ensures { λ r. ⌜ Multiples r ⌝ }
+{
+    MULTIPLES
+}
+
+fn multiple(multiples: &[u32; 256], b: usize) -> u32
+    requires { ⌜ Multiples (now multiples) ⌝ }
+    requires { ⌜ b < 256 ⌝ }
+    ensures { λ r. ⌜ r ≡ b * 2654435761 % 2 ^ 32 ⌝ }
+{
+    multiples[b]
+}
+
+// key times 2,654,435,761, with everything above 32 bits dropped: a wrapping sum of byte multiples.
+fn product(multiples: &[u32; 256], key: u32) -> u32
+    requires { ⌜ Multiples (now multiples) ⌝ }
+    ensures { λ r. ⌜ r ≡ key * 2654435761 % 2 ^ 32 ⌝ }
+{
+    let low = multiple(multiples, (key % 256) as usize);
+    let second = multiple(multiples, (key / 256 % 256) as usize) << 8;
+    let third = multiple(multiples, (key / 65536 % 256) as usize) << 16;
+    let high = multiple(multiples, (key / 16777216) as usize) << 24;
+    let a = std::num::wrapping_add_u32(low, second);
+    let b = std::num::wrapping_add_u32(third, high);
+    std::num::wrapping_add_u32(a, b)
+}
+
+// The slot from which the chain of a pair starts.
+pub fn slot_of(multiples: &[u32; 256], state: u32, item: u32, v: u32) -> u32
+    requires { ⌜ Multiples (now multiples) ⌝ }
+    requires { ⌜ (state < 65535) × (item < 2048) ⌝ }
+    ensures { λ r. ⌜ r ≡ slotOf (keyOf state item) v ⌝ }
+{
+    let p = product(multiples, state * 2048 + item);
+    ((p as u64) * (v as u64) / 4294967296) as u32
+}
+
+// The regions of the work slice that hold the table, each of v words.
+const HEADS: u32 = 0;
+
+const LINKS: u32 = 1;
+
+const STATES: u32 = 2;
+
+const ITEMS: u32 = 3;
+
+pub enum Found {
+    At(VertexIndex),
+    Nothing,
+}
+
+pub enum Numbered {
+    Vertex { vertex: VertexIndex, known: u32 },
+    NoRoom,
+}
+
+// The key of a known vertex's pair.
+fn key_at(work: &[u32], v: u32, i: u32) -> u32
+    requires { ⌜ (8 * v ≤ length (now work)) × (i < v) × Small (region 2 v (now work)) (region 3 v (now work)) i ⌝ }
+    ensures { λ r. ⌜ r ≡ keyOf (word (region 2 v (now (work .entry))) i) (word (region 3 v (now (work .entry))) i) ⌝ }
+{
+    words::region_word(work, v, STATES, i) * 2048 + words::region_word(work, v, ITEMS, i)
+}
+
+// The vertex that stands for a pair, by the chain of the pair's slot.
+pub fn find(
+    multiples: &[u32; 256],
+    work: &[u32],
+    v: u32,
+    known: u32,
+    state: u32,
+    item: u32,
+) -> Found
+    requires { ⌜ Multiples (now multiples) ⌝ }
+    requires { ⌜ Asks (now work) v known state item ⌝ }
+    ensures { λ r. ⌜ r ≡ foundIn (keyOf state item) (keysOf (now (work .entry)) v known) ⌝ }
+{
+    let key = state * 2048 + item;
+    let mut link = words::region_word(work, v, HEADS, slot_of(multiples, state, item, v));
+    while link != 0 {
+        let vertex = link - 1;
+        if key_at(work, v, vertex) == key {
+            return Found::At(VertexIndex(vertex));
+        }
+        link = words::region_word(work, v, LINKS, vertex);
+    }
+    Found::Nothing
+}
+
+// The vertex that stands for a pair, which is numbered first if it is new.
+pub fn number(
+    multiples: &[u32; 256],
+    work: &mut [u32],
+    v: u32,
+    known: u32,
+    state: u32,
+    item: u32,
+) -> Numbered
+    requires { ⌜ Multiples (now multiples) ⌝ }
+    requires { ⌜ Asks (now work) v known state item ⌝ }
+    ensures { λ r. ⌜ Numbering (now (work .entry)) (now (work .exit)) v known (keyOf state item) r ⌝ }
+{
+    match find(multiples, work, v, known, state, item) {
+        Found::At(vertex) => Numbered::Vertex { vertex, known },
+        Found::Nothing => {
+            if known == v {
+                return Numbered::NoRoom;
+            }
+            let slot = slot_of(multiples, state, item, v);
+            let head = words::region_word(work, v, HEADS, slot);
+            words::put_word(work, v, STATES, known, state);
+            words::put_word(work, v, ITEMS, known, item);
+            words::put_word(work, v, LINKS, known, head);
+            words::put_word(work, v, HEADS, slot, known + 1);
+            Numbered::Vertex {
+                vertex: VertexIndex(known),
+                known: known + 1,
+            }
+        }
+    }
+}
+
+// An empty table, whatever the words hold: every slot's head becomes 0.
+pub fn start(work: &mut [u32], v: u32)
+    requires { ⌜ (v ≤ 1048576) × (8 * v ≤ length (now work)) ⌝ }
+    ensures { λ _. ⌜ Started (now (work .entry)) (now (work .exit)) v ⌝ }
+{
+    let mut i = 0;
+    while i < v {
+        words::put_word(work, v, HEADS, i, 0);
+        i += 1;
+    }
+}

@@ -1,0 +1,52 @@
+use native.Mathlib.Omega.{arith}
+use mathlib.Core.Path.{sym, _∙_}
+use mathlib.Core.List.{[], _∷_}
+use denote.Ref.{now}
+use Rattle.rules.specs.Refusal.{refusal21, refusal22}
+use Rattle.faults.proofs.Chains.{first-fault-of, first-next-of}
+use Rattle.system_words.proofs.System.{sizes-passed}
+use borrow.Author.Needs.{needs}
+use Rattle.system_words.proofs.check_system.Statement.{statement}
+use Rattle.system_words.proofs.check_system.Tie as tie
+use Rattle.system_words.proofs.check_system.Reads as reads
+use Rattle.system_words.proofs.check_system.Lts as lts
+use Rattle.system_words.proofs.check_sizes.Reads as check-sizes-reads
+use Rattle.system_words.proofs.check_transitions.Reads as check-transitions-reads
+
+-- src/lib.rt:93:9
+check-sizes-requires : tie.Need-check-sizes-requires
+check-sizes-requires c κs = search needs
+
+-- src/lib.rt:95:22
+enum-known-sizes : tie.Need-enum-known-sizes
+enum-known-sizes c = search needs
+
+-- src/lib.rt:96:26
+enum-told : tie.Need-enum-told
+enum-told c = search needs
+
+-- src/lib.rt:96:26
+check-transitions-requires : tie.Need-check-transitions-requires
+check-transitions-requires c κs = let s = sizes-passed _ (sym (c .before .before .check-sizes .ensures) ∙ c .enum-told .given .1) in
+    ((c .before .before .before .before .before .pre, s .0), (s .1, s .2))
+
+-- src/lib.rt:89:1
+returns : tie.Need-returns
+returns c = let ss = now (c .before .before .before .before .before .before .args .system) in
+    sym (first-fault-of (refusal21 ss ∷ refusal22 ss ∷ []) _ (sym (c .before .before .before .check-sizes .ensures) ∙ c .before .sizes .given .1))
+
+-- src/lib.rt:89:1
+returns-2 : tie.Need-returns-2
+returns-2 c = let ss = now (c .before .before .before .before .before .before .args .system) in
+    c .check-transitions .ensures ∙ sym (first-next-of (refusal21 ss ∷ refusal22 ss ∷ []) _ (sym (c .before .before .before .check-sizes .ensures) ∙ c .before .enum-told .given .1))
+
+pub check-system-spec : {M : Type 1} → statement M
+check-system-spec =
+    tie.close
+    (tie.spec
+    check-sizes-requires
+    enum-known-sizes
+    enum-told
+    check-transitions-requires
+    returns
+    returns-2)

@@ -1,0 +1,69 @@
+use mathlib.Core.Path.{ap}
+use Prim.Native.Nat.{_≤_, _*_, _-_, _+_}
+use native.Mathlib.Omega.{arith}
+use mathlib.Core.Path.{_≡_, refl, sym, _∙_}
+use denote.Ref.{now}
+use Rattle.rules.specs.Lists.{sumWords}
+use Rattle.system_words.proofs.System.{sum-none, sum-more}
+use borrow.Author.Needs.{needs}
+use Rattle.system_words.proofs.sum_words.Statement.{statement}
+use Rattle.system_words.proofs.sum_words.Tie as tie
+use Rattle.system_words.proofs.sum_words.Reads as reads
+use Rattle.system_words.proofs.sum_words.Lts as lts
+use Rattle.words.proofs.at.Reads as at-reads
+
+abbrev Inv-loop : tie.InvT-loop
+Inv-loop ws p n sum₀ i₀ sum i = (i ≤ n) × (sum ≤ 4294967295 * i) × (sum ≡ sumWords ws p i)
+
+abbrev μ-loop : tie.MeasureT-loop
+μ-loop ws p n sum₀ i₀ sum i = n - i
+
+-- src/lib.rt:19:5
+loop-holds : tie.Need-loop-holds Inv-loop μ-loop
+loop-holds c = (omega arith, omega arith, sym (sum-none _ _))
+
+-- src/lib.rt:20:30
+add-at : tie.Need-add-at Inv-loop μ-loop
+add-at c = search needs
+
+-- src/lib.rt:20:16
+at-requires : tie.Need-at-requires Inv-loop μ-loop
+at-requires c κs = search needs
+
+-- src/lib.rt:20:9
+add-sum : tie.Need-add-sum Inv-loop μ-loop
+add-sum c = search needs
+
+-- src/lib.rt:21:9
+add-i : tie.Need-add-i Inv-loop μ-loop
+add-i c = search needs
+
+-- src/lib.rt:19:5
+loop-less : tie.Need-loop-less Inv-loop μ-loop
+loop-less c = search needs
+
+-- src/lib.rt:19:5
+loop-again : tie.Need-loop-again Inv-loop μ-loop
+loop-again c = let a = c .before .before .before .before .args in
+    omega (arith, sum-more (now (a .ws)) (a .p) (c .before .before .loop .i))
+
+-- src/lib.rt:13:1
+returns : tie.Need-returns Inv-loop μ-loop
+returns c = let a = c .before .before .before .args in
+    let e : c .before .loop .i ≡ a .n = omega arith in
+    c .before .loop .inv .2 ∙ ap (sumWords (now (a .ws)) (a .p)) e
+
+pub sum-words-spec : {M : Type 1} → statement M
+sum-words-spec =
+    tie.close
+    (tie.spec
+    Inv-loop
+    μ-loop
+    loop-holds
+    add-at
+    at-requires
+    add-sum
+    add-i
+    loop-less
+    loop-again
+    returns)

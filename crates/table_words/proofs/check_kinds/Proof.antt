@@ -1,0 +1,76 @@
+use denote.Ref.{now}
+use Prim.Native.Nat.{_≤_, _-_, _+_}
+use native.Mathlib.Omega.{arith}
+use mathlib.Core.Path.{_≡_, refl, sym, _∙_}
+use lib.Dec.{ltb}
+use borrow.Author.Tests.{lt-ltb, le-ltb}
+use Rattle.rules.specs.Table.{size, kind}
+use Rattle.rules.specs.Refusal.{faultFrom}
+use Rattle.tables.proofs.Faults.{from-stop, from-next, from-done}
+use borrow.Author.Needs.{needs}
+use Rattle.table_words.proofs.check_kinds.Statement.{statement}
+use Rattle.table_words.proofs.check_kinds.Tie as tie
+use Rattle.table_words.proofs.check_kinds.Reads as reads
+use Rattle.table_words.proofs.check_kinds.Lts as lts
+use Rattle.table_words.proofs.kind_at.Reads as kind-at-reads
+use Rattle.words.proofs.at.Reads as at-reads
+
+abbrev Inv-loop : tie.InvT-loop
+Inv-loop ws most number m v₀ v = faultFrom number 0 (size ws) (λ j. ltb most (kind ws j)) ≡ faultFrom number v (size ws) (λ j. ltb most (kind ws j))
+
+abbrev μ-loop : tie.MeasureT-loop
+μ-loop ws most number m v₀ v = m - v
+
+-- src/lib.rt:114:9
+at-requires : tie.Need-at-requires Inv-loop μ-loop
+at-requires c κs = search needs
+
+-- src/lib.rt:116:5
+loop-holds : tie.Need-loop-holds Inv-loop μ-loop
+loop-holds c = refl
+
+-- src/lib.rt:117:19
+kind-at-requires : tie.Need-kind-at-requires Inv-loop μ-loop
+kind-at-requires c κs = (c .before .before .before .before .pre, omega arith)
+
+-- src/lib.rt:118:41
+cast-t8 : tie.Need-cast-t8 Inv-loop μ-loop
+cast-t8 c = search needs
+
+-- src/lib.rt:118:13
+returns : tie.Need-returns Inv-loop μ-loop
+returns c = let a = c .before .before .before .before .before .before .args in
+    sym (c .before .before .before .loop .inv ∙ from-stop _ _ _ _ (omega arith) (lt-ltb (a .most) (kind (now (a .ws)) (c .before .before .before .loop .v)) (omega arith)))
+
+-- src/lib.rt:120:9
+add-v : tie.Need-add-v Inv-loop μ-loop
+add-v c = search needs
+
+-- src/lib.rt:116:5
+loop-less : tie.Need-loop-less Inv-loop μ-loop
+loop-less c = search needs
+
+-- src/lib.rt:116:5
+loop-again : tie.Need-loop-again Inv-loop μ-loop
+loop-again c = let a = c .before .before .before .before .before .before .args in
+    c .before .before .before .loop .inv ∙ from-next _ _ _ _ (le-ltb (a .most) (kind (now (a .ws)) (c .before .before .before .loop .v)) (omega arith))
+
+-- src/lib.rt:110:1
+returns-2 : tie.Need-returns-2 Inv-loop μ-loop
+returns-2 c = sym (c .before .loop .inv ∙ from-done _ _ _ _ (omega arith))
+
+pub check-kinds-spec : {M : Type 1} → statement M
+check-kinds-spec =
+    tie.close
+    (tie.spec
+    Inv-loop
+    μ-loop
+    at-requires
+    loop-holds
+    kind-at-requires
+    cast-t8
+    returns
+    add-v
+    loop-less
+    loop-again
+    returns-2)

@@ -1,0 +1,85 @@
+use Prim.Native.Nat.{ℕ, _+_, _≤_, _-_}
+use native.Mathlib.Omega.{arith}
+use mathlib.Core.Path.{_≡_, sym, _∙_, ap, subst}
+use mathlib.Core.Bool.{true}
+use denote.Ref.{now}
+use lib.ListN.{length, getD, set, length-set}
+use Rattle.rules.specs.Table.{size}
+use Rattle.tables.specs.Ends.{endOf}
+use Rattle.tables.proofs.Ends.{end-number-past, end-number-most}
+use Rattle.table_words.specs.Tables.{childrenOf}
+use Rattle.table_words.proofs.Row.{FirstsTo, firsts-start, firsts-more, firsts-all}
+use borrow.Author.Needs.{needs}
+use Rattle.table_words.proofs.first_nodes.Statement.{statement}
+use Rattle.table_words.proofs.first_nodes.Tie as tie
+use Rattle.table_words.proofs.first_nodes.Reads as reads
+use Rattle.table_words.proofs.first_nodes.Lts as lts
+use Rattle.words.proofs.at.Reads as at-reads
+
+abbrev Inv-loop : tie.InvT-loop
+Inv-loop ws formula ends firsts₀ m v₀ firsts v = (v ≤ size ws + 1) × (length firsts ≡ 1025) × FirstsTo (childrenOf formula ws) (size ws) v firsts
+
+abbrev μ-loop : tie.MeasureT-loop
+μ-loop ws formula ends firsts₀ m v₀ firsts v = size ws + 1 - v
+
+-- src/lib.rt:101:9
+at-requires : tie.Need-at-requires Inv-loop μ-loop
+at-requires c κs = search needs
+
+-- src/lib.rt:103:5
+loop-holds : tie.Need-loop-holds Inv-loop μ-loop
+loop-holds c = let s = c .before .before in
+    (omega arith, s .pre .0 .1, firsts-start (childrenOf (s .args .formula) (now (s .args .ws))) (size (now (s .args .ws))) (now (s .args .firsts)) (s .pre .1 .1))
+
+-- src/lib.rt:104:9
+element-write-firsts : tie.Need-element-write-firsts Inv-loop μ-loop
+element-write-firsts c = search needs
+
+-- src/lib.rt:105:13
+mul-v : tie.Need-mul-v Inv-loop μ-loop
+mul-v c = search needs
+
+-- src/lib.rt:105:13
+element-copy-out-v : tie.Need-element-copy-out-v Inv-loop μ-loop
+element-copy-out-v c = search needs
+
+-- src/lib.rt:103:5
+loop-less : tie.Need-loop-less Inv-loop μ-loop
+loop-less c = let s = c .before .before .before .before .before in
+    let l = c .before .before .loop in
+    let n = size (now (s .args .ws)) in
+    let k = s .pre .1 .0 (l .v) (omega arith) in
+    omega (arith, end-number-past (childrenOf (s .args .formula) (now (s .args .ws))) n (l .v) (omega arith))
+
+-- src/lib.rt:103:5
+loop-again : tie.Need-loop-again Inv-loop μ-loop
+loop-again c = let s = c .before .before .before .before .before in
+    let l = c .before .before .loop in
+    let n = size (now (s .args .ws)) in
+    let k = s .pre .1 .0 (l .v) (omega arith) in
+    (
+      omega (arith, end-number-most (childrenOf (s .args .formula) (now (s .args .ws))) n (l .v)),
+      simp length-set (l .inv .1),
+      firsts-more (childrenOf (s .args .formula) (now (s .args .ws))) n (l .v) _ (l .firsts) k (omega arith) (omega arith) (l .inv .2),
+    )
+
+-- src/lib.rt:95:1
+returns : tie.Need-returns Inv-loop μ-loop
+returns c = let s = c .before .before .before .before in
+    let l = c .before .loop in
+    firsts-all (childrenOf (s .args .formula) (now (s .args .ws))) (size (now (s .args .ws))) (l .v) (l .firsts) (omega arith) (l .inv .2)
+
+pub first-nodes-spec : {M : Type 1} → statement M
+first-nodes-spec =
+    tie.close
+    (tie.spec
+    Inv-loop
+    μ-loop
+    at-requires
+    loop-holds
+    element-write-firsts
+    mul-v
+    element-copy-out-v
+    loop-less
+    loop-again
+    returns)

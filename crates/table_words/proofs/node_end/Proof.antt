@@ -1,0 +1,82 @@
+use Prim.Native.Nat.{_+_}
+use native.Mathlib.Omega.{arith}
+use mathlib.Core.Path.{_≡_, sym, _∙_, ap}
+use denote.Ref.{now}
+use Rattle.rules.specs.Table.{size}
+use Rattle.tables.specs.Ends.{endOf}
+use Rattle.tables.proofs.Ends.{end-number-leaf, end-number-one, end-number-two, end-number-most, end-number-past}
+use Rattle.table_words.specs.Tables.{childrenOf}
+use Rattle.table_words.proofs.Arity.{children-most}
+use borrow.Author.Needs.{needs}
+use Rattle.table_words.proofs.node_end.Statement.{statement}
+use Rattle.table_words.proofs.node_end.Tie as tie
+use Rattle.table_words.proofs.node_end.Reads as reads
+use Rattle.table_words.proofs.node_end.Lts as lts
+use Rattle.table_words.proofs.children_at.Reads as children-at-reads
+
+-- src/lib.rt:67:9
+children-at-requires : tie.Need-children-at-requires
+children-at-requires c κs = search needs
+
+-- src/lib.rt:69:16
+add-result : tie.Need-add-result
+add-result c = search needs
+
+-- src/lib.rt:69:9
+returns : tie.Need-returns
+returns c = sym (end-number-leaf _ _ _ (c .before .before .before .pre .0 .1) (cc))
+
+-- src/lib.rt:71:20
+add-end : tie.Need-add-end
+add-end c = search needs
+
+-- src/lib.rt:71:15
+mul-end : tie.Need-mul-end
+mul-end c = search needs
+
+-- src/lib.rt:71:15
+element-copy-out-end : tie.Need-element-copy-out-end
+element-copy-out-end c = search needs
+
+-- src/lib.rt:73:9
+returns-2 : tie.Need-returns-2
+returns-2 c = let s = c .before .before .before .before .before in
+    s .pre .1 (s .args .v + 1) (omega arith) (omega arith) ∙ sym (end-number-one _ _ _ (s .pre .0 .1) (cc))
+
+-- src/lib.rt:75:5
+mul-result : tie.Need-mul-result
+mul-result c = let s = c .before .before .before .before .before in
+    let k = s .pre .1 (s .args .v + 1) (omega arith) (omega arith) in
+    omega (arith, end-number-most (childrenOf (s .args .formula) (now (s .args .ws))) (size (now (s .args .ws))) (s .args .v + 1))
+
+-- src/lib.rt:75:5
+element-copy-out-result : tie.Need-element-copy-out-result
+element-copy-out-result c = let s = c .before .before .before .before .before in
+    let k = s .pre .1 (s .args .v + 1) (omega arith) (omega arith) in
+    omega (arith, end-number-most (childrenOf (s .args .formula) (now (s .args .ws))) (size (now (s .args .ws))) (s .args .v + 1))
+
+-- src/lib.rt:62:1
+returns-3 : tie.Need-returns-3
+returns-3 c = let s = c .before .before .before .before .before .before in
+    let c₁ = childrenOf (s .args .formula) (now (s .args .ws)) in
+    let n = size (now (s .args .ws)) in
+    let k = s .pre .1 (s .args .v + 1) (omega arith) (omega arith) in
+    let most = end-number-most c₁ n (s .args .v + 1) in
+    let past = end-number-past c₁ n (s .args .v + 1) (omega arith) in
+    let two : childrenOf (s .args .formula) (now (s .args .ws)) (s .args .v) ≡ 2 = omega (arith, children-most (s .args .formula) (now (s .args .ws)) (s .args .v), c .before .before .before .before .children-at .ensures) in
+    s .pre .1 _ (omega arith) (omega arith) ∙ ap (endOf c₁ n) k ∙ sym (end-number-two c₁ n _ (s .pre .0 .1) two)
+
+pub node-end-spec : {M : Type 1} → statement M
+node-end-spec =
+    tie.close
+    (tie.spec
+    children-at-requires
+    add-result
+    returns
+    add-end
+    mul-end
+    element-copy-out-end
+    returns-2
+    mul-result
+    element-copy-out-result
+    returns-3)

@@ -1,0 +1,44 @@
+use Prim.Native.Nat.{_+_}
+use native.Mathlib.Omega.{arith}
+use mathlib.Core.Path.{sym, _∙_, ap}
+use mathlib.Core.Bool.{not}
+use lib.Dec.{eqb}
+use Rattle.tables.proofs.Ends.{not-end-finished, not-end-unfinished}
+use borrow.Author.Needs.{needs}
+use Rattle.table_words.proofs.not_right_child.Statement.{statement}
+use Rattle.table_words.proofs.not_right_child.Tie as tie
+use Rattle.table_words.proofs.not_right_child.Reads as reads
+use Rattle.table_words.proofs.not_right_child.Lts as lts
+use Rattle.words.proofs.at.Reads as at-reads
+
+-- src/lib.rt:100:20
+add-end : tie.Need-add-end
+add-end c = search needs
+
+-- src/lib.rt:100:15
+mul-end : tie.Need-mul-end
+mul-end c = search needs
+
+-- src/lib.rt:100:15
+element-copy-out-end : tie.Need-element-copy-out-end
+element-copy-out-end c = search needs
+
+-- src/lib.rt:101:8
+at-requires : tie.Need-at-requires
+at-requires c κs = search needs
+
+-- src/lib.rt:102:9
+returns : tie.Need-returns
+returns c = let s = c .before .before .before .before in
+    let k = s .pre .1 (s .args .v + 1) (omega arith) in
+    sym (not-end-unfinished _ _ _ _ (omega arith))
+
+-- src/lib.rt:95:1
+returns-2 : tie.Need-returns-2
+returns-2 c = let s = c .before .before .before .before in
+    let k = s .pre .1 (s .args .v + 1) (omega arith) in
+    ap (λ e. not (eqb (s .args .right) e)) k ∙ sym (not-end-finished _ _ _ _ (omega arith))
+
+pub not-right-child-spec : {M : Type 1} → statement M
+not-right-child-spec =
+    tie.close (tie.spec add-end mul-end element-copy-out-end at-requires returns returns-2)

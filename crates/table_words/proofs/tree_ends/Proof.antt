@@ -1,0 +1,125 @@
+use Prim.Native.Nat.{ℕ, _+_, _≤_, _-_}
+use native.Mathlib.Omega.{arith}
+use mathlib.Core.Path.{_≡_, sym, _∙_, ap}
+use denote.Ref.{now}
+use lib.ListN.{length, getD, set, length-set}
+use Rattle.rules.specs.Table.{size}
+use Rattle.tables.specs.Ends.{endOf}
+use Rattle.tables.proofs.Ends.{end-number-out, set-down}
+use Rattle.table_words.specs.Tables.{childrenOf}
+use borrow.Author.Needs.{needs}
+use Rattle.table_words.proofs.tree_ends.Statement.{statement}
+use Rattle.table_words.proofs.tree_ends.Tie as tie
+use Rattle.table_words.proofs.tree_ends.Reads as reads
+use Rattle.table_words.proofs.tree_ends.Lts as lts
+use Rattle.table_words.proofs.node_end.Reads as node-end-reads
+use Rattle.words.proofs.at.Reads as at-reads
+
+abbrev Inv-loop : tie.InvT-loop
+Inv-loop ws formula ends₀ m v₀ ends v = (v ≤ size ws) × (length ends ≡ 1026) × ((j : ℕ) → v ≤ j → j ≤ size ws + 1 → getD ends j 0 ≡ endOf (childrenOf formula ws) (size ws) j)
+
+abbrev μ-loop : tie.MeasureT-loop
+μ-loop ws formula ends₀ m v₀ ends v = v
+
+-- src/lib.rt:83:9
+at-requires : tie.Need-at-requires Inv-loop μ-loop
+at-requires c κs = search needs
+
+-- src/lib.rt:84:19
+add-ends : tie.Need-add-ends Inv-loop μ-loop
+add-ends c = search needs
+
+-- src/lib.rt:84:10
+add-ends-2 : tie.Need-add-ends-2 Inv-loop μ-loop
+add-ends-2 c = search needs
+
+-- src/lib.rt:84:5
+mul-ends : tie.Need-mul-ends Inv-loop μ-loop
+mul-ends c = search needs
+
+-- src/lib.rt:84:5
+element-write-ends : tie.Need-element-write-ends Inv-loop μ-loop
+element-write-ends c = search needs
+
+-- src/lib.rt:85:15
+add-ends-3 : tie.Need-add-ends-3 Inv-loop μ-loop
+add-ends-3 c = search needs
+
+-- src/lib.rt:85:5
+mul-ends-2 : tie.Need-mul-ends-2 Inv-loop μ-loop
+mul-ends-2 c = search needs
+
+-- src/lib.rt:85:5
+element-write-ends-2 : tie.Need-element-write-ends-2 Inv-loop μ-loop
+element-write-ends-2 c = search needs
+
+-- src/lib.rt:87:5
+loop-holds : tie.Need-loop-holds Inv-loop μ-loop
+loop-holds c = let s = c .before .before in
+    let es = now (s .args .ends) in
+    let m = c .at .result in
+    let f = endOf (childrenOf (s .args .formula) (now (s .args .ws))) (size (now (s .args .ws))) in
+    let out = end-number-out (childrenOf (s .args .formula) (now (s .args .ws))) (size (now (s .args .ws))) in
+    let top = size (now (s .args .ws)) + 1 in (
+      omega arith,
+      simp length-set (s .pre .1),
+      set-down f (set es (m + 1) (m + 1)) m top (m + 1) (simp length-set (omega arith)) (omega (arith, out m (omega arith)))
+          (set-down f es (m + 1) top (m + 1) (omega arith) (omega (arith, out (m + 1) (omega arith))) (λ j h l. absurd (omega arith))),
+    )
+
+-- src/lib.rt:88:9
+sub-v : tie.Need-sub-v Inv-loop μ-loop
+sub-v c = search needs
+
+-- src/lib.rt:89:13
+node-end-requires : tie.Need-node-end-requires Inv-loop μ-loop
+node-end-requires c κs = ((c .before .before .before .before .before .pre .0, omega arith), λ j h l. c .before .before .loop .inv .2 j (omega arith) l)
+
+-- src/lib.rt:90:9
+mul-ends-3 : tie.Need-mul-ends-3 Inv-loop μ-loop
+mul-ends-3 c = search needs
+
+-- src/lib.rt:90:9
+element-write-ends-3 : tie.Need-element-write-ends-3 Inv-loop μ-loop
+element-write-ends-3 c = search needs
+
+-- src/lib.rt:87:5
+loop-less : tie.Need-loop-less Inv-loop μ-loop
+loop-less c = search needs
+
+-- src/lib.rt:87:5
+loop-again : tie.Need-loop-again Inv-loop μ-loop
+loop-again c = let s = c .before .before .before .before .before .before in
+    let l = c .before .before .before .loop in (
+      omega arith,
+      simp length-set (l .inv .1),
+      set-down (endOf (childrenOf (s .args .formula) (now (s .args .ws))) (size (now (s .args .ws)))) (l .ends) (l .v - 1) (size (now (s .args .ws)) + 1) (c .node-end .result) (omega arith) (c .node-end .ensures)
+          (λ j h k. l .inv .2 j (omega arith) k),
+    )
+
+-- src/lib.rt:79:1
+returns : tie.Need-returns Inv-loop μ-loop
+returns c = (λ j h. c .before .loop .inv .2 j (omega arith) h, c .before .loop .inv .1)
+
+pub tree-ends-spec : {M : Type 1} → statement M
+tree-ends-spec =
+    tie.close
+    (tie.spec
+    Inv-loop
+    μ-loop
+    at-requires
+    add-ends
+    add-ends-2
+    mul-ends
+    element-write-ends
+    add-ends-3
+    mul-ends-2
+    element-write-ends-2
+    loop-holds
+    sub-v
+    node-end-requires
+    mul-ends-3
+    element-write-ends-3
+    loop-less
+    loop-again
+    returns)

@@ -1,0 +1,12 @@
+pub mod Faults
+pub mod Decode
+pub mod Ends
+pub mod Pools
+pub mod Operands
+pub mod Finished
+pub mod Accepted
+pub mod Rows
+pub mod Order
+pub mod FaultyWords
+pub mod FaultyTables
+pub mod Exact

@@ -1,0 +1,68 @@
+-- A cut game is part of every later one: each vertex keeps its pair, and one that is settled after k steps has the same owner, priority and edges after any more. And two rankings
+-- give the same vertices but for the priorities of equations. Assumes nothing.
+use mathlib.Core.Path.{_≡_, refl, sym, ap, _∙_, subst}
+use mathlib.Core.Bool.{Bool}
+use mathlib.Core.List.{List, [], _∷_, _++_, map}
+use mathlib.Core.Logic.{_⊎_, inl, inr, ⊎-elim}
+use Prim.Native.Nat.{ℕ, zero, suc, _+_, _-_, _≤_, _<_}
+use native.Mathlib.Omega.{arith}
+use lib.ListN.{length, getD}
+use Rattle.player.specs.declared.Player.{Player}
+use Rattle.rules.specs.Lists.{In, place, insertAll}
+use Rattle.rules.specs.Words.{Input}
+use Rattle.rules.specs.Depth.{Ranking}
+use Rattle.rules.specs.Pairs.{Pair, samePair, initialPair, owner, priority, targets}
+use Rattle.rules.specs.Walk.{State, walk, settle, stepFrom, step, pushNew}
+use Rattle.rules.specs.Game.{Vertex, settledVertex, vertexAt}
+use Rattle.rules.specs.Run.{walkOf, verticesOf}
+use Rattle.lists.specs.Shapes.{Begins, Equality}
+use Rattle.lists.proofs.Members.{place-begins, in-at}
+use Rattle.lists.proofs.Shapes.{begins-at, begins-length}
+use Rattle.lists.proofs.Equalities.{pair-equality}
+use Rattle.walks.specs.Sums.{Settled}
+use Rattle.walks.proofs.Steps.{Sound, sound, walk-step, begins-step, walk-later}
+use Rattle.walks.proofs.Facts.{walk-keeps}
+use Rattle.walks.proofs.Push.{push-only}
+use Rattle.theorems.proofs.Vertices.{vertex-settled}
+
+module _ {A : Type 0} {same : A → A → Bool} (eq : Equality same) (next : A → List A) (root : A) where
+  -- a step lets no settled vertex wait again
+  step-settled : (known : List A) (waiting : List ℕ) (v : ℕ) → v < length known → (¬ In v waiting) → ¬ In v (stepFrom same next root known waiting .waiting)
+  unfolding stepFrom settle
+  step-settled known [] v h n m = n m
+  step-settled known (u ∷ rest) v h n m =
+      ⊎-elim (λ l. absurd (omega arith)) (λ i. n (inr i))
+      (push-only (length known) (length (insertAll same known (next (getD known u root))) - length known) rest v m)
+
+  settled-step : (st : State A) (v : ℕ) → Settled st v → Settled (step same next root st) v
+  unfolding step
+  settled-step st v (h, n) = (omega (arith, begins-length (st .known) (step same next root st .known) (begins-step eq next root st)), step-settled (st .known) (st .waiting) v h n)
+
+  settled-on : (k i v : ℕ) → Settled (walk same next root k) v → Settled (walk same next root (k + i)) v
+  settled-on k zero v s = let e : k ≡ k + 0 = omega arith in subst (λ (n : ℕ). Settled (walk same next root n) v) e s
+  settled-on k (suc i) v s =
+      let e : suc (k + i) ≡ k + suc i = omega arith in
+      subst (λ (n : ℕ). Settled (walk same next root n) v) e
+      (subst (λ (st : State A). Settled st v) (sym (walk-step same next root (k + i))) (settled-step (walk same next root (k + i)) v (settled-on k i v s)))
+
+  pub settled-stays : (k j v : ℕ) → k ≤ j → Settled (walk same next root k) v → Settled (walk same next root j) v
+  settled-stays k j v h s = walk-later same next root k j h (λ st. Settled st v) (λ i. settled-on k i v s)
+
+  numbers-stay : (known more : List A) → Begins known more → (ts : List A) → ((q : A) → In q ts → In q known) → map (λ q. place same q more) ts ≡ map (λ q. place same q known) ts
+  numbers-stay known more b [] f = refl
+  numbers-stay known more b (t ∷ ts) f =
+      ap (λ (n : ℕ). n ∷ map (λ q. place same q more) ts) (place-begins eq t known more (f t (inl refl)) b)
+      ∙ ap (λ (ns : List ℕ). place same t known ∷ ns) (numbers-stay known more b ts (λ q m. f q (inr m)))
+
+  module _ (owner′ : A → Player) (priority′ : A → ℕ) (k j v : ℕ) (h : k ≤ j) (s : Settled (walk same next root k) v) where
+    -- a vertex settled after k steps is shown alike after j
+    pub vertex-stays : vertexAt same next root owner′ priority′ (walk same next root j) v ≡ vertexAt same next root owner′ priority′ (walk same next root k) v
+    vertex-stays =
+        let a = walk same next root k .known in
+        let b = walk same next root j .known in
+        let p : getD b v root ≡ getD a v root = begins-at a b root (walk-keeps eq next root k j h) v (s .0) in
+        vertex-settled same next root owner′ priority′ (walk same next root j) v (settled-stays k j v h s .1)
+        ∙ ap (λ (q : A). settledVertex v (owner′ q) (priority′ q) (map (λ t. place same t b) (next q))) p
+        ∙ ap (settledVertex v (owner′ (getD a v root)) (priority′ (getD a v root)))
+        (numbers-stay a b (walk-keeps eq next root k j h) (next (getD a v root)) (sound eq next root k .edges v (s .0) (s .1)))
+        ∙ sym (vertex-settled same next root owner′ priority′ (walk same next root k) v (s .1))

@@ -1,0 +1,9 @@
+pub mod Vertices
+pub mod Read
+pub mod Cut
+pub mod Unique
+pub mod Runs
+pub mod Later
+pub mod Demand3
+pub mod Handing
+pub mod Rankings

@@ -1,0 +1,158 @@
+-- Two rankings give the same answer, and games that differ at most in the priorities of equations' vertices. Assumes nothing.
+use mathlib.Core.Path.{_≡_, refl, sym, ap, ap₂, _∙_, subst}
+use mathlib.Core.Bool.{Bool, true, false, _||_}
+use mathlib.Core.List.{List, [], _∷_, _++_, map}
+use mathlib.Core.Logic.{_⊎_, inl, inr, ⊎-elim}
+use Prim.Native.Nat.{ℕ, zero, suc, _+_, _-_, _≤_, _<_}
+use native.Mathlib.Omega.{arith}
+use lib.ListN.{length, getD}
+use lib.Dec.{ltb}
+use Rattle.player.specs.declared.Player.{Player}
+use Rattle.rules.specs.declared.Check.{Check}
+use Rattle.rules.specs.declared.Check.the-variants.{Passed, Fault}
+use Rattle.rules.specs.Lists.{word, In, place}
+use Rattle.rules.specs.Words.{Input, Room}
+use Rattle.rules.specs.Formula.{equationCount}
+use Rattle.rules.specs.Depth.{Ranking}
+use Rattle.rules.specs.Pairs.{Pair, samePair, initialPair, owner, priority, targets}
+use Rattle.rules.specs.Walk.{State}
+use Rattle.rules.specs.Game.{Vertex, settledVertex, waitingVertex, edgeCount, gameOf, padded, vertexCount, edgesIn, ownerIn, priorityIn, targetsIn}
+use Rattle.rules.specs.Refusal.{refusal}
+use Rattle.rules.specs.Run.{Outcome, walkOf, verticesOf, exceeds, finished, outOfRoom, run}
+use Rattle.rules.specs.Demands.{pairsOf}
+use Rattle.lists.proofs.Members.{in-or}
+use Rattle.lists.proofs.Equalities.{number-equality}
+use native.Mathlib.Decide.{decLt}
+use Rattle.arena.proofs.Priorities.{other-priority}
+use Rattle.theorems.proofs.Read.{count-word, Row, row-waits, row-settled}
+use Rattle.theorems.proofs.Runs.{run-refused, run-exceeds, run-fits, vertices-many, edges-many}
+
+-- g and h show the same vertices, but for the priorities of equations
+pub record AlikeButRanks (x : Input) (k : ℕ) (g h : List ℕ) : Type 0 where
+  pub count : vertexCount g ≡ vertexCount h
+  pub edges : edgesIn g ≡ edgesIn h
+  pub owners : (v : ℕ) → v < vertexCount g → ownerIn g v ≡ ownerIn h v
+  pub targets : (v : ℕ) → v < vertexCount g → targetsIn g v ≡ targetsIn h v
+  pub priorities : (v : ℕ) → v < vertexCount g
+      → (priorityIn g v ≡ priorityIn h v) ⊎ (getD (pairsOf x k) v (initialPair x) .1 < equationCount (x .formula))
+
+-- the two outcomes differ in nothing else
+pub record SameButRanks (x : Input) (k : ℕ) (o p : Outcome) : Type 0 where
+  pub answers : o .answer ≡ p .answer
+  pub works : o .work ≡ p .work
+  pub games : (o .game ≡ p .game) ⊎ AlikeButRanks x k (o .game) (p .game)
+
+-- what a settled vertex shows, with one priority or another
+settled-alike : (v : ℕ) (o : Player) (p q : ℕ) (es : List ℕ)
+    → (settledVertex v o p es .owner ≡ settledVertex v o q es .owner) × (settledVertex v o p es .edges ≡ settledVertex v o q es .edges)
+    × ((p ≡ q) → settledVertex v o p es .priority ≡ settledVertex v o q es .priority)
+unfolding settledVertex
+settled-alike v o p q [] = (refl, refl, λ e. refl)
+settled-alike v o p q (e ∷ es) = (refl, refl, λ f. f)
+
+-- the priorities of a pair agree unless its item is an equation
+priority-elsewhere : (a b : Ranking) (x : Input) (p : Pair) → (p .1 < equationCount (x .formula)) ⊎ (priority a x p ≡ priority b x p)
+priority-elsewhere a b x p = go (decLt (p .1) (equationCount (x .formula)))
+  where
+    go : Dec (p .1 < equationCount (x .formula)) → (p .1 < equationCount (x .formula)) ⊎ (priority a x p ≡ priority b x p)
+    go (yes l) = inl l
+    go (no l) = inr (other-priority x a p (omega arith) ∙ sym (other-priority x b p (omega arith)))
+
+module _ (a b : Ranking) (x : Input) (r : Room) (k : ℕ) (game work : List ℕ) where
+  abbrev st : State Pair
+  st = walkOf x k
+
+  abbrev va : List Vertex
+  va = verticesOf a x st
+
+  abbrev vb : List Vertex
+  vb = verticesOf b x st
+
+  many : length va ≡ length vb
+  many = vertices-many a x r k game work ∙ sym (vertices-many b x r k game work)
+
+  edged : edgeCount va ≡ edgeCount vb
+  edged = edges-many a x r k game work ∙ sym (edges-many b x r k game work)
+
+  fits-alike : exceeds r va ≡ exceeds r vb
+  unfolding exceeds
+  fits-alike = ap₂ (λ (m n : ℕ). ltb (r .vertices) m || ltb (r .edges) n) many edged
+
+  abbrev ga : List ℕ
+  ga = padded (length game) (gameOf va)
+
+  abbrev gb : List ℕ
+  gb = padded (length game) (gameOf vb)
+
+  counts : vertexCount ga ≡ length (st .known)
+  unfolding verticesOf
+  counts = count-word samePair (targets x) (initialPair x) (owner x) (priority a x) st (length game)
+
+  counts-b : vertexCount gb ≡ length (st .known)
+  unfolding verticesOf
+  counts-b = count-word samePair (targets x) (initialPair x) (owner x) (priority b x) st (length game)
+
+  edge-words : edgesIn ga ≡ edgesIn gb
+  unfolding padded gameOf
+  edge-words = edged
+
+  abbrev Rows : ℕ → Type 0
+  Rows v = (ownerIn ga v ≡ ownerIn gb v) × (targetsIn ga v ≡ targetsIn gb v)
+      × ((priorityIn ga v ≡ priorityIn gb v) ⊎ (getD (st .known) v (initialPair x) .1 < equationCount (x .formula)))
+
+  rows : (v : ℕ) → v < length (st .known) → Rows v
+  unfolding verticesOf
+  rows v h = go (in-or number-equality v (st .waiting))
+    where
+      p : Pair
+      p = getD (st .known) v (initialPair x)
+
+      es : List ℕ
+      es = map (λ q. place samePair q (st .known)) (targets x p)
+
+      go : In v (st .waiting) ⊎ (¬ In v (st .waiting)) → Rows v
+      go (inl w) =
+          let ra = row-waits samePair (targets x) (initialPair x) (owner x) (priority a x) st (length game) v h w in
+          let rb = row-waits samePair (targets x) (initialPair x) (owner x) (priority b x) st (length game) v h w in
+          (ra .owned ∙ sym (rb .owned), ra .leads ∙ sym (rb .leads), inl (ra .ranked ∙ sym (rb .ranked)))
+      go (inr n) =
+          let ra = row-settled samePair (targets x) (initialPair x) (owner x) (priority a x) st (length game) v h n in
+          let rb = row-settled samePair (targets x) (initialPair x) (owner x) (priority b x) st (length game) v h n in
+          let (o, e, q) = settled-alike v (owner x p) (priority a x p) (priority b x p) es in
+          (ra .owned ∙ o ∙ sym (rb .owned), ra .leads ∙ e ∙ sym (rb .leads),
+          ⊎-elim (λ l. inr l) (λ s. inl (ra .ranked ∙ q s ∙ sym (rb .ranked))) (priority-elsewhere a b x p))
+
+  abbrev Claim : Outcome → Outcome → Type 0
+  Claim = SameButRanks x k
+
+  pub rankings : SameButRanks x k (run a x r k game work) (run b x r k game work)
+  unfolding finished
+  rankings = go (refusal x r (length game) (length work)) refl (exceeds r va) refl
+    where
+      done : exceeds r va ≡ false → Claim (finished st va game work) (finished st vb game work)
+      done f =
+          record {
+            answers = ap₂ (λ (m n : ℕ). Rattle.rules.specs.Run.doneOrCut (st .waiting) ∷ (m - length (st .waiting)) ∷ m ∷ n ∷ []) many edged;
+            works = refl;
+            games = inr (record {
+              count = counts ∙ sym counts-b;
+              edges = edge-words;
+              owners = λ v l. rows v (omega (arith, counts)) .0;
+              targets = λ v l. rows v (omega (arith, counts)) .1;
+              priorities = λ v l. rows v (omega (arith, counts)) .2;
+            });
+          }
+
+      same : (o p q : Outcome) → o ≡ q → p ≡ q → Claim o p
+      same o p q e f = let s = e ∙ sym f in record { answers = ap (λ (u : Outcome). u .answer) s; works = ap (λ (u : Outcome). u .work) s; games = inl (ap (λ (u : Outcome). u .game) s) }
+
+      go : (c : Check) → refusal x r (length game) (length work) ≡ c → (t : Bool) → exceeds r va ≡ t → Claim (run a x r k game work) (run b x r k game work)
+      go (Fault n p) e t f =
+          same (run a x r k game work) (run b x r k game work) (record { answer = 2 ∷ n ∷ p ∷ 0 ∷ []; game = game; work = work })
+          (run-refused a x r k game work n p e) (run-refused b x r k game work n p e)
+      go Passed e true f =
+          same (run a x r k game work) (run b x r k game work) (outOfRoom game work)
+          (run-exceeds a x r k game work e f) (run-exceeds b x r k game work e (sym fits-alike ∙ f))
+      go Passed e false f =
+          subst (λ (o : Outcome). Claim o (run b x r k game work)) (sym (run-fits a x r k game work e f))
+          (subst (Claim (finished st va game work)) (sym (run-fits b x r k game work e (sym fits-alike ∙ f))) (done f))

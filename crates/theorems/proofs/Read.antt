@@ -1,0 +1,160 @@
+-- What is read from the words of a run's game: of each vertex, by whether it waits; and that the words are a whole game. Assumes nothing.
+use mathlib.Core.Path.{_≡_, refl, sym, ap, _∙_, subst}
+use mathlib.Core.Bool.{Bool, true, false, cond}
+use mathlib.Core.List.{List, [], _∷_, _++_, map, append-nil}
+use mathlib.Core.Logic.{_⊎_, inl, inr, ⊎-elim}
+use Prim.Native.Nat.{ℕ, zero, suc, _+_, _-_, _*_, _≤_, _<_, max}
+use native.Mathlib.Omega.{arith}
+use native.Mathlib.Decide.{decLt}
+use lib.ListN.{length, getD, take, replicate, length-append, length-replicate, getD-replicate, length-map}
+use lib.Seq.{take-all, getD-append-add, take-suc}
+use lib.Dec.{eqb, ltb}
+use borrow.Author.Tests.{lt-ltb, le-ltb}
+use Rattle.player.specs.Player.{playerIndex}
+use Rattle.player.specs.declared.Player.{Player}
+use Rattle.player.specs.declared.Player.the-variants.{Even, Odd}
+use Rattle.rules.specs.Lists.{word, sum, In, has, place}
+use Rattle.rules.specs.Walk.{State}
+use Rattle.rules.specs.Game.{Vertex, waitingVertex, settledVertex, vertices, edgeCount, gameOf, padded, vertexCount, edgesIn, initialIn, ownerIn, priorityIn, offsetIn, targetsAt, targetsIn, gameEnd}
+use Rattle.rules.specs.Demands.{settledBelow}
+use Rattle.lists.proofs.Members.{in-has, not-in, in-or}
+use Rattle.lists.proofs.Equalities.{number-equality}
+use Rattle.walks.specs.Sums.{sumBelow, sumSettled}
+use Rattle.games.proofs.Reading.{count-read, owner-read, priority-read, offset-read, targets-read, length-read}
+use Rattle.games.proofs.Rewriting.{Whole}
+use Rattle.theorems.proofs.Vertices.{length-vertices, vertex-at, vertex-waits, vertex-settled, pairAt, numbersAt}
+
+-- ---- words past the end
+
+word-past : (ws : List ℕ) (i : ℕ) → length ws ≤ i → word ws i ≡ 0
+word-past [] i h = refl
+word-past (w ∷ ws) zero h = absurd (omega arith)
+word-past (w ∷ ws) (suc i) h = word-past ws i (omega arith)
+
+zeros-past : (ws : List ℕ) (n i : ℕ) → length ws ≤ i → word (ws ++ replicate n 0) i ≡ 0
+zeros-past ws n i h =
+    let e : i ≡ length ws + (i - length ws) = omega arith in
+    ap (word (ws ++ replicate n 0)) e ∙ getD-append-add ws (replicate n 0) (i - length ws) 0 ∙ zero-at n (i - length ws)
+  where
+    zero-at : (m j : ℕ) → word (replicate m 0) j ≡ 0
+    zero-at m j = go (decLt j m)
+      where
+        go : Dec (j < m) → word (replicate m 0) j ≡ 0
+        go (yes l) = getD-replicate {A = ℕ} m j 0 0 l
+        go (no l) = word-past (replicate m 0) j (omega (arith, length-replicate {A = ℕ} m 0))
+
+-- ---- any game's words
+
+count-more : (vs : List Vertex) (v : ℕ) (d : Vertex) → v < length vs → edgeCount (take (suc v) vs) ≡ edgeCount (take v vs) + length (getD vs v d .edges)
+unfolding edgeCount sum
+count-more [] v d h = absurd (omega arith)
+count-more (x ∷ vs) zero d h = omega arith
+count-more (x ∷ vs) (suc v) d h = omega (arith, count-more vs v d (omega arith))
+
+module _ (vs : List Vertex) (n : ℕ) (room : length (gameOf vs) ≤ n) where
+  end-read : gameEnd (gameOf vs ++ replicate (n - length (gameOf vs)) 0) ≡ length (gameOf vs)
+  unfolding gameOf
+  end-read = omega (arith, length-read vs [])
+
+  count-none : edgeCount (take 0 vs) ≡ 0
+  unfolding edgeCount sum
+  count-none = refl
+
+  edges-word : (rest : List ℕ) → edgesIn (gameOf vs ++ rest) ≡ edgeCount vs
+  unfolding gameOf
+  edges-word rest = refl
+
+  pub whole-game : Whole (padded n (gameOf vs))
+  unfolding padded
+  whole-game =
+      let rest : List ℕ = replicate (n - length (gameOf vs)) 0 in
+      record {
+        begins = offset-read vs rest 0 (omega arith) ∙ count-none;
+        follows = λ v h. let l : v < length vs = omega (arith, count-read vs rest) in
+            offset-read vs rest (suc v) l ∙ count-more vs v waitingVertex l
+            ∙ omega (arith, offset-read vs rest v (omega arith), ap length (targets-read vs rest v waitingVertex l));
+        ends = (
+          ap (λ (v : ℕ). offsetIn (gameOf vs ++ rest) v) (count-read vs rest)
+          ∙ offset-read vs rest (length vs) (omega arith)
+          ∙ ap edgeCount (take-all (length vs) vs (omega arith)) ∙ sym (edges-word rest),
+          omega (arith, end-read, length-append (gameOf vs) rest),
+        );
+        past = λ i h. zeros-past (gameOf vs) (n - length (gameOf vs)) i (omega (arith, end-read));
+      }
+
+-- ---- the game where a walk stands
+
+pub player-below : (p : Player) → playerIndex p < 2
+player-below Even = omega arith
+player-below Odd = omega arith
+
+pub settled-owner : (v : ℕ) (o : Player) (p : ℕ) (es : List ℕ) → settledVertex v o p es .owner ≡ playerIndex o
+unfolding settledVertex
+settled-owner v o p [] = refl
+settled-owner v o p (e ∷ es) = refl
+
+module _ {A : Type 0} (same : A → A → Bool) (next : A → List A) (root : A) (owner : A → Player) (priority : A → ℕ) (st : State A) (n : ℕ) where
+  abbrev vs : List Vertex
+  vs = vertices same next root owner priority st
+
+  abbrev g : List ℕ
+  g = padded n (gameOf vs)
+
+  abbrev at : ℕ → Vertex
+  at v = settledVertex v (owner (pairAt same next root owner priority st v)) (priority (pairAt same next root owner priority st v)) (numbersAt same next root owner priority st v)
+
+  pub count-word : vertexCount g ≡ length (st .known)
+  unfolding padded
+  count-word = count-read vs (replicate (n - length (gameOf vs)) 0) ∙ length-vertices same next root owner priority st
+
+  -- what is read of vertex v
+  pub record Row (v : ℕ) (x : Vertex) : Type 0 where
+    pub owned : ownerIn g v ≡ x .owner
+    pub ranked : priorityIn g v ≡ x .priority
+    pub leads : targetsIn g v ≡ x .edges
+
+  row-of : (v : ℕ) (x : Vertex) → v < length (st .known) → getD vs v waitingVertex ≡ x → Row v x
+  unfolding padded
+  row-of v x h e =
+      let rest : List ℕ = replicate (n - length (gameOf vs)) 0 in
+      let l : v < length vs = omega (arith, length-vertices same next root owner priority st) in
+      record {
+        owned = owner-read vs rest v waitingVertex l ∙ ap (λ (y : Vertex). y .owner) e;
+        ranked = ap (λ (k : ℕ). word (gameOf vs ++ rest) (3 + k + v)) (count-read vs rest) ∙ priority-read vs rest v waitingVertex l ∙ ap (λ (y : Vertex). y .priority) e;
+        leads = targets-read vs rest v waitingVertex l ∙ ap (λ (y : Vertex). y .edges) e;
+      }
+
+  pub row-waits : (v : ℕ) → v < length (st .known) → In v (st .waiting) → Row v waitingVertex
+  row-waits v h m = row-of v waitingVertex h (vertex-at same next root owner priority st v waitingVertex h ∙ vertex-waits same next root owner priority st v m)
+
+  pub row-settled : (v : ℕ) → v < length (st .known) → (¬ In v (st .waiting)) → Row v (at v)
+  row-settled v h m = row-of v (at v) h (vertex-at same next root owner priority st v waitingVertex h ∙ vertex-settled same next root owner priority st v m)
+
+  -- a vertex shows owner 2 exactly if it waits
+  pub owner-waits : (v : ℕ) → v < length (st .known) → In v (st .waiting) → ownerIn g v ≡ 2
+  unfolding waitingVertex
+  owner-waits v h m = row-waits v h m .owned
+
+  pub owner-settled : (v : ℕ) → v < length (st .known) → (¬ In v (st .waiting)) → ownerIn g v ≡ playerIndex (owner (pairAt same next root owner priority st v))
+  owner-settled v h m =
+      row-settled v h m .owned
+      ∙ settled-owner v (owner (pairAt same next root owner priority st v)) (priority (pairAt same next root owner priority st v)) (numbersAt same next root owner priority st v)
+
+  pub settled-below : (v : ℕ) → v < length (st .known) → (¬ In v (st .waiting)) → ownerIn g v < 2
+  settled-below v h m = subst (λ (k : ℕ). k < 2) (sym (owner-settled v h m)) (player-below (owner (pairAt same next root owner priority st v)))
+
+  pub below-settled : (v : ℕ) → v < length (st .known) → ownerIn g v < 2 → ¬ In v (st .waiting)
+  below-settled v h l m = let e = owner-waits v h m in omega arith
+
+  -- the settled vertices counted
+  pub settled-count : (m : ℕ) → m ≤ length (st .known) → settledBelow g m ≡ sumBelow (λ p. 1) root st m
+  unfolding settledBelow sumBelow
+  settled-count zero h = refl
+  settled-count (suc m) h = go (settled-count m (omega arith)) (in-or number-equality m (st .waiting))
+    where
+      go : settledBelow g m ≡ sumBelow (λ p. 1) root st m → In m (st .waiting) ⊎ (¬ In m (st .waiting)) → settledBelow g (suc m) ≡ sumBelow (λ p. 1) root st (suc m)
+      go ih (inl i) =
+          let e = owner-waits m h i in
+          rw (in-has number-equality m (st .waiting) i, le-ltb (ownerIn g m) 2 (omega arith)) (ap (λ (k : ℕ). 0 + k) ih)
+      go ih (inr i) =
+          rw (not-in number-equality m (st .waiting) i, lt-ltb (ownerIn g m) 2 (settled-below m h i)) (ap (λ (k : ℕ). 1 + k) ih)

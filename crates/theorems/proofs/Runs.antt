@@ -1,0 +1,137 @@
+-- A run by cases, and demand 1: refused exactly on the listed conditions, and what a refusal leaves, for every input, room, limit and ranking. Assumes nothing.
+use mathlib.Core.Path.{_≡_, refl, sym, ap, _∙_, subst}
+use mathlib.Core.Bool.{Bool, true, false, cond, _||_, true≢false}
+use mathlib.Core.List.{List, [], _∷_}
+use mathlib.Core.Logic.{_⊎_, inl, inr, ⊎-elim, _↔_}
+use Prim.Native.Nat.{ℕ, zero, suc, _+_, _-_, _≤_, _<_}
+use native.Mathlib.Omega.{arith}
+use lib.ListN.{length, getD}
+use lib.Dec.{ltb}
+use borrow.Author.Tests.{lt-ltb, le-ltb, ltb-true, ltb-false}
+use Rattle.rules.specs.declared.Check.{Check}
+use Rattle.rules.specs.declared.Check.the-variants.{Passed, Fault}
+use Rattle.rules.specs.Lists.{word, zeros}
+use Rattle.rules.specs.Words.{Input, Room}
+use Rattle.rules.specs.Depth.{Ranking}
+use Rattle.rules.specs.Pairs.{Pair, samePair, initialPair, owner, priority, targets}
+use Rattle.rules.specs.Walk.{State, walk}
+use Rattle.rules.specs.Game.{Vertex, edgeCount, vertices}
+use Rattle.rules.specs.Refusal.{refusal}
+use Rattle.rules.specs.Run.{Outcome, walkOf, verticesOf, exceeds, doneOrCut, finished, outOfRoom, walked, refusedOr, run}
+use Rattle.rules.specs.Demands.{Exceeded, edgesAfter, Demand1}
+use Rattle.lists.proofs.Equalities.{pair-equality}
+use Rattle.walks.specs.Sums.{sumSettled}
+use Rattle.walks.proofs.After.{exceeded-within}
+use Rattle.theorems.proofs.Vertices.{length-vertices, edgesOf, count-edges}
+
+-- a test of two orders
+either-exceeds : (a b c d : ℕ) → (ltb a b || ltb c d) ≡ true → (a < b) ⊎ (c < d)
+either-exceeds a b c d e = go (ltb a b) refl
+  where
+    go : (t : Bool) → ltb a b ≡ t → (a < b) ⊎ (c < d)
+    go true f = inl (ltb-true a b f)
+    go false f = inr (ltb-true c d (sym (rw f) ∙ e))
+
+exceeds-either : (a b c d : ℕ) → (ltb a b || ltb c d) ≡ false → ¬ ((a < b) ⊎ (c < d))
+exceeds-either a b c d e (inl l) = true≢false (sym (rw (lt-ltb a b l) refl) ∙ e)
+exceeds-either a b c d e (inr l) = go (ltb a b) refl
+  where
+    go : (t : Bool) → ltb a b ≡ t → ⊥
+    go true f = true≢false (sym (rw f refl) ∙ e)
+    go false f = true≢false (sym (lt-ltb c d l) ∙ sym (rw f) ∙ e)
+
+-- neither a run that ended nor a cut one answers 2
+not-two : (ws : List ℕ) → ¬ (doneOrCut ws ≡ 2)
+unfolding doneOrCut
+not-two [] e = absurd (omega arith)
+not-two (w ∷ ws) e = absurd (omega arith)
+
+module _ (rank : Ranking) (x : Input) (r : Room) (k : ℕ) (game work : List ℕ) where
+  abbrev st : State Pair
+  st = walkOf x k
+
+  abbrev vs : List Vertex
+  vs = verticesOf rank x st
+
+  -- ---- one law for each way in which a run ends
+
+  pub run-refused : (n p : ℕ) → refusal x r (length game) (length work) ≡ Fault n p
+      → run rank x r k game work ≡ record { answer = 2 ∷ n ∷ p ∷ 0 ∷ []; game = game; work = work }
+  unfolding run refusedOr
+  run-refused n p e = rw e refl
+
+  pub run-exceeds : refusal x r (length game) (length work) ≡ Passed → exceeds r vs ≡ true → run rank x r k game work ≡ outOfRoom game work
+  unfolding run refusedOr walked
+  run-exceeds e h = rw (e, h) refl
+
+  pub run-fits : refusal x r (length game) (length work) ≡ Passed → exceeds r vs ≡ false → run rank x r k game work ≡ finished st vs game work
+  unfolding run refusedOr walked
+  run-fits e h = rw (e, h) refl
+
+  -- ---- 60
+
+  pub vertices-many : length vs ≡ length (st .known)
+  unfolding verticesOf
+  vertices-many = length-vertices samePair (targets x) (initialPair x) (owner x) (priority rank x) st
+
+  pub edges-many : edgeCount vs ≡ sumSettled (edgesOf samePair (targets x) (initialPair x) (owner x) (priority rank x) st) (initialPair x) st
+  unfolding verticesOf
+  edges-many = count-edges samePair (targets x) (initialPair x) (owner x) (priority rank x) st
+
+  -- told after k steps, it is so within the first k steps, and the other way round
+  pub exceeded : exceeds r vs ≡ true → Exceeded x r k
+  unfolding exceeds walkOf edgesAfter
+  exceeded e =
+      exceeded-within pair-equality (targets x) (initialPair x) (edgesOf samePair (targets x) (initialPair x) (owner x) (priority rank x) st) (r .vertices) (r .edges) k .1
+      (⊎-elim (λ l. inl (subst (λ (n : ℕ). r .vertices < n) vertices-many l)) (λ l. inr (subst (λ (n : ℕ). r .edges < n) edges-many l))
+      (either-exceeds (r .vertices) (length vs) (r .edges) (edgeCount vs) e))
+
+  pub not-exceeded : exceeds r vs ≡ false → ¬ Exceeded x r k
+  unfolding exceeds walkOf edgesAfter
+  not-exceeded e h =
+      exceeds-either (r .vertices) (length vs) (r .edges) (edgeCount vs) e
+      (⊎-elim (λ l. inl (subst (λ (n : ℕ). r .vertices < n) (sym vertices-many) l)) (λ l. inr (subst (λ (n : ℕ). r .edges < n) (sym edges-many) l))
+      (exceeded-within pair-equality (targets x) (initialPair x) (edgesOf samePair (targets x) (initialPair x) (owner x) (priority rank x) st) (r .vertices) (r .edges) k .0 h))
+
+  -- what fits
+  pub fits : exceeds r vs ≡ false → (length vs ≤ r .vertices) × (edgeCount vs ≤ r .edges)
+  unfolding exceeds
+  fits e =
+      let n = exceeds-either (r .vertices) (length vs) (r .edges) (edgeCount vs) e in
+      (ltb-false (r .vertices) (length vs) (go-left (ltb (r .vertices) (length vs)) refl n), ltb-false (r .edges) (edgeCount vs) (go-right (ltb (r .edges) (edgeCount vs)) refl n))
+    where
+      go-left : (t : Bool) → ltb (r .vertices) (length vs) ≡ t → (¬ ((r .vertices < length vs) ⊎ (r .edges < edgeCount vs))) → ltb (r .vertices) (length vs) ≡ false
+      go-left true f n = absurd (n (inl (ltb-true (r .vertices) (length vs) f)))
+      go-left false f n = f
+
+      go-right : (t : Bool) → ltb (r .edges) (edgeCount vs) ≡ t → (¬ ((r .vertices < length vs) ⊎ (r .edges < edgeCount vs))) → ltb (r .edges) (edgeCount vs) ≡ false
+      go-right true f n = absurd (n (inr (ltb-true (r .edges) (edgeCount vs) f)))
+      go-right false f n = f
+
+  -- ---- demand 1
+
+  abbrev o : Outcome
+  o = run rank x r k game work
+
+  Said : Outcome → List ℕ → List ℕ → List ℕ → Type 0
+  Said out a g w = (out .answer ≡ a) × (out .game ≡ g) × (out .work ≡ w)
+
+  pub demand1 : Demand1 x r k game work (run rank x r k game work .answer) (run rank x r k game work .game) (run rank x r k game work .work)
+  unfolding outOfRoom finished
+  demand1 =
+      record {
+        refused = λ n p e. let q = run-refused n p e in (ap (λ (u : Outcome). u .answer) q, ap (λ (u : Outcome). u .game) q, ap (λ (u : Outcome). u .work) q);
+        full = λ e h. full e h (exceeds r vs) refl;
+        accepted = λ e n. accepted e n (exceeds r vs) refl;
+      }
+    where
+      full : refusal x r (length game) (length work) ≡ Passed → Exceeded x r k → (t : Bool) → exceeds r vs ≡ t
+          → (o .answer ≡ 2 ∷ 60 ∷ 0 ∷ 0 ∷ []) × (o .game ≡ zeros game) × (o .work ≡ zeros work)
+      full e h true f = let q = run-exceeds e f in (ap (λ (u : Outcome). u .answer) q, ap (λ (u : Outcome). u .game) q, ap (λ (u : Outcome). u .work) q)
+      full e h false f = absurd (not-exceeded f h)
+
+      accepted : refusal x r (length game) (length work) ≡ Passed → (¬ Exceeded x r k) → (t : Bool) → exceeds r vs ≡ t → (¬ (word (o .answer) 0 ≡ 2)) × (o .work ≡ zeros work)
+      accepted e n true f = absurd (n (exceeded f))
+      accepted e n false f =
+          let q = run-fits e f in
+          (λ z. not-two (st .waiting) (sym (ap (λ (u : Outcome). word (u .answer) 0) q) ∙ z), ap (λ (u : Outcome). u .work) q)

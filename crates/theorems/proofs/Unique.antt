@@ -1,0 +1,101 @@
+-- The cut theorem leaves nothing open: two slices of one length that satisfy it for the same input, ranking and limit are equal, and so are the answers. So no wrong program
+-- can satisfy it, whatever one thinks of the definition of a run. Assumes nothing.
+use mathlib.Core.Path.{_≡_, refl, sym, ap, _∙_, subst}
+use mathlib.Core.List.{List, [], _∷_, _++_}
+use mathlib.Core.Logic.{_⊎_, inl, inr, _↔_}
+use Prim.Native.Nat.{ℕ, zero, suc, _+_, _≤_, _<_}
+use native.Mathlib.Omega.{arith}
+use native.Mathlib.Decide.{decLt}
+use lib.ListN.{length, getD}
+use Rattle.player.specs.declared.Player.{Player}
+use Rattle.rules.specs.Lists.{word, In, Distinct}
+use Rattle.rules.specs.Words.{Input}
+use Rattle.rules.specs.Depth.{Ranking}
+use Rattle.rules.specs.Pairs.{Pair, initialPair, owner, priority, targets}
+use Rattle.rules.specs.Game.{vertexCount, edgesIn, initialIn, ownerIn, priorityIn, offsetIn, targetsIn}
+use Rattle.rules.specs.Demands.{Stands, Lead, Totalised, SettledRow, CutTheorem}
+use Rattle.lists.proofs.Members.{distinct-places}
+use Rattle.walks.proofs.Only.{after-only}
+use Rattle.games.proofs.Rewriting.{Whole, ReadAlike, words-alike}
+
+stands-once : (x : Input) (ps : List Pair) → Distinct ps → (u w : ℕ) (q : Pair) → Stands x ps u q → Stands x ps w q → u ≡ w
+stands-once x ps d u w q s t = distinct-places ps (initialPair x) d u w (s .0) (t .0) (s .1 ∙ sym (t .1))
+
+lead-once : (x : Input) (ps : List Pair) → Distinct ps → (us ws : List ℕ) (qs : List Pair) → Lead x ps us qs → Lead x ps ws qs → us ≡ ws
+lead-once x ps d [] [] qs l m = refl
+lead-once x ps d [] (w ∷ ws) [] l m = absurd m
+lead-once x ps d [] (w ∷ ws) (q ∷ qs) l m = absurd l
+lead-once x ps d (u ∷ us) [] [] l m = absurd l
+lead-once x ps d (u ∷ us) [] (q ∷ qs) l m = absurd m
+lead-once x ps d (u ∷ us) (w ∷ ws) [] l m = absurd l
+lead-once x ps d (u ∷ us) (w ∷ ws) (q ∷ qs) l m =
+    ap (λ (n : ℕ). n ∷ us) (stands-once x ps d u w q (l .0) (m .0)) ∙ ap (λ (ns : List ℕ). w ∷ ns) (lead-once x ps d us ws qs (l .1) (m .1))
+
+total-once : (v : ℕ) (o : Player) (p : ℕ) (es : List ℕ) (r s : ℕ) (as′ bs : List ℕ) → Totalised v o p es r as′ → Totalised v o p es s bs → (r ≡ s) × (as′ ≡ bs)
+total-once v o p [] r s as′ bs t u = (t .0 ∙ sym (u .0), t .1 ∙ sym (u .1))
+total-once v o p (e ∷ es) r s as′ bs t u = (t .0 ∙ sym (u .0), t .1 ∙ sym (u .1))
+
+module _ (rank : Ranking) (x : Input) (g h : List ℕ) (ps : List Pair) (d : Distinct ps) (v : ℕ) (p : Pair) (a : SettledRow rank x g ps v p) (b : SettledRow rank x h ps v p) where
+  ruled-once : a .ruled ≡ b .ruled
+  ruled-once = lead-once x ps d (a .ruled) (b .ruled) (targets x p) (a .leads) (b .leads)
+
+  shown-once : (priorityIn g v ≡ priorityIn h v) × (a .added ≡ b .added)
+  shown-once =
+      total-once v (owner x p) (priority rank x p) (b .ruled) (priorityIn g v) (priorityIn h v) (a .added) (b .added)
+      (subst (λ (es : List ℕ). Totalised v (owner x p) (priority rank x p) es (priorityIn g v) (a .added)) ruled-once (a .total))
+      (b .total)
+
+  row-once : (ownerIn g v ≡ ownerIn h v) × (priorityIn g v ≡ priorityIn h v) × (targetsIn g v ≡ targetsIn h v)
+  row-once =
+      (a .owned ∙ sym (b .owned), shown-once .0,
+      a .edges ∙ ap (λ (es : List ℕ). es ++ a .added) ruled-once ∙ ap (λ (es : List ℕ). b .ruled ++ es) (shown-once .1) ∙ sym (b .edges))
+
+module _ (rank : Ranking) (x : Input) (k : ℕ) (a b g h : List ℕ) (ps qs : List Pair) (long : length g ≡ length h) (c : CutTheorem rank x k a g ps) (d : CutTheorem rank x k b h qs) where
+  pub pairs-once : ps ≡ qs
+  pairs-once = after-only (targets x) (initialPair x) k ps (c .order) qs (d .order) (c .walked) (d .walked) .0
+
+  order-once : c .order ≡ d .order
+  order-once = after-only (targets x) (initialPair x) k ps (c .order) qs (d .order) (c .walked) (d .walked) .1
+
+  counts : vertexCount g ≡ vertexCount h
+  counts = sym (c .sizes .2) ∙ ap length pairs-once ∙ d .sizes .2
+
+  both-settled : (v : ℕ) → v < vertexCount g → ownerIn g v < 2 → ownerIn h v < 2
+  both-settled v l s = d .taken v (omega (arith, counts)) .1 (subst (In v) order-once (c .taken v l .0 s))
+
+  both-wait : (v : ℕ) → v < vertexCount g → (¬ (ownerIn g v < 2)) → ¬ (ownerIn h v < 2)
+  both-wait v l n s = n (c .taken v l .1 (subst (In v) (sym order-once) (d .taken v (omega (arith, counts)) .0 s)))
+
+  rows : (v : ℕ) → v < vertexCount g → (ownerIn g v ≡ ownerIn h v) × (priorityIn g v ≡ priorityIn h v) × (targetsIn g v ≡ targetsIn h v)
+  rows v l = go (decLt (ownerIn g v) 2)
+    where
+      go : Dec (ownerIn g v < 2) → (ownerIn g v ≡ ownerIn h v) × (priorityIn g v ≡ priorityIn h v) × (targetsIn g v ≡ targetsIn h v)
+      go (yes s) =
+          row-once rank x g h ps (c .distinct) v (getD ps v (initialPair x)) (c .settled v l s)
+          (subst (λ (rs : List Pair). SettledRow rank x h rs v (getD rs v (initialPair x))) (sym pairs-once) (d .settled v (omega (arith, counts)) (both-settled v l s)))
+      go (no n) =
+          let (o, p, e) = c .waiting v l n in
+          let (o′, p′, e′) = d .waiting v (omega (arith, counts)) (both-wait v l n) in
+          (o ∙ sym o′, p ∙ sym p′, e ∙ sym e′)
+
+  -- the games are equal
+  pub game-once : g ≡ h
+  game-once =
+      words-alike g h long
+      (record { begins = c .begins; follows = c .follows; ends = c .ends; past = c .past })
+      (record { begins = d .begins; follows = d .follows; ends = d .ends; past = d .past })
+      (record {
+        count = counts;
+        initial = c .first .0 ∙ sym (d .first .0);
+        owner = λ v l. rows v l .0;
+        priority = λ v l. rows v l .1;
+        targets = λ v l. rows v l .2;
+      })
+
+  -- the four words of the answers are equal
+  pub answer-once : (word a 0 ≡ word b 0) × (word a 1 ≡ word b 1) × (word a 2 ≡ word b 2) × (word a 3 ≡ word b 3)
+  answer-once =
+      (c .cut ∙ sym (d .cut),
+      c .steps ∙ c .counted ∙ sym (d .steps ∙ d .counted),
+      c .sizes .0 ∙ counts ∙ sym (d .sizes .0),
+      c .sizes .1 ∙ ap edgesIn game-once ∙ sym (d .sizes .1))

@@ -1,0 +1,111 @@
+-- The vertices where a walk stands: how many they are, what each is, and how many edges they have. Assumes nothing.
+use mathlib.Core.Path.{_≡_, refl, sym, ap, _∙_, subst}
+use mathlib.Core.Bool.{Bool, true, false, cond}
+use mathlib.Core.List.{List, [], _∷_, _++_, map}
+use Prim.Native.Nat.{ℕ, zero, suc, _+_, _≤_, _<_, max}
+use native.Mathlib.Omega.{arith}
+use lib.ListN.{length, getD, length-map}
+use lib.Dec.{eqb}
+use Rattle.player.specs.Player.{playerIndex}
+use Rattle.player.specs.declared.Player.{Player}
+use Rattle.player.specs.declared.Player.the-variants.{Even, Odd}
+use Rattle.rules.specs.Lists.{In, from, sum, has, place}
+use Rattle.rules.specs.Walk.{State}
+use Rattle.rules.specs.Game.{Vertex, waitingVertex, stuckPriority, settledVertex, vertexAt, vertices, edgeCount}
+use Rattle.lists.proofs.Members.{map-at, in-has, not-in}
+use Rattle.lists.proofs.Equalities.{number-equality}
+use Rattle.walks.specs.Sums.{sumBelow, sumSettled}
+
+pub length-from : (i n : ℕ) → length (from i n) ≡ n
+unfolding from
+length-from i zero = refl
+length-from i (suc n) = ap suc (length-from (suc i) n)
+
+pub from-at : (i n v d : ℕ) → v < n → getD (from i n) v d ≡ i + v
+unfolding from
+from-at i zero v d h = absurd (omega arith)
+from-at i (suc n) zero d h = omega arith
+from-at i (suc n) (suc v) d h = omega (arith, from-at (suc i) n v d (omega arith))
+
+from-snoc : (i n : ℕ) → from i (suc n) ≡ from i n ++ ((i + n) ∷ [])
+unfolding from
+from-snoc i zero = let e : i ≡ i + 0 = omega arith in ap (λ (k : ℕ). k ∷ []) e
+from-snoc i (suc n) =
+    let e : suc i + n ≡ i + suc n = omega arith in
+    ap (λ (l : List ℕ). i ∷ l) (from-snoc (suc i) n ∙ ap (λ (k : ℕ). from (suc i) n ++ (k ∷ [])) e)
+
+sum-snoc : (xs : List ℕ) (x : ℕ) → sum (xs ++ (x ∷ [])) ≡ sum xs + x
+unfolding sum
+sum-snoc [] x = omega arith
+sum-snoc (y ∷ xs) x = omega (arith, sum-snoc xs x)
+
+map-snoc : {A B : Type 0} (f : A → B) (xs : List A) (x : A) → map f (xs ++ (x ∷ [])) ≡ map f xs ++ (f x ∷ [])
+map-snoc f [] x = refl
+map-snoc f (y ∷ xs) x = ap (λ l. f y ∷ l) (map-snoc f xs x)
+
+-- a settled vertex has as many edges as its pair has targets, or the one added
+pub settled-degree : (v : ℕ) (o : Player) (p : ℕ) (es : List ℕ) → length (settledVertex v o p es .edges) ≡ max 1 (length es)
+unfolding settledVertex
+settled-degree v o p [] = refl
+settled-degree v o p (e ∷ es) = omega arith
+
+module _ {A : Type 0} (same : A → A → Bool) (next : A → List A) (root : A) (owner : A → Player) (priority : A → ℕ) (st : State A) where
+  abbrev at : ℕ → Vertex
+  at = vertexAt same next root owner priority st
+
+  pub length-vertices : length (vertices same next root owner priority st) ≡ length (st .known)
+  unfolding vertices
+  length-vertices = length-map (from 0 (length (st .known))) at ∙ length-from 0 (length (st .known))
+
+  pub vertex-at : (v : ℕ) (d : Vertex) → v < length (st .known) → getD (vertices same next root owner priority st) v d ≡ at v
+  unfolding vertices
+  vertex-at v d h =
+      let e : getD (from 0 (length (st .known))) v 0 ≡ v = omega (arith, from-at 0 (length (st .known)) v 0 h) in
+      map-at at (from 0 (length (st .known))) v 0 d (omega (arith, length-from 0 (length (st .known)))) ∙ ap at e
+
+  pub vertex-waits : (v : ℕ) → In v (st .waiting) → at v ≡ waitingVertex
+  unfolding vertexAt
+  vertex-waits v m = rw (in-has number-equality v (st .waiting) m) refl
+
+  -- the pair of a vertex, and the numbers of its targets
+  abbrev pub pairAt : ℕ → A
+  pairAt v = getD (st .known) v root
+
+  abbrev pub numbersAt : ℕ → List ℕ
+  numbersAt v = map (λ q. place same q (st .known)) (next (pairAt v))
+
+  pub vertex-settled : (v : ℕ) → (¬ In v (st .waiting)) → at v ≡ settledVertex v (owner (pairAt v)) (priority (pairAt v)) (numbersAt v)
+  unfolding vertexAt
+  vertex-settled v n = rw (not-in number-equality v (st .waiting) n) refl
+
+  -- the edges that settling a pair gives
+  abbrev pub edgesOf : A → ℕ
+  edgesOf p = max 1 (length (next p))
+
+  degree-at : (v : ℕ) → length (at v .edges) ≡ cond (has eqb v (st .waiting)) 0 (edgesOf (pairAt v))
+  unfolding vertexAt waitingVertex
+  degree-at v = go (has eqb v (st .waiting)) refl
+    where
+      go : (b : Bool) → has eqb v (st .waiting) ≡ b → length (at v .edges) ≡ cond b 0 (edgesOf (pairAt v))
+      go true e = rw e refl
+      go false e =
+          rw e
+          (settled-degree v (owner (pairAt v)) (priority (pairAt v)) (numbersAt v)
+          ∙ ap (max 1) (length-map (next (pairAt v)) (λ q. place same q (st .known))))
+
+  count-below : (n : ℕ) → edgeCount (map at (from 0 n)) ≡ sumBelow edgesOf root st n
+  unfolding edgeCount sumBelow from sum
+  count-below zero = refl
+  count-below (suc n) =
+      let e : 0 + n ≡ n = omega arith in
+      let f : Vertex → ℕ = λ v. length (v .edges) in
+      ap (λ l. sum (map f (map at l))) (from-snoc 0 n)
+      ∙ ap (λ l. sum (map f l)) (map-snoc at (from 0 n) (0 + n))
+      ∙ ap sum (map-snoc f (map at (from 0 n)) (at (0 + n)))
+      ∙ sum-snoc (map f (map at (from 0 n))) (f (at (0 + n)))
+      ∙ omega (arith, count-below n, degree-at n, ap (λ k. f (at k)) e)
+
+  -- the edges of all vertices
+  pub count-edges : edgeCount (vertices same next root owner priority st) ≡ sumSettled edgesOf root st
+  unfolding vertices sumSettled
+  count-edges = count-below (length (st .known))

@@ -1,0 +1,10 @@
+pub mod Push
+pub mod Steps
+pub mod Sums
+pub mod Count
+pub mod Reached
+pub mod Facts
+pub mod Only
+pub mod After
+pub mod Loops
+pub mod Rename
