@@ -1,5 +1,5 @@
--- A cut game is part of every later one: each vertex keeps its pair, and one that is settled after k steps has the same owner, priority and edges after any more. And two rankings
--- give the same vertices but for the priorities of equations. Assumes nothing.
+-- A cut game is part of every later one: each vertex keeps its pair, and one that is settled after k steps has the same owner, priority and
+-- edges after any more. Assumes nothing.
 use mathlib.Core.Path.{_≡_, refl, sym, ap, _∙_, subst}
 use mathlib.Core.Bool.{Bool}
 use mathlib.Core.List.{List, [], _∷_, _++_, map}
@@ -13,7 +13,7 @@ use Rattle.rules.specs.Words.{Input}
 use Rattle.rules.specs.Depth.{Ranking}
 use Rattle.rules.specs.Pairs.{Pair, samePair, initialPair, owner, priority, targets}
 use Rattle.rules.specs.Walk.{State, walk, settle, stepFrom, step, pushNew}
-use Rattle.rules.specs.Game.{Vertex, settledVertex, vertexAt}
+use Rattle.rules.specs.Game.{Vertex, settledVertex, vertexAt, gameOf, padded, vertexCount, ownerIn, priorityIn, targetsIn}
 use Rattle.rules.specs.Run.{walkOf, verticesOf}
 use Rattle.lists.specs.Shapes.{Begins, Equality}
 use Rattle.lists.proofs.Members.{place-begins, in-at}
@@ -24,6 +24,7 @@ use Rattle.walks.proofs.Steps.{Sound, sound, walk-step, begins-step, walk-later
 use Rattle.walks.proofs.Facts.{walk-keeps}
 use Rattle.walks.proofs.Push.{push-only}
 use Rattle.theorems.proofs.Vertices.{vertex-settled}
+use Rattle.theorems.proofs.Read.{count-word, Row, row-settled, below-settled}
 
 module _ {A : Type 0} {same : A → A → Bool} (eq : Equality same) (next : A → List A) (root : A) where
   -- a step lets no settled vertex wait again
@@ -66,3 +67,27 @@ module _ {A : Type 0} {same : A → A → Bool} (eq : Equality same) (next : A �
         ∙ ap (settledVertex v (owner′ (getD a v root)) (priority′ (getD a v root)))
         (numbers-stay a b (walk-keeps eq next root k j h) (next (getD a v root)) (sound eq next root k .edges v (s .0) (s .1)))
         ∙ sym (vertex-settled same next root owner′ priority′ (walk same next root k) v (s .1))
+
+-- the same of the words of two runs' games, of which one makes more steps
+module _ (rank : Ranking) (x : Input) (k j n m v : ℕ) (h : k ≤ j) where
+  abbrev before : List ℕ
+  before = padded n (gameOf (verticesOf rank x (walkOf x k)))
+
+  abbrev after : List ℕ
+  after = padded m (gameOf (verticesOf rank x (walkOf x j)))
+
+  pub cut-game-stays : v < vertexCount before → ownerIn before v < 2
+      → (ownerIn after v ≡ ownerIn before v) × (priorityIn after v ≡ priorityIn before v) × (targetsIn after v ≡ targetsIn before v)
+  unfolding verticesOf walkOf
+  cut-game-stays l o =
+      let s = walk samePair (targets x) (initialPair x) k in
+      let t = walk samePair (targets x) (initialPair x) j in
+      let b : v < length (s .known) = omega (arith, count-word samePair (targets x) (initialPair x) (owner x) (priority rank x) s n) in
+      let settled-k : Settled s v = (b, below-settled samePair (targets x) (initialPair x) (owner x) (priority rank x) s n v b o) in
+      let settled-j = settled-stays pair-equality (targets x) (initialPair x) k j v h settled-k in
+      let p = row-settled samePair (targets x) (initialPair x) (owner x) (priority rank x) s n v b (settled-k .1) in
+      let q = row-settled samePair (targets x) (initialPair x) (owner x) (priority rank x) t m v (settled-j .0) (settled-j .1) in
+      let e = sym (vertex-settled samePair (targets x) (initialPair x) (owner x) (priority rank x) t v (settled-j .1))
+      ∙ vertex-stays pair-equality (targets x) (initialPair x) (owner x) (priority rank x) k j v h settled-k
+      ∙ vertex-settled samePair (targets x) (initialPair x) (owner x) (priority rank x) s v (settled-k .1) in
+      (q .owned ∙ ap (λ (y : Vertex). y .owner) e ∙ sym (p .owned), q .ranked ∙ ap (λ (y : Vertex). y .priority) e ∙ sym (p .ranked), q .leads ∙ ap (λ (y : Vertex). y .edges) e ∙ sym (p .leads))
