@@ -50,12 +50,7 @@ fn bad_operand(
 }
 
 // 44: an operand, nodes left over, or an unfinished tree. The node at which the formula's tree ends is the first one left over.
-fn check_operands(
-    acts: &[u32],
-    firsts: &[bool; 1025],
-    f: &[u32],
-    ends: &[usize; 1026],
-) -> Check
+fn check_operands(acts: &[u32], firsts: &[bool; 1025], f: &[u32], ends: &[usize; 1026]) -> Check
     requires { ⌜ Sized (now acts) × Firsts (actionChildren (now acts)) (size (now acts)) (now firsts) ⌝ }
     requires { ⌜ Sized (now f) × Ends (formulaChildren (now f)) (size (now f)) (now ends) ⌝ }
     ensures { λ r. ⌜ r ≡ refusal44 (now (acts .entry)) (now (f .entry)) ⌝ }

@@ -66,8 +66,13 @@ module _ (vs : List Vertex) (d : Vertex) (some : 1 ≤ length vs) (few : length 
   passes-51 =
       let long = length-read vs [] in
       if-false 51 0
-      (rw (le-ltb (length g) 3 (omega arith), same-number (length g) (4 + 3 * vertexCount g + edgesIn g) (omega (arith, counts, edges)),
-      ne-eqb (vertexCount g) 0 (λ e. omega (arith, counts)), le-ltb 1_048_576 (vertexCount g) (omega (arith, counts)), le-ltb 4_194_304 (edgesIn g) (omega (arith, edges))) refl)
+      (rw (
+        le-ltb (length g) 3 (omega arith),
+        same-number (length g) (4 + 3 * vertexCount g + edgesIn g) (omega (arith, counts, edges)),
+        ne-eqb (vertexCount g) 0 (λ e. omega (arith, counts)),
+        le-ltb 1_048_576 (vertexCount g) (omega (arith, counts)),
+        le-ltb 4_194_304 (edgesIn g) (omega (arith, edges)),
+      ) refl)
 
   begins-0 : offsetIn g 0 ≡ 0
   unfolding edgeCount Rattle.rules.specs.Lists.sum

@@ -12,7 +12,6 @@ use Rattle.rules.specs.Lists.{word, sum, In}
 use Rattle.rules.specs.Game.{Vertex, edgeCount, offsets, edgeTargets, gameOf, padded, vertexCount, edgesIn, initialIn, ownerIn, priorityIn, offsetIn, targetsAt, targetsIn, gameEnd}
 use mathlib.Core.Logic.{⊎-elim}
 
-
 pub length-offsets : (e : ℕ) (vs : List Vertex) → length (offsets e vs) ≡ suc (length vs)
 unfolding offsets
 length-offsets e [] = refl
@@ -175,4 +174,3 @@ count-rises [] zero = omega arith
 count-rises [] (suc v) = omega arith
 count-rises (x ∷ vs) zero = omega arith
 count-rises (x ∷ vs) (suc v) = omega (arith, count-rises vs v)
-

@@ -27,6 +27,7 @@ use Rattle.rules.specs.Refusal.{outside, differ, faultFrom, lowerFault, 
 use Rattle.rules.specs.GameRefusal.{refusal51, falls, refusal52, refusal53, gameRefusal}
 use Rattle.rules.specs.Restrict.{searchFrom, reachedVertices, newNumber, keptVertex, keptVertices, vertexMap, restrictionRefusal, Restricted, restrictedTo, restrictedOr, restriction}
 use Rattle.rules.specs.Game.{vertexCount}
+use Rattle.rules.specs.Program.{wordOf, joined, wordsOf, disagree, slicesOf, gateRoom, gateRun, digitsTo, decimal, spaced, doneText, cutText, refusedText, line, vertexLine, vertexLines, report, reported, printedWords, printed}
 use Rattle.rules.specs.Run.{Outcome, walkOf, verticesOf, exceeds, doneOrCut, finished, outOfRoom, walked, refusedOr, run}
 
 -- label 0 is action 7, state 0 is the only state, with a loop on label 0, and the action formula is label 0
@@ -62,7 +63,8 @@ game5 = 6 ∷ 8 ∷ 0 ∷ 1 ∷ 0 ∷ 0 ∷ 1 ∷ 0 ∷ 1 ∷ 1 ∷ 0 ∷ 0 ∷ 
 -- What is said of a case. `runs x r k a g`: in room r with limit k the run on x answers a and leaves the game g, with zeros past it, and a work slice of zeros.
 -- `refuses x r n p`: it is refused, by number and place, and leaves both slices as they were. `ranks x ds ps`: the equations of x have these depths and priorities.
 -- `deep x i d`: equation i of x has depth d. `reaches x n`: n pairs are reachable. `has x n`: x has n items. `checks c d`: a single check gives d.
--- `restricts g a h ns`: the restriction of g answers the words a and leaves the game h, with zeros past it, the map ns and a work slice of zeros
+-- `restricts g a h ns`: the restriction of g answers the words a and leaves the game h, with zeros past it, the map ns and a work slice of zeros.
+-- `prints b t`: the thin program that reads the bytes b writes the bytes t
 pub data Case : Type 0 where
   runs : Input → Room → ℕ → Answer → List ℕ → Case
   refuses : Input → Room → ℕ → ℕ → Case
@@ -72,6 +74,7 @@ pub data Case : Type 0 where
   counts : Input → ℕ → Case
   checks : Check → Check → Case
   restricts : List ℕ → List ℕ → List ℕ → List ℕ → Case
+  prints : List ℕ → List ℕ → Case
 
 -- the slices are lent with a 9 in each word
 abbrev nines : ℕ → List ℕ
@@ -93,6 +96,7 @@ Holds (checks c d) = c ≡ d
 Holds (restricts g a h ns) =
     restriction g (nines (length g)) (nines (vertexCount g)) (nines (vertexCount g))
     ≡ record { answer = a; out = padded (length g) h; numbers = ns; work = replicate (vertexCount g) 0 }
+Holds (prints bytes text) = printed bytes ≡ text
 
 abbrev pub All : List Case → Type 0
 All [] = Unit {0}
@@ -333,8 +337,26 @@ restrictions =
     ∷ checks (restrictionRefusal (1 ∷ 0 ∷ 0 ∷ 1 ∷ 0 ∷ 0 ∷ 0 ∷ []) 7 1 2) (Fault 2 0)
     ∷ []
 
+-- what the thin program prints
+abbrev pub programs : List Case
+programs =
+    -- case 1, whole
+    prints (4 ∷ 0 ∷ 0 ∷ 0 ∷ 6 ∷ 0 ∷ 0 ∷ 0 ∷ 3 ∷ 0 ∷ 0 ∷ 0 ∷ 7 ∷ 0 ∷ 0 ∷ 0 ∷ 1 ∷ 0 ∷ 0 ∷ 0 ∷ 1 ∷ 0 ∷ 0 ∷ 0 ∷ 0 ∷ 0 ∷ 0 ∷ 0 ∷ 7 ∷ 0 ∷ 0 ∷ 0 ∷ 1 ∷ 0 ∷ 0 ∷ 0 ∷ 1 ∷ 0 ∷ 0 ∷ 0 ∷ 0 ∷ 0 ∷ 0 ∷ 0 ∷ 1 ∷ 0 ∷ 0 ∷ 0 ∷ 0 ∷ 0 ∷ 0 ∷ 0 ∷ 0 ∷ 0 ∷ 0 ∷ 0 ∷ 1 ∷ 0 ∷ 0 ∷ 0 ∷ 2 ∷ 0 ∷ 0 ∷ 0 ∷ 0 ∷ 0 ∷ 0 ∷ 0 ∷ 3 ∷ 0 ∷ 0 ∷ 0 ∷ 7 ∷ 0 ∷ 0 ∷ 0 ∷ 5 ∷ 0 ∷ 0 ∷ 0 ∷ 8 ∷ 0 ∷ 0 ∷ 0 ∷ 0 ∷ 0 ∷ 0 ∷ 0 ∷ 0 ∷ 0 ∷ 0 ∷ 0 ∷ 0 ∷ 0 ∷ 0 ∷ 0 ∷ []) (100 ∷ 111 ∷ 110 ∷ 101 ∷ 32 ∷ 51 ∷ 32 ∷ 51 ∷ 32 ∷ 51 ∷ 10 ∷ 48 ∷ 32 ∷ 48 ∷ 32 ∷ 48 ∷ 32 ∷ 49 ∷ 10 ∷ 49 ∷ 32 ∷ 48 ∷ 32 ∷ 48 ∷ 32 ∷ 50 ∷ 10 ∷ 50 ∷ 32 ∷ 49 ∷ 32 ∷ 48 ∷ 32 ∷ 48 ∷ 10 ∷ [])
+    -- the formula true (D4)
+    ∷ prints (4 ∷ 0 ∷ 0 ∷ 0 ∷ 6 ∷ 0 ∷ 0 ∷ 0 ∷ 3 ∷ 0 ∷ 0 ∷ 0 ∷ 3 ∷ 0 ∷ 0 ∷ 0 ∷ 1 ∷ 0 ∷ 0 ∷ 0 ∷ 1 ∷ 0 ∷ 0 ∷ 0 ∷ 0 ∷ 0 ∷ 0 ∷ 0 ∷ 7 ∷ 0 ∷ 0 ∷ 0 ∷ 1 ∷ 0 ∷ 0 ∷ 0 ∷ 1 ∷ 0 ∷ 0 ∷ 0 ∷ 0 ∷ 0 ∷ 0 ∷ 0 ∷ 1 ∷ 0 ∷ 0 ∷ 0 ∷ 0 ∷ 0 ∷ 0 ∷ 0 ∷ 0 ∷ 0 ∷ 0 ∷ 0 ∷ 1 ∷ 0 ∷ 0 ∷ 0 ∷ 2 ∷ 0 ∷ 0 ∷ 0 ∷ 0 ∷ 0 ∷ 0 ∷ 0 ∷ 1 ∷ 0 ∷ 0 ∷ 0 ∷ 0 ∷ 0 ∷ 0 ∷ 0 ∷ 0 ∷ 0 ∷ 0 ∷ 0 ∷ []) (100 ∷ 111 ∷ 110 ∷ 101 ∷ 32 ∷ 50 ∷ 32 ∷ 50 ∷ 32 ∷ 50 ∷ 10 ∷ 48 ∷ 32 ∷ 49 ∷ 32 ∷ 49 ∷ 32 ∷ 49 ∷ 10 ∷ 49 ∷ 32 ∷ 49 ∷ 32 ∷ 48 ∷ 32 ∷ 49 ∷ 10 ∷ [])
+    -- no bytes, three words (D2), a broken last word, lengths that disagree, lengths whose sum wraps
+    ∷ prints ([]) (114 ∷ 101 ∷ 102 ∷ 117 ∷ 115 ∷ 101 ∷ 100 ∷ 32 ∷ 50 ∷ 32 ∷ 48 ∷ 10 ∷ [])
+    ∷ prints (0 ∷ 0 ∷ 0 ∷ 0 ∷ 0 ∷ 0 ∷ 0 ∷ 0 ∷ 0 ∷ 0 ∷ 0 ∷ 0 ∷ []) (114 ∷ 101 ∷ 102 ∷ 117 ∷ 115 ∷ 101 ∷ 100 ∷ 32 ∷ 50 ∷ 32 ∷ 48 ∷ 10 ∷ [])
+    ∷ prints (4 ∷ 0 ∷ 0 ∷ 0 ∷ 6 ∷ 0 ∷ 0 ∷ 0 ∷ 3 ∷ 0 ∷ 0 ∷ 0 ∷ 7 ∷ 0 ∷ 0 ∷ 0 ∷ 1 ∷ 0 ∷ 0 ∷ 0 ∷ 1 ∷ 0 ∷ 0 ∷ 0 ∷ 0 ∷ 0 ∷ 0 ∷ 0 ∷ 7 ∷ 0 ∷ 0 ∷ 0 ∷ 1 ∷ 0 ∷ 0 ∷ 0 ∷ 1 ∷ 0 ∷ 0 ∷ 0 ∷ 0 ∷ 0 ∷ 0 ∷ 0 ∷ 1 ∷ 0 ∷ 0 ∷ 0 ∷ 0 ∷ 0 ∷ 0 ∷ 0 ∷ 0 ∷ 0 ∷ 0 ∷ 0 ∷ 1 ∷ 0 ∷ 0 ∷ 0 ∷ 2 ∷ 0 ∷ 0 ∷ 0 ∷ 0 ∷ 0 ∷ 0 ∷ 0 ∷ 3 ∷ 0 ∷ 0 ∷ 0 ∷ 7 ∷ 0 ∷ 0 ∷ 0 ∷ 5 ∷ 0 ∷ 0 ∷ 0 ∷ 8 ∷ 0 ∷ 0 ∷ 0 ∷ 0 ∷ 0 ∷ 0 ∷ 0 ∷ 0 ∷ 0 ∷ 0 ∷ 0 ∷ 0 ∷ 0 ∷ 0 ∷ 0 ∷ 0 ∷ []) (114 ∷ 101 ∷ 102 ∷ 117 ∷ 115 ∷ 101 ∷ 100 ∷ 32 ∷ 50 ∷ 32 ∷ 48 ∷ 10 ∷ [])
+    ∷ prints (1 ∷ 0 ∷ 0 ∷ 0 ∷ 0 ∷ 0 ∷ 0 ∷ 0 ∷ 0 ∷ 0 ∷ 0 ∷ 0 ∷ 0 ∷ 0 ∷ 0 ∷ 0 ∷ []) (114 ∷ 101 ∷ 102 ∷ 117 ∷ 115 ∷ 101 ∷ 100 ∷ 32 ∷ 50 ∷ 32 ∷ 48 ∷ 10 ∷ [])
+    ∷ prints (0 ∷ 0 ∷ 0 ∷ 128 ∷ 0 ∷ 0 ∷ 0 ∷ 128 ∷ 0 ∷ 0 ∷ 0 ∷ 0 ∷ 0 ∷ 0 ∷ 0 ∷ 0 ∷ []) (114 ∷ 101 ∷ 102 ∷ 117 ∷ 115 ∷ 101 ∷ 100 ∷ 32 ∷ 50 ∷ 32 ∷ 48 ∷ 10 ∷ [])
+    -- four empty slices (D3), the initial state 1 of 1 (A2)
+    ∷ prints (0 ∷ 0 ∷ 0 ∷ 0 ∷ 0 ∷ 0 ∷ 0 ∷ 0 ∷ 0 ∷ 0 ∷ 0 ∷ 0 ∷ 0 ∷ 0 ∷ 0 ∷ 0 ∷ []) (114 ∷ 101 ∷ 102 ∷ 117 ∷ 115 ∷ 101 ∷ 100 ∷ 32 ∷ 49 ∷ 49 ∷ 32 ∷ 48 ∷ 10 ∷ [])
+    ∷ prints (4 ∷ 0 ∷ 0 ∷ 0 ∷ 6 ∷ 0 ∷ 0 ∷ 0 ∷ 3 ∷ 0 ∷ 0 ∷ 0 ∷ 3 ∷ 0 ∷ 0 ∷ 0 ∷ 1 ∷ 0 ∷ 0 ∷ 0 ∷ 1 ∷ 0 ∷ 0 ∷ 0 ∷ 0 ∷ 0 ∷ 0 ∷ 0 ∷ 7 ∷ 0 ∷ 0 ∷ 0 ∷ 1 ∷ 0 ∷ 0 ∷ 0 ∷ 1 ∷ 0 ∷ 0 ∷ 0 ∷ 1 ∷ 0 ∷ 0 ∷ 0 ∷ 1 ∷ 0 ∷ 0 ∷ 0 ∷ 0 ∷ 0 ∷ 0 ∷ 0 ∷ 0 ∷ 0 ∷ 0 ∷ 0 ∷ 1 ∷ 0 ∷ 0 ∷ 0 ∷ 2 ∷ 0 ∷ 0 ∷ 0 ∷ 0 ∷ 0 ∷ 0 ∷ 0 ∷ 1 ∷ 0 ∷ 0 ∷ 0 ∷ 0 ∷ 0 ∷ 0 ∷ 0 ∷ 0 ∷ 0 ∷ 0 ∷ 0 ∷ []) (114 ∷ 101 ∷ 102 ∷ 117 ∷ 115 ∷ 101 ∷ 100 ∷ 32 ∷ 50 ∷ 51 ∷ 32 ∷ 50 ∷ 10 ∷ [])
+    ∷ []
+
 -- the rules give what is said of each case
-pub cases : All starred × All games × All refused × All limits × All handed × All restrictions
+pub cases : All starred × All games × All refused × All limits × All handed × All restrictions × All programs
 unfolding from sum largest zeros tally every seek sumWords has place insert insertAll once mostLabels mostActions mostStates mostTransitions mostNodes
     mostVertices mostEdges gameLength workLength said faultIf andThen firstFault times sameLabel multiset firstTransition transitions decodeAction
     actionNode actionArity decodeFormula formulaNode formulaArity endOfTrees treeEnd isEnd isNotEnd isBeforeEnd comesTo onRow actionOf actionTo
@@ -347,6 +369,8 @@ unfolding from sum largest zeros tally every seek sumWords has place insert inse
     badActionOperand refusal34 refusal41 refusal42 refusal43 namesNoTree wrongFormulaOperand badFormulaOperand wrongEnd refusal44 encloses
     wrongReference refusal45 inputRefusal refusal walkOf verticesOf exceeds doneOrCut finished outOfRoom walked refusedOr run refusal51 falls refusal52 refusal53
     gameRefusal searchFrom reachedVertices newNumber keptVertex keptVertices vertexMap restrictionRefusal restrictedTo restrictedOr restriction
+    wordOf joined wordsOf disagree slicesOf gateRoom gateRun digitsTo decimal spaced doneText cutText refusedText line vertexLine vertexLines
+    report reported printedWords printed
 cases = (
   refl & refl & refl & refl & refl & refl & refl & refl & refl & refl & (refl & refl) & refl & refl & tt,
   refl & refl & refl & refl & refl & refl & refl & (refl & refl) & refl & refl & refl & refl & refl & refl & refl & refl & refl & refl & refl & refl & tt,
@@ -358,4 +382,5 @@ cases = (
       refl & refl & refl & refl & refl & tt,
   refl & refl & refl & refl & refl & refl & refl & refl & refl & refl & refl & refl & refl & refl & tt,
   refl & refl & refl & refl & refl & refl & refl & refl & refl & refl & tt,
+  refl & refl & refl & refl & refl & refl & refl & refl & refl & tt,
 )

@@ -19,3 +19,4 @@ pub mod Good
 pub mod Demands
 pub mod Restrict
 pub mod Restricts
+pub mod Program

@@ -92,7 +92,13 @@ pub fn tree_ends(ws: &[u32], formula: bool, ends: &mut [usize; 1026])
 }
 
 // The operand `right` of a node v with two children is not the second one, just past the tree of the first. It is not judged if that tree is unfinished.
-pub fn not_right_child(ws: &[u32], formula: bool, ends: &[usize; 1026], v: usize, right: usize) -> bool
+pub fn not_right_child(
+    ws: &[u32],
+    formula: bool,
+    ends: &[usize; 1026],
+    v: usize,
+    right: usize,
+) -> bool
     requires { ⌜ Sized (now ws) × (v < size (now ws)) ⌝ }
     requires { ⌜ Ends (childrenOf formula (now ws)) (size (now ws)) (now ends) ⌝ }
     ensures { λ r. ⌜ r ≡ isNotEnd right (treeEnd (childrenOf formula (now (ws .entry))) (size (now (ws .entry))) (v + 1)) ⌝ }

@@ -153,9 +153,11 @@ module _ (rank : Ranking) (x : Input) (k : ℕ) (facts : WalkFacts samePair (tar
   unfolding walkOf N reachablePairs
   all-settled l p r =
       let m = facts .complete l p r in
-      let b = place-below pair-equality p (st .known) m in
-      (place samePair p (st .known), (b, place-at pair-equality p (st .known) (initialPair x) m),
-      shows (place samePair p (st .known)) b (no-member (st .waiting) (facts .ended .1 l) (place samePair p (st .known))))
+      let b = place-below pair-equality p (st .known) m in (
+        place samePair p (st .known),
+        (b, place-at pair-equality p (st .known) (initialPair x) m),
+        shows (place samePair p (st .known)) b (no-member (st .waiting) (facts .ended .1 l) (place samePair p (st .known))),
+      )
 
   whole : Whole g
   whole = whole-game vs (length game) room

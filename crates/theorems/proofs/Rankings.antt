@@ -118,9 +118,11 @@ module _ (a b : Ranking) (x : Input) (r : Room) (k : ℕ) (game work : List ℕ)
       go (inr n) =
           let ra = row-settled samePair (targets x) (initialPair x) (owner x) (priority a x) st (length game) v h n in
           let rb = row-settled samePair (targets x) (initialPair x) (owner x) (priority b x) st (length game) v h n in
-          let (o, e, q) = settled-alike v (owner x p) (priority a x p) (priority b x p) es in
-          (ra .owned ∙ o ∙ sym (rb .owned), ra .leads ∙ e ∙ sym (rb .leads),
-          ⊎-elim (λ l. inr l) (λ s. inl (ra .ranked ∙ q s ∙ sym (rb .ranked))) (priority-elsewhere a b x p))
+          let (o, e, q) = settled-alike v (owner x p) (priority a x p) (priority b x p) es in (
+            ra .owned ∙ o ∙ sym (rb .owned),
+            ra .leads ∙ e ∙ sym (rb .leads),
+            ⊎-elim (λ l. inr l) (λ s. inl (ra .ranked ∙ q s ∙ sym (rb .ranked))) (priority-elsewhere a b x p),
+          )
 
   abbrev Claim : Outcome → Outcome → Type 0
   Claim = SameButRanks x k

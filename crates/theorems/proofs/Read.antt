@@ -75,8 +75,8 @@ module _ (vs : List Vertex) (n : ℕ) (room : length (gameOf vs) ≤ n) where
             ∙ omega (arith, offset-read vs rest v (omega arith), ap length (targets-read vs rest v waitingVertex l));
         ends = (
           ap (λ (v : ℕ). offsetIn (gameOf vs ++ rest) v) (count-read vs rest)
-          ∙ offset-read vs rest (length vs) (omega arith)
-          ∙ ap edgeCount (take-all (length vs) vs (omega arith)) ∙ sym (edges-word rest),
+              ∙ offset-read vs rest (length vs) (omega arith)
+              ∙ ap edgeCount (take-all (length vs) vs (omega arith)) ∙ sym (edges-word rest),
           omega (arith, end-read, length-append (gameOf vs) rest),
         );
         past = λ i h. zeros-past (gameOf vs) (n - length (gameOf vs)) i (omega (arith, end-read));

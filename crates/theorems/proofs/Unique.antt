@@ -46,9 +46,11 @@ module _ (rank : Ranking) (x : Input) (g h : List ℕ) (ps : List Pair) (d : Dis
       (b .total)
 
   row-once : (ownerIn g v ≡ ownerIn h v) × (priorityIn g v ≡ priorityIn h v) × (targetsIn g v ≡ targetsIn h v)
-  row-once =
-      (a .owned ∙ sym (b .owned), shown-once .0,
-      a .edges ∙ ap (λ (es : List ℕ). es ++ a .added) ruled-once ∙ ap (λ (es : List ℕ). b .ruled ++ es) (shown-once .1) ∙ sym (b .edges))
+  row-once = (
+    a .owned ∙ sym (b .owned),
+    shown-once .0,
+    a .edges ∙ ap (λ (es : List ℕ). es ++ a .added) ruled-once ∙ ap (λ (es : List ℕ). b .ruled ++ es) (shown-once .1) ∙ sym (b .edges),
+  )
 
 module _ (rank : Ranking) (x : Input) (k : ℕ) (a b g h : List ℕ) (ps qs : List Pair) (long : length g ≡ length h) (c : CutTheorem rank x k a g ps) (d : CutTheorem rank x k b h qs) where
   pub pairs-once : ps ≡ qs
@@ -94,8 +96,9 @@ module _ (rank : Ranking) (x : Input) (k : ℕ) (a b g h : List ℕ) (ps qs : Li
 
   -- the four words of the answers are equal
   pub answer-once : (word a 0 ≡ word b 0) × (word a 1 ≡ word b 1) × (word a 2 ≡ word b 2) × (word a 3 ≡ word b 3)
-  answer-once =
-      (c .cut ∙ sym (d .cut),
-      c .steps ∙ c .counted ∙ sym (d .steps ∙ d .counted),
-      c .sizes .0 ∙ counts ∙ sym (d .sizes .0),
-      c .sizes .1 ∙ ap edgesIn game-once ∙ sym (d .sizes .1))
+  answer-once = (
+    c .cut ∙ sym (d .cut),
+    c .steps ∙ c .counted ∙ sym (d .steps ∙ d .counted),
+    c .sizes .0 ∙ counts ∙ sym (d .sizes .0),
+    c .sizes .1 ∙ ap edgesIn game-once ∙ sym (d .sizes .1),
+  )

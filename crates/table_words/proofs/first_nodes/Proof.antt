@@ -56,8 +56,7 @@ loop-again : tie.Need-loop-again Inv-loop μ-loop
 loop-again c = let s = c .before .before .before .before .before in
     let l = c .before .before .loop in
     let n = size (now (s .args .ws)) in
-    let k = s .pre .1 .0 (l .v) (omega arith) in
-    (
+    let k = s .pre .1 .0 (l .v) (omega arith) in (
       omega (arith, end-number-most (childrenOf (s .args .formula) (now (s .args .ws))) n (l .v)),
       simp length-set (l .inv .1),
       firsts-more (childrenOf (s .args .formula) (now (s .args .ws))) n (l .v) _ (l .firsts) k (omega arith) (omega arith) (l .inv .2),
