@@ -7,12 +7,12 @@ use mathlib.Core.Path.{_≡_, refl, sym, ap, _∙_}
 use mathlib.Core.Bool.{Bool, true, false, not, _||_}
 use mathlib.Core.List.{List}
 use lib.ListN.{length, getD}
-use lib.Dec.{eqb, ltb, leb}
+use lib.Dec.{eqb, ltb}
 use borrow.Author.Tests.{lt-ltb, le-ltb, eq-eqb, ne-eqb, le-leb, lt-leb}
 use Rattle.rules.specs.declared.Check.the-variants.{Passed, Fault}
 use Rattle.rules.specs.Answers.{faultIf}
 use Rattle.rules.specs.Words.{mostNodes}
-use Rattle.rules.specs.Table.{size, kind, operand, actionChildren, formulaNode, formulaChildren, treeEnd, isNotEnd, onRow}
+use Rattle.rules.specs.Table.{size, kind, operand, actionChildren, formulaNode, formulaChildren, treeEnd, isNotEnd}
 use Rattle.rules.specs.Refusal.{faultFrom, differ, namesNoTree, wrongFormulaOperand, badFormulaOperand, refusal41, refusal42, refusal43}
 use Rattle.tables.specs.Ends.{endOf}
 use Rattle.tables.proofs.Faults.{if-true, if-false}

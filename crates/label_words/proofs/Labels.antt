@@ -1,17 +1,15 @@
 -- The refusals 11 and 12 of the label words, one law for each answer of the code, and what words that passed have. Assumes nothing.
 use Prim.Native.Nat.{ℕ, _+_, _*_, _<_, _≤_}
-use native.Mathlib.Omega.{arith}
 use mathlib.Core.Path.{_≡_}
-use mathlib.Core.Bool.{Bool, false}
 use mathlib.Core.List.{List, [], _∷_}
 use lib.ListN.{length}
 use lib.Dec.{ltb}
 use borrow.Author.Tests.{lt-ltb, le-ltb, ltb-false}
 use Rattle.rules.specs.declared.Check.the-variants.{Passed, Fault}
-use Rattle.rules.specs.Answers.{faultIf, firstFault}
+use Rattle.rules.specs.Answers.{firstFault}
 use Rattle.rules.specs.Words.{mostLabels, mostActions}
 use Rattle.rules.specs.Labels.{labelCount, actionCount}
-use Rattle.rules.specs.Refusal.{differ, refusal11, refusal12, refusal13}
+use Rattle.rules.specs.Refusal.{refusal11, refusal12, refusal13}
 use Rattle.tables.proofs.Faults.{if-true, if-false, if-passed, first-passed}
 use Rattle.faults.proofs.Choices.{or-left, or-right, or-none, or-false, differ-yes, differ-no}
 

@@ -1,15 +1,8 @@
-use native.Mathlib.Omega.{arith}
 use mathlib.Core.Path.{_∙_}
 use Rattle.action_words.proofs.Actions.{constant-operand, label-operand, right-operand, negation-operand, unknown-operand}
 use borrow.Author.Needs.{needs}
 use Rattle.action_words.proofs.bad_operand.Statement.{statement}
 use Rattle.action_words.proofs.bad_operand.Tie as tie
-use Rattle.action_words.proofs.bad_operand.Reads as reads
-use Rattle.action_words.proofs.bad_operand.Lts as lts
-use Rattle.table_words.proofs.kind_at.Reads as kind-at-reads
-use Rattle.table_words.proofs.not_right_child.Reads as not-right-child-reads
-use Rattle.table_words.proofs.operand_at.Reads as operand-at-reads
-use Rattle.words.proofs.at.Reads as at-reads
 
 -- src/lib.rt:18:9
 kind-at-requires : tie.Need-kind-at-requires

@@ -6,11 +6,6 @@ use Rattle.action_words.proofs.Actions.{no-words, other-length, right-l
 use borrow.Author.Needs.{needs}
 use Rattle.action_words.proofs.check_actions.Statement.{statement}
 use Rattle.action_words.proofs.check_actions.Tie as tie
-use Rattle.action_words.proofs.check_actions.Reads as reads
-use Rattle.action_words.proofs.check_actions.Lts as lts
-use Rattle.action_words.proofs.check_trees.Reads as check-trees-reads
-use Rattle.table_words.proofs.check_kinds.Reads as check-kinds-reads
-use Rattle.words.proofs.at.Reads as at-reads
 
 -- src/lib.rt:78:9
 returns : tie.Need-returns

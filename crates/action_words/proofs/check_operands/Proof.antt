@@ -2,22 +2,17 @@ use Rattle.action_words.proofs.Actions.{row-whole, row-broken}
 use Rattle.faults.proofs.Chains.{then-same}
 use Prim.Native.Nat.{_-_}
 use native.Mathlib.Omega.{arith}
-use mathlib.Core.Path.{_≡_, refl, sym, _∙_, ap}
+use mathlib.Core.Path.{_≡_, sym, _∙_}
 use mathlib.Core.Bool.{not}
 use denote.Ref.{now}
-use Rattle.rules.specs.declared.Check.the-variants.{Fault}
 use Rattle.rules.specs.Answers.{faultIf, andThen}
 use Rattle.rules.specs.Table.{size, actionChildren, onRow}
 use Rattle.rules.specs.Refusal.{faultFrom, badActionOperand, refusal34}
-use Rattle.tables.proofs.Faults.{if-true, if-false, from-stop, from-next, from-done, then-fault, then-passed}
+use Rattle.tables.proofs.Faults.{from-stop, from-next, from-done, then-fault, then-passed}
 use Rattle.tables.proofs.Pools.{refusal34-scan}
 use borrow.Author.Needs.{needs}
 use Rattle.action_words.proofs.check_operands.Statement.{statement}
 use Rattle.action_words.proofs.check_operands.Tie as tie
-use Rattle.action_words.proofs.check_operands.Reads as reads
-use Rattle.action_words.proofs.check_operands.Lts as lts
-use Rattle.action_words.proofs.bad_operand.Reads as bad-operand-reads
-use Rattle.words.proofs.at.Reads as at-reads
 
 abbrev Inv-loop : tie.InvT-loop
 Inv-loop labels acts ends firsts m v₀ v = refusal34 labels acts ≡ andThen (faultFrom 34 v (size acts) (badActionOperand labels acts)) (faultIf 34 (size acts) (not (onRow (actionChildren acts) (size acts) (size acts))))

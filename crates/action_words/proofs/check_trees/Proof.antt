@@ -4,11 +4,6 @@ use Rattle.table_words.proofs.Row.{blank}
 use borrow.Author.Needs.{needs}
 use Rattle.action_words.proofs.check_trees.Statement.{statement}
 use Rattle.action_words.proofs.check_trees.Tie as tie
-use Rattle.action_words.proofs.check_trees.Reads as reads
-use Rattle.action_words.proofs.check_trees.Lts as lts
-use Rattle.action_words.proofs.check_operands.Reads as check-operands-reads
-use Rattle.table_words.proofs.first_nodes.Reads as first-nodes-reads
-use Rattle.table_words.proofs.tree_ends.Reads as tree-ends-reads
 
 -- src/lib.rt:66:5
 tree-ends-requires : tie.Need-tree-ends-requires

@@ -3,12 +3,6 @@ use Rattle.formula_words.proofs.Formula.{constant-operand, right-operan
 use borrow.Author.Needs.{needs}
 use Rattle.formula_words.proofs.bad_operand.Statement.{statement}
 use Rattle.formula_words.proofs.bad_operand.Tie as tie
-use Rattle.formula_words.proofs.bad_operand.Reads as reads
-use Rattle.formula_words.proofs.bad_operand.Lts as lts
-use Rattle.formula_words.proofs.names_no_tree.Reads as names-no-tree-reads
-use Rattle.table_words.proofs.kind_at.Reads as kind-at-reads
-use Rattle.table_words.proofs.not_right_child.Reads as not-right-child-reads
-use Rattle.table_words.proofs.operand_at.Reads as operand-at-reads
 
 -- src/lib.rt:35:9
 kind-at-requires : tie.Need-kind-at-requires

@@ -3,11 +3,6 @@ use Rattle.formula_words.proofs.References.{no-reference, later, low, h
 use borrow.Author.Needs.{needs}
 use Rattle.formula_words.proofs.bad_reference.Statement.{statement}
 use Rattle.formula_words.proofs.bad_reference.Tie as tie
-use Rattle.formula_words.proofs.bad_reference.Reads as reads
-use Rattle.formula_words.proofs.bad_reference.Lts as lts
-use Rattle.table_words.proofs.kind_at.Reads as kind-at-reads
-use Rattle.table_words.proofs.operand_at.Reads as operand-at-reads
-use Rattle.words.proofs.at.Reads as at-reads
 
 -- src/lib.rt:86:8
 kind-at-requires : tie.Need-kind-at-requires

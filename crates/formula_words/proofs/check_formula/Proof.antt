@@ -5,11 +5,6 @@ use Rattle.formula_words.proofs.Formula.{no-words, other-length, right-
 use borrow.Author.Needs.{needs}
 use Rattle.formula_words.proofs.check_formula.Statement.{statement}
 use Rattle.formula_words.proofs.check_formula.Tie as tie
-use Rattle.formula_words.proofs.check_formula.Reads as reads
-use Rattle.formula_words.proofs.check_formula.Lts as lts
-use Rattle.formula_words.proofs.check_trees.Reads as check-trees-reads
-use Rattle.table_words.proofs.check_kinds.Reads as check-kinds-reads
-use Rattle.words.proofs.at.Reads as at-reads
 
 -- src/lib.rt:146:9
 returns : tie.Need-returns

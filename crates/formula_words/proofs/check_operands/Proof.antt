@@ -15,10 +15,6 @@ use Rattle.formula_words.proofs.Formula.{unfinished, finished, bad-node
 use borrow.Author.Needs.{needs}
 use Rattle.formula_words.proofs.check_operands.Statement.{statement}
 use Rattle.formula_words.proofs.check_operands.Tie as tie
-use Rattle.formula_words.proofs.check_operands.Reads as reads
-use Rattle.formula_words.proofs.check_operands.Lts as lts
-use Rattle.formula_words.proofs.bad_operand.Reads as bad-operand-reads
-use Rattle.words.proofs.at.Reads as at-reads
 
 abbrev Inv-loop : tie.InvT-loop
 Inv-loop acts firsts f ends n end v₀ v = refusal44 acts f ≡ andThen (faultFrom 44 v (size f) (λ j. badFormulaOperand acts f j || eqb j (endOf (formulaChildren f) (size f) 0))) (faultIf 44 (size f) (ltb (size f) (endOf (formulaChildren f) (size f) 0)))

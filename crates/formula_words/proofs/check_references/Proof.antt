@@ -8,10 +8,6 @@ use Rattle.formula_words.proofs.References.{references-45}
 use borrow.Author.Needs.{needs}
 use Rattle.formula_words.proofs.check_references.Statement.{statement}
 use Rattle.formula_words.proofs.check_references.Tie as tie
-use Rattle.formula_words.proofs.check_references.Reads as reads
-use Rattle.formula_words.proofs.check_references.Lts as lts
-use Rattle.formula_words.proofs.bad_reference.Reads as bad-reference-reads
-use Rattle.words.proofs.at.Reads as at-reads
 
 abbrev Inv-loop : tie.InvT-loop
 Inv-loop f ends n v₀ v = refusal45 f ≡ faultFrom 45 v (size f) (λ j. wrongReference f j (formulaNode f j))

@@ -7,12 +7,6 @@ use Rattle.table_words.proofs.Row.{blank}
 use borrow.Author.Needs.{needs}
 use Rattle.formula_words.proofs.check_trees.Statement.{statement}
 use Rattle.formula_words.proofs.check_trees.Tie as tie
-use Rattle.formula_words.proofs.check_trees.Reads as reads
-use Rattle.formula_words.proofs.check_trees.Lts as lts
-use Rattle.formula_words.proofs.check_operands.Reads as check-operands-reads
-use Rattle.formula_words.proofs.check_references.Reads as check-references-reads
-use Rattle.table_words.proofs.first_nodes.Reads as first-nodes-reads
-use Rattle.table_words.proofs.tree_ends.Reads as tree-ends-reads
 
 -- src/lib.rt:129:5
 tree-ends-requires : tie.Need-tree-ends-requires

@@ -1,12 +1,8 @@
-use native.Mathlib.Omega.{arith}
 use denote.Ref.{now}
 use Rattle.formula_words.proofs.Formula.{no-action, some-action}
 use borrow.Author.Needs.{needs}
 use Rattle.formula_words.proofs.names_no_tree.Statement.{statement}
 use Rattle.formula_words.proofs.names_no_tree.Tie as tie
-use Rattle.formula_words.proofs.names_no_tree.Reads as reads
-use Rattle.formula_words.proofs.names_no_tree.Lts as lts
-use Rattle.words.proofs.at.Reads as at-reads
 
 -- src/lib.rt:17:8
 at-requires : tie.Need-at-requires

@@ -3,8 +3,6 @@ use Rattle.rules.specs.Refusal.{badLabel}
 use borrow.Author.Needs.{needs}
 use Rattle.label_words.proofs.bad_label.Statement.{statement}
 use Rattle.label_words.proofs.bad_label.Tie as tie
-use Rattle.label_words.proofs.bad_label.Reads as reads
-use Rattle.label_words.proofs.bad_label.Lts as lts
 
 -- src/lib.rt:16:8
 shared-slice-read-if1 : tie.Need-shared-slice-read-if1

@@ -6,10 +6,6 @@ use Rattle.label_words.proofs.Labels.{few-words, other-length, right-le
 use borrow.Author.Needs.{needs}
 use Rattle.label_words.proofs.check_labels.Statement.{statement}
 use Rattle.label_words.proofs.check_labels.Tie as tie
-use Rattle.label_words.proofs.check_labels.Reads as reads
-use Rattle.label_words.proofs.check_labels.Lts as lts
-use Rattle.label_words.proofs.check_numbers.Reads as check-numbers-reads
-use Rattle.words.proofs.at.Reads as at-reads
 
 -- src/lib.rt:43:9
 returns : tie.Need-returns

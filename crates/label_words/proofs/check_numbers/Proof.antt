@@ -7,10 +7,6 @@ use Rattle.tables.proofs.Faults.{from-stop, from-next, from-done}
 use borrow.Author.Needs.{needs}
 use Rattle.label_words.proofs.check_numbers.Statement.{statement}
 use Rattle.label_words.proofs.check_numbers.Tie as tie
-use Rattle.label_words.proofs.check_numbers.Reads as reads
-use Rattle.label_words.proofs.check_numbers.Lts as lts
-use Rattle.label_words.proofs.bad_label.Reads as bad-label-reads
-use Rattle.words.proofs.at.Reads as at-reads
 
 abbrev Inv-loop : tie.InvT-loop
 Inv-loop ls end p₀ p = (2 ≤ p) × (p ≤ 2 + actionCount ls) × (refusal13 ls ≡ faultFrom 13 p (2 + actionCount ls) (badLabel ls))

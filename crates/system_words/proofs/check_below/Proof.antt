@@ -1,4 +1,4 @@
-use Prim.Native.Nat.{_≤_, _-_, _+_}
+use Prim.Native.Nat.{_-_}
 use native.Mathlib.Omega.{arith}
 use mathlib.Core.Path.{_≡_, refl, sym, _∙_}
 use Rattle.rules.specs.Refusal.{faultFrom, tooLarge}
@@ -7,9 +7,6 @@ use Rattle.system_words.proofs.System.{large, small}
 use borrow.Author.Needs.{needs}
 use Rattle.system_words.proofs.check_below.Statement.{statement}
 use Rattle.system_words.proofs.check_below.Tie as tie
-use Rattle.system_words.proofs.check_below.Reads as reads
-use Rattle.system_words.proofs.check_below.Lts as lts
-use Rattle.words.proofs.at.Reads as at-reads
 
 abbrev Inv-loop : tie.InvT-loop
 Inv-loop ws first end bound number p₀ p = faultFrom number first end (tooLarge ws bound) ≡ faultFrom number p end (tooLarge ws bound)

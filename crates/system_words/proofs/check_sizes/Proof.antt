@@ -6,9 +6,6 @@ use Rattle.system_words.proofs.System.{few-words, other-length, right-l
 use borrow.Author.Needs.{needs}
 use Rattle.system_words.proofs.check_sizes.Statement.{statement}
 use Rattle.system_words.proofs.check_sizes.Tie as tie
-use Rattle.system_words.proofs.check_sizes.Reads as reads
-use Rattle.system_words.proofs.check_sizes.Lts as lts
-use Rattle.words.proofs.at.Reads as at-reads
 
 -- src/lib.rt:46:9
 returns : tie.Need-returns

@@ -1,4 +1,3 @@
-use native.Mathlib.Omega.{arith}
 use mathlib.Core.Path.{sym, _∙_}
 use mathlib.Core.List.{[], _∷_}
 use denote.Ref.{now}
@@ -8,10 +7,6 @@ use Rattle.system_words.proofs.System.{sizes-passed}
 use borrow.Author.Needs.{needs}
 use Rattle.system_words.proofs.check_system.Statement.{statement}
 use Rattle.system_words.proofs.check_system.Tie as tie
-use Rattle.system_words.proofs.check_system.Reads as reads
-use Rattle.system_words.proofs.check_system.Lts as lts
-use Rattle.system_words.proofs.check_sizes.Reads as check-sizes-reads
-use Rattle.system_words.proofs.check_transitions.Reads as check-transitions-reads
 
 -- src/lib.rt:93:9
 check-sizes-requires : tie.Need-check-sizes-requires

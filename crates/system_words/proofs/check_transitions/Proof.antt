@@ -6,11 +6,6 @@ use Rattle.system_words.proofs.System.{wrong-initial, right-initial, wr
 use borrow.Author.Needs.{needs}
 use Rattle.system_words.proofs.check_transitions.Statement.{statement}
 use Rattle.system_words.proofs.check_transitions.Tie as tie
-use Rattle.system_words.proofs.check_transitions.Reads as reads
-use Rattle.system_words.proofs.check_transitions.Lts as lts
-use Rattle.system_words.proofs.check_below.Reads as check-below-reads
-use Rattle.system_words.proofs.sum_words.Reads as sum-words-reads
-use Rattle.words.proofs.at.Reads as at-reads
 
 -- src/lib.rt:71:9
 at-requires : tie.Need-at-requires

@@ -1,16 +1,13 @@
 use mathlib.Core.Path.{ap}
-use Prim.Native.Nat.{_≤_, _*_, _-_, _+_}
+use Prim.Native.Nat.{_≤_, _*_, _-_}
 use native.Mathlib.Omega.{arith}
-use mathlib.Core.Path.{_≡_, refl, sym, _∙_}
+use mathlib.Core.Path.{_≡_, sym, _∙_}
 use denote.Ref.{now}
 use Rattle.rules.specs.Lists.{sumWords}
 use Rattle.system_words.proofs.System.{sum-none, sum-more}
 use borrow.Author.Needs.{needs}
 use Rattle.system_words.proofs.sum_words.Statement.{statement}
 use Rattle.system_words.proofs.sum_words.Tie as tie
-use Rattle.system_words.proofs.sum_words.Reads as reads
-use Rattle.system_words.proofs.sum_words.Lts as lts
-use Rattle.words.proofs.at.Reads as at-reads
 
 abbrev Inv-loop : tie.InvT-loop
 Inv-loop ws p n sum₀ i₀ sum i = (i ≤ n) × (sum ≤ 4294967295 * i) × (sum ≡ sumWords ws p i)

@@ -1,5 +1,5 @@
 use denote.Ref.{now}
-use Prim.Native.Nat.{_≤_, _-_, _+_}
+use Prim.Native.Nat.{_-_}
 use native.Mathlib.Omega.{arith}
 use mathlib.Core.Path.{_≡_, refl, sym, _∙_}
 use lib.Dec.{ltb}
@@ -10,10 +10,6 @@ use Rattle.tables.proofs.Faults.{from-stop, from-next, from-done}
 use borrow.Author.Needs.{needs}
 use Rattle.table_words.proofs.check_kinds.Statement.{statement}
 use Rattle.table_words.proofs.check_kinds.Tie as tie
-use Rattle.table_words.proofs.check_kinds.Reads as reads
-use Rattle.table_words.proofs.check_kinds.Lts as lts
-use Rattle.table_words.proofs.kind_at.Reads as kind-at-reads
-use Rattle.words.proofs.at.Reads as at-reads
 
 abbrev Inv-loop : tie.InvT-loop
 Inv-loop ws most number m v₀ v = faultFrom number 0 (size ws) (λ j. ltb most (kind ws j)) ≡ faultFrom number v (size ws) (λ j. ltb most (kind ws j))

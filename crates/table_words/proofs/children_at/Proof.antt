@@ -1,11 +1,7 @@
-use native.Mathlib.Omega.{arith}
 use Rattle.table_words.proofs.Arity.{formula-none, formula-two, formula-one, formula-other, action-none, action-two, action-one, action-other}
 use borrow.Author.Needs.{needs}
 use Rattle.table_words.proofs.children_at.Statement.{statement}
 use Rattle.table_words.proofs.children_at.Tie as tie
-use Rattle.table_words.proofs.children_at.Reads as reads
-use Rattle.table_words.proofs.children_at.Lts as lts
-use Rattle.table_words.proofs.kind_at.Reads as kind-at-reads
 
 -- src/lib.rt:35:9
 kind-at-requires : tie.Need-kind-at-requires

@@ -1,20 +1,15 @@
-use Prim.Native.Nat.{ℕ, _+_, _≤_, _-_}
+use Prim.Native.Nat.{_+_, _≤_, _-_}
 use native.Mathlib.Omega.{arith}
-use mathlib.Core.Path.{_≡_, sym, _∙_, ap, subst}
-use mathlib.Core.Bool.{true}
+use mathlib.Core.Path.{_≡_}
 use denote.Ref.{now}
-use lib.ListN.{length, getD, set, length-set}
+use lib.ListN.{length, length-set}
 use Rattle.rules.specs.Table.{size}
-use Rattle.tables.specs.Ends.{endOf}
 use Rattle.tables.proofs.Ends.{end-number-past, end-number-most}
 use Rattle.table_words.specs.Tables.{childrenOf}
 use Rattle.table_words.proofs.Row.{FirstsTo, firsts-start, firsts-more, firsts-all}
 use borrow.Author.Needs.{needs}
 use Rattle.table_words.proofs.first_nodes.Statement.{statement}
 use Rattle.table_words.proofs.first_nodes.Tie as tie
-use Rattle.table_words.proofs.first_nodes.Reads as reads
-use Rattle.table_words.proofs.first_nodes.Lts as lts
-use Rattle.words.proofs.at.Reads as at-reads
 
 abbrev Inv-loop : tie.InvT-loop
 Inv-loop ws formula ends firsts₀ m v₀ firsts v = (v ≤ size ws + 1) × (length firsts ≡ 1025) × FirstsTo (childrenOf formula ws) (size ws) v firsts

@@ -10,9 +10,6 @@ use Rattle.table_words.proofs.Arity.{children-most}
 use borrow.Author.Needs.{needs}
 use Rattle.table_words.proofs.node_end.Statement.{statement}
 use Rattle.table_words.proofs.node_end.Tie as tie
-use Rattle.table_words.proofs.node_end.Reads as reads
-use Rattle.table_words.proofs.node_end.Lts as lts
-use Rattle.table_words.proofs.children_at.Reads as children-at-reads
 
 -- src/lib.rt:67:9
 children-at-requires : tie.Need-children-at-requires

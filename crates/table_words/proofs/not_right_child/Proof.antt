@@ -7,9 +7,6 @@ use Rattle.tables.proofs.Ends.{not-end-finished, not-end-unfinished}
 use borrow.Author.Needs.{needs}
 use Rattle.table_words.proofs.not_right_child.Statement.{statement}
 use Rattle.table_words.proofs.not_right_child.Tie as tie
-use Rattle.table_words.proofs.not_right_child.Reads as reads
-use Rattle.table_words.proofs.not_right_child.Lts as lts
-use Rattle.words.proofs.at.Reads as at-reads
 
 -- src/lib.rt:100:20
 add-end : tie.Need-add-end

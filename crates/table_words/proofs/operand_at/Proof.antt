@@ -5,9 +5,6 @@ use Rattle.rules.specs.Lists.{word}
 use borrow.Author.Needs.{needs}
 use Rattle.table_words.proofs.operand_at.Statement.{statement}
 use Rattle.table_words.proofs.operand_at.Tie as tie
-use Rattle.table_words.proofs.operand_at.Reads as reads
-use Rattle.table_words.proofs.operand_at.Lts as lts
-use Rattle.words.proofs.at.Reads as at-reads
 
 -- src/lib.rt:26:9
 at-requires : tie.Need-at-requires

@@ -1,6 +1,6 @@
 use Prim.Native.Nat.{ℕ, _+_, _≤_, _-_}
 use native.Mathlib.Omega.{arith}
-use mathlib.Core.Path.{_≡_, sym, _∙_, ap}
+use mathlib.Core.Path.{_≡_}
 use denote.Ref.{now}
 use lib.ListN.{length, getD, set, length-set}
 use Rattle.rules.specs.Table.{size}
@@ -10,10 +10,6 @@ use Rattle.table_words.specs.Tables.{childrenOf}
 use borrow.Author.Needs.{needs}
 use Rattle.table_words.proofs.tree_ends.Statement.{statement}
 use Rattle.table_words.proofs.tree_ends.Tie as tie
-use Rattle.table_words.proofs.tree_ends.Reads as reads
-use Rattle.table_words.proofs.tree_ends.Lts as lts
-use Rattle.table_words.proofs.node_end.Reads as node-end-reads
-use Rattle.words.proofs.at.Reads as at-reads
 
 abbrev Inv-loop : tie.InvT-loop
 Inv-loop ws formula ends₀ m v₀ ends v = (v ≤ size ws) × (length ends ≡ 1026) × ((j : ℕ) → v ≤ j → j ≤ size ws + 1 → getD ends j 0 ≡ endOf (childrenOf formula ws) (size ws) j)

@@ -1,0 +1,4 @@
+pub mod Showing
+pub mod Placing
+pub mod ActionShapes
+pub mod FormulaShapes

@@ -1,0 +1,3 @@
+pub mod Steps
+pub mod Numbers
+pub mod Filling

@@ -1,0 +1,5 @@
+pub mod Pools
+pub mod Refusals
+pub mod Accepted
+pub mod Edges
+pub mod Stretches

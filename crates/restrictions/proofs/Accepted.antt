@@ -1,0 +1,139 @@
+-- A game that is not refused is good, and what its offsets and targets are then. Assumes nothing.
+use mathlib.Core.Path.{_≡_, refl, sym, ap, _∙_, subst}
+use mathlib.Core.Bool.{false}
+use mathlib.Core.List.{List}
+use mathlib.Core.Logic.{_⊎_, ⊎-elim}
+use Prim.Native.Nat.{ℕ, zero, suc, _+_, _-_, _*_, _≤_, _<_}
+use native.Mathlib.Omega.{arith}
+use lib.ListN.{length}
+use lib.Seq.{slice, slice-empty, slice-cons, length-slice}
+use lib.Dec.{eqb, ltb}
+use borrow.Author.Tests.{ltb-false, leb-false, eqb-false, eq-eqb}
+use Rattle.rules.specs.declared.Check.the-variants.{Passed}
+use Rattle.rules.specs.Lists.{word, In}
+use Rattle.rules.specs.Words.{mostVertices, mostEdges}
+use Rattle.rules.specs.Game.{vertexCount, edgesIn, initialIn, offsetIn, targetsAt, targetsIn}
+use Rattle.rules.specs.Refusal.{differ, tooLarge}
+use Rattle.rules.specs.GameRefusal.{refusal51, falls, refusal52, refusal53, gameRefusal}
+use Rattle.rules.specs.Restrict.{restrictionRefusal}
+use Rattle.tables.proofs.Faults.{if-passed, if-false, from-passed, first-passed, lower-both, then-both, then-passed}
+use Rattle.tables.proofs.Accepted.{neither, alike}
+use Rattle.restrictions.specs.GoodGame.{GoodGame}
+
+module _ (g : List ℕ) (r51 : refusal51 g ≡ Passed) (r52 : refusal52 g ≡ Passed) (r53 : refusal53 g ≡ Passed) where
+  sizes : (length g ≡ 4 + 3 * vertexCount g + edgesIn g) × (1 ≤ vertexCount g) × (vertexCount g ≤ 1_048_576) × (edgesIn g ≤ 4_194_304)
+  unfolding refusal51 mostVertices mostEdges
+  sizes =
+      let (short, a) = neither (ltb (length g) 3) _ (if-passed 51 0 _ r51) in
+      let (other, b) = neither (differ (length g) (4 + 3 * vertexCount g + edgesIn g)) _ a in
+      let (empty, c) = neither (eqb (vertexCount g) 0) _ b in
+      let (many, most) = neither (ltb mostVertices (vertexCount g)) (ltb mostEdges (edgesIn g)) c in
+      let some : ¬ (vertexCount g ≡ 0) = eqb-false (vertexCount g) 0 empty in
+      (alike (length g) (4 + 3 * vertexCount g + edgesIn g) other, go some, ltb-false 1_048_576 (vertexCount g) many, ltb-false 4_194_304 (edgesIn g) most)
+    where
+      go : (¬ (vertexCount g ≡ 0)) → 1 ≤ vertexCount g
+      go n = omega arith
+
+  steady : (w : ℕ) → 4 + 2 * vertexCount g ≤ w → w < 4 + 3 * vertexCount g → word g (w - 1) ≤ word g w
+  unfolding refusal52 falls
+  steady w a b =
+      ltb-false (word g w) (word g (w - 1))
+      (from-passed 52 (4 + 2 * vertexCount g) (4 + 3 * vertexCount g) (falls g) (lower-both _ _ (lower-both _ _ r52 .1) .0) w a b)
+
+  first-offset : offsetIn g 0 ≡ 0
+  unfolding refusal52
+  first-offset = alike (offsetIn g 0) 0 (if-passed 52 (3 + 2 * vertexCount g) _ (lower-both _ _ r52 .0))
+
+  last-offset : offsetIn g (vertexCount g) ≡ edgesIn g
+  unfolding refusal52
+  last-offset = alike (offsetIn g (vertexCount g)) (edgesIn g) (if-passed 52 (3 + 3 * vertexCount g) _ (lower-both _ _ (lower-both _ _ r52 .1) .1))
+
+  initial-small : initialIn g < vertexCount g
+  unfolding refusal53
+  initial-small = leb-false (vertexCount g) (initialIn g) (if-passed 53 2 _ (lower-both _ _ r53 .0))
+
+  owner-small : (w : ℕ) → 3 ≤ w → w < 3 + vertexCount g → word g w ≤ 1
+  unfolding refusal53
+  owner-small w a b = ltb-false 1 (word g w) (from-passed 53 3 (3 + vertexCount g) (λ w. ltb 1 (word g w)) (lower-both _ _ (lower-both _ _ r53 .1) .0) w a b)
+
+  target-small : (w : ℕ) → 4 + 3 * vertexCount g ≤ w → w < 4 + 3 * vertexCount g + edgesIn g → word g w < vertexCount g
+  unfolding refusal53 tooLarge
+  target-small w a b =
+      leb-false (vertexCount g) (word g w)
+      (from-passed 53 (4 + 3 * vertexCount g) (4 + 3 * vertexCount g + edgesIn g) (tooLarge g (vertexCount g)) (lower-both _ _ (lower-both _ _ r53 .1) .1) w a b)
+
+  good-words : GoodGame g
+  good-words =
+      let (sized, some, few, light) = sizes in
+      record {
+        sized = sized;
+        some = some;
+        few = few;
+        light = light;
+        begins = first-offset;
+        rises = λ v h.
+            let e : 3 + 2 * vertexCount g + suc v - 1 ≡ 3 + 2 * vertexCount g + v = omega arith in
+            subst (λ (w : ℕ). word g w ≤ offsetIn g (suc v)) e (steady (3 + 2 * vertexCount g + suc v) (omega arith) (omega arith));
+        ends = last-offset;
+        initial = initial-small;
+        owned = λ v h. let b = owner-small (3 + v) (omega arith) (omega arith) in omega arith;
+        leads = λ e h. target-small (targetsAt g + e) (omega arith) (omega arith);
+      }
+
+pub good-game : (g : List ℕ) → gameRefusal g ≡ Passed → GoodGame g
+unfolding gameRefusal
+good-game g e = good-words g (first-passed _ e 0) (first-passed _ e 1) (first-passed _ e 2)
+
+-- the lent slices have the right lengths too
+pub accepted-slices : (g : List ℕ) (out numbers work : ℕ) → restrictionRefusal g out numbers work ≡ Passed
+    → (gameRefusal g ≡ Passed) × (out ≡ length g) × (numbers ≡ vertexCount g) × (work ≡ vertexCount g)
+unfolding restrictionRefusal
+accepted-slices g out numbers work e =
+    let (a, b) = then-both (gameRefusal g) _ e in
+    let (c, d) = neither (differ out (length g)) _ (if-passed 2 0 _ b) in
+    let (m, n) = neither (differ numbers (vertexCount g)) (differ work (vertexCount g)) d in
+    (a, alike out (length g) c, alike numbers (vertexCount g) m, alike work (vertexCount g) n)
+
+same-number : (m n : ℕ) → m ≡ n → differ m n ≡ false
+unfolding differ
+same-number m n e = rw (eq-eqb m n e) refl
+
+-- and slices of these lengths are accepted with a game that is
+pub slices-accepted : (g : List ℕ) (out numbers work : ℕ) → gameRefusal g ≡ Passed → out ≡ length g → numbers ≡ vertexCount g → work ≡ vertexCount g
+    → restrictionRefusal g out numbers work ≡ Passed
+unfolding restrictionRefusal
+slices-accepted g out numbers work e a b c =
+    then-passed _ e ∙ if-false 2 0 (rw (same-number out (length g) a, same-number numbers (vertexCount g) b, same-number work (vertexCount g) c) refl)
+
+module _ (g : List ℕ) (good : GoodGame g) where
+  -- no offset is above the edge count
+  offset-most : (d v : ℕ) → v + d ≡ vertexCount g → offsetIn g v ≤ edgesIn g
+  offset-most zero v e = let z : v ≡ vertexCount g = omega arith in omega (arith, good .ends, ap (λ (u : ℕ). offsetIn g u) z)
+  offset-most (suc d) v e = omega (arith, good .rises v (omega arith), offset-most d (suc v) (omega arith))
+
+  pub offset-within : (v : ℕ) → v ≤ vertexCount g → offsetIn g v ≤ edgesIn g
+  offset-within v h = offset-most (vertexCount g - v) v (omega arith)
+
+  targets-end : (v : ℕ) → v < vertexCount g → targetsAt g + offsetIn g (suc v) ≤ length g
+  targets-end v h = omega (arith, good .sized, offset-within (suc v) h)
+
+  pub degree : (v : ℕ) → v < vertexCount g → offsetIn g (suc v) ≡ offsetIn g v + length (targetsIn g v)
+  degree v h =
+      omega (arith, good .rises v h, length-slice (targetsAt g + offsetIn g v) (targetsAt g + offsetIn g (suc v)) g (targets-end v h))
+
+  -- what holds of the words from a to b holds of the slice's members
+  in-slice : (P : ℕ → Type 0) (d a b : ℕ) → b ≤ length g → a + d ≡ b → ((p : ℕ) → a ≤ p → p < b → P (word g p)) → (t : ℕ) → In t (slice a b g) → P t
+  in-slice P zero a b k e all t m = let z : a ≡ b = omega arith in absurd (subst (In t) (slice-empty b g) (subst (λ (i : ℕ). In t (slice i b g)) z m))
+  in-slice P (suc d) a b k e all t m =
+      ⊎-elim (λ q. subst P (sym q) (all a (omega arith) (omega arith))) (in-slice P d (suc a) b k (omega arith) (λ p h. all p (omega arith)) t)
+      (subst (In t) (slice-cons a b g 0 (omega arith) k) m)
+
+  -- edges lead to vertices
+  pub target-below : (v : ℕ) → v < vertexCount g → (t : ℕ) → In t (targetsIn g v) → t < vertexCount g
+  target-below v h =
+      let more = good .rises v h in
+      let last = offset-within (suc v) h in
+      in-slice (λ t. t < vertexCount g) (offsetIn g (suc v) - offsetIn g v) (targetsAt g + offsetIn g v) (targetsAt g + offsetIn g (suc v)) (targets-end v h) (omega arith)
+      (λ p a b.
+      let e : p ≡ targetsAt g + (p - targetsAt g) = omega arith in
+      subst (λ (q : ℕ). word g q < vertexCount g) (sym e) (good .leads (p - targetsAt g) (omega arith)))

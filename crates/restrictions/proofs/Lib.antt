@@ -1,0 +1,9 @@
+pub mod Accepted
+pub mod Searching
+pub mod Weights
+pub mod Kept
+pub mod Restriction
+pub mod Once
+pub mod Again
+pub mod Twice
+pub mod Finished

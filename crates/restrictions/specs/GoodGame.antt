@@ -1,0 +1,19 @@
+-- What holds of the words of a game that is not refused (theorem `good-game`): its sizes, its offsets, and where its edges lead. Assumes nothing: this is a statement.
+use mathlib.Core.Path.{_≡_}
+use mathlib.Core.List.{List}
+use Prim.Native.Nat.{ℕ, suc, _+_, _*_, _≤_, _<_}
+use lib.ListN.{length}
+use Rattle.rules.specs.Lists.{word}
+use Rattle.rules.specs.Game.{vertexCount, edgesIn, initialIn, ownerIn, offsetIn, targetsAt}
+
+pub record GoodGame (g : List ℕ) : Type 0 where
+  pub sized : length g ≡ 4 + 3 * vertexCount g + edgesIn g
+  pub some : 1 ≤ vertexCount g
+  pub few : vertexCount g ≤ 1_048_576
+  pub light : edgesIn g ≤ 4_194_304
+  pub begins : offsetIn g 0 ≡ 0
+  pub rises : (v : ℕ) → v < vertexCount g → offsetIn g v ≤ offsetIn g (suc v)
+  pub ends : offsetIn g (vertexCount g) ≡ edgesIn g
+  pub initial : initialIn g < vertexCount g
+  pub owned : (v : ℕ) → v < vertexCount g → ownerIn g v < 2
+  pub leads : (e : ℕ) → e < edgesIn g → word g (targetsAt g + e) < vertexCount g

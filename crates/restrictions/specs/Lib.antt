@@ -1,0 +1,3 @@
+pub mod GoodGame
+pub mod Trimmed
+pub mod KeepsAll

@@ -1,0 +1,1 @@
+// What users of the restriction rely on: see proofs/. There is no code here.

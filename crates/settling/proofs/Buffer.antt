@@ -1,0 +1,68 @@
+-- The laws of the stack and of the edge buffer. Assumes nothing.
+use mathlib.Core.Path.{_≡_, refl, _∙_, ap}
+use mathlib.Core.List.{List, [], _∷_, _++_}
+use Prim.Native.Nat.{ℕ, zero, suc, _+_, _*_, _≤_, _<_}
+use native.Mathlib.Numerals.{add-one}
+use native.Mathlib.Omega.{arith}
+use lib.Dec.{lit≤}
+use lib.ListN.{length, set, take, drop, length-take, length-drop, length-set}
+use lib.Seq.{drop-set-add, take-suc-set, getD-set-same, getD-set-other}
+use Rattle.rules.specs.Lists.{word}
+use Rattle.words.specs.Regions.{region, putWord}
+use Rattle.words.proofs.Regions.{rise, region-past, rest-put, rest-later}
+use Rattle.settling.specs.Stand.{waitingIn, edgesOf, putEdge}
+
+-- ---- the stack
+
+waiting-kept : (stack : List ℕ) (n x m : ℕ) → m ≤ n → waitingIn (set stack n x) m ≡ waitingIn stack m
+unfolding waitingIn
+waiting-kept stack n x zero h = refl
+waiting-kept stack n x (suc m) h = rw (getD-set-other stack n m x 0 (omega arith), waiting-kept stack n x m (omega arith))
+
+pub waiting-more : (stack : List ℕ) (n x : ℕ) → n < length stack → waitingIn (set stack n x) (n + 1) ≡ x ∷ waitingIn stack n
+unfolding waitingIn
+waiting-more stack n x h = rw add-one (rw (getD-set-same stack n x 0 h, waiting-kept stack n x n (omega arith)))
+
+pub length-waitingIn : (stack : List ℕ) (n : ℕ) → length (waitingIn stack n) ≡ n
+unfolding waitingIn
+length-waitingIn stack zero = refl
+length-waitingIn stack (suc n) = ap suc (length-waitingIn stack n)
+
+pub waiting-top : (stack : List ℕ) (n : ℕ) → waitingIn stack (suc n) ≡ word stack n ∷ waitingIn stack n
+unfolding waitingIn
+waiting-top stack n = refl
+
+pub none-waits : (stack : List ℕ) (n : ℕ) → n ≡ 0 → waitingIn stack n ≡ []
+unfolding waitingIn
+none-waits stack n e = ap (waitingIn stack) e
+
+-- ---- the edge buffer
+
+-- an edge changes no region
+pub region-edge : (r v i x : ℕ) (w : List ℕ) → r < 8 → region r v (putEdge v i x w) ≡ region r v w
+unfolding putEdge
+region-edge r v i x w h = region-past r v (8 * v + i) x w (omega (arith, rise r 8 v h))
+
+pub length-putEdge : (v i x : ℕ) (w : List ℕ) → length (putEdge v i x w) ≡ length w
+unfolding putEdge
+length-putEdge v i x w = length-set w (8 * v + i) x
+
+pub edges-more : (v i x : ℕ) (w : List ℕ) → 8 * v + i < length w → edgesOf (putEdge v i x w) v (i + 1) ≡ edgesOf w v i ++ (x ∷ [])
+unfolding edgesOf putEdge
+edges-more v i x w h =
+    rw add-one
+    (ap (take (suc i)) (drop-set-add (8 * v) w i x)
+    ∙ take-suc-set (drop (8 * v) w) i x (omega (arith, length-drop (8 * v) w)))
+
+-- a word of a region changes no edge
+pub edges-put : (s v i x n : ℕ) (w : List ℕ) → s < 8 → i < v → edgesOf (putWord s v i x w) v n ≡ edgesOf w v n
+unfolding edgesOf
+edges-put s v i x n w l h = ap (take n) (rest-put 8 s v i x w h l)
+
+pub edges-rest : (v n : ℕ) (w w′ : List ℕ) → drop (5 * v) w′ ≡ drop (5 * v) w → edgesOf w′ v n ≡ edgesOf w v n
+unfolding edgesOf
+edges-rest v n w w′ e = ap (take n) (rest-later 5 8 v w w′ e (lit≤ tt))
+
+pub length-edges : (w : List ℕ) (v n : ℕ) → 8 * v + n ≤ length w → length (edgesOf w v n) ≡ n
+unfolding edgesOf
+length-edges w v n h = simp (length-take, length-drop) (omega arith)

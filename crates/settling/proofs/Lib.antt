@@ -1,0 +1,5 @@
+pub mod Buffer
+pub mod Meetings
+pub mod Make
+pub mod Marking
+pub mod Ending

@@ -1,0 +1,82 @@
+use native.Mathlib.Omega.{arith}
+use Rattle.settling.proofs.Meetings.{met-old, met-new, met-room}
+use Rattle.pairs.proofs.Uses.{full-by}
+use borrow.Author.Needs.{needs}
+use Rattle.settling.proofs.meet.Statement.{statement}
+use Rattle.settling.proofs.meet.Tie as tie
+use Rattle.settling.proofs.meet.Reads as reads
+use Rattle.settling.proofs.meet.Lts as lts
+use Rattle.pairs.proofs.number.Reads as number-reads
+use Rattle.words.proofs.put_word.Reads as put-word-reads
+
+-- src/lib.rt:67:11
+number-requires : tie.Need-number-requires
+number-requires c κs = 
+    let r = c .before .before .pre .1 .0 in
+    let f = c .before .before .pre .1 .1 in
+    (c .before .before .pre .0, record { some = r .some; most = r .most; whole = omega (arith, r .whole); state-fits = f .state-fits; item-fits = f .item-fits; table = r .table })
+
+-- src/lib.rt:68:28
+enum-known-vertex : tie.Need-enum-known-vertex
+enum-known-vertex c = search needs
+
+-- src/lib.rt:70:17
+same-length : tie.Need-same-length
+same-length c = search needs
+
+-- src/lib.rt:70:17
+returns : tie.Need-returns
+returns c = met-old _ _ _ _ _ _ (c .before .before .before .before .before .before .number .ensures) _ _ (c .before .before .vertex .given .1) _ (c .if1 .taken)
+
+-- src/lib.rt:76:13
+put-word-requires : tie.Need-put-word-requires
+put-word-requires c κs = 
+    let room = met-room _ _ _ _ _ _ (c .before .before .before .before .before .before .before .number .ensures) _ _ (c .before .before .before .vertex .given .1) (c .before .if1 .left) in
+    record {
+      whole = omega (arith, c .before .before .before .before .before .before .before .before .before .before .pre .1 .0 .whole, c .before .before .before .before .before .before .before .number .kept .1 .0);
+      region = omega arith;
+      word = omega (arith, c .before .before .before .before .before .before .before .before .before .before .pre .1 .0 .stack, room);
+    }
+
+-- src/lib.rt:80:26
+add-t20 : tie.Need-add-t20
+add-t20 c = search needs
+
+-- src/lib.rt:83:29
+enum-told : tie.Need-enum-told
+enum-told c = search needs
+
+-- src/lib.rt:52:1
+same-length-2 : tie.Need-same-length-2
+same-length-2 c = search needs
+
+-- src/lib.rt:52:1
+returns-2 : tie.Need-returns-2
+returns-2 c = 
+    let room = met-room _ _ _ _ _ _ (c .before .before .before .before .before .before .before .before .before .before .number .ensures) _ _ (c .before .before .before .before .before .before .vertex .given .1) (c .before .before .before .before .if1 .left) in
+    met-new _ _ _ _ _ _ (c .before .before .before .before .before .before .before .before .before .before .number .ensures) _ _ (c .before .before .before .before .before .before .vertex .given .1) _ _ (c .before .before .before .before .if1 .left)
+    (omega (arith, c .before .before .before .before .before .before .before .before .before .before .before .before .before .pre .1 .0 .stack, room)) (omega (arith, c .before .before .before .before .before .before .before .before .before .before .before .before .before .pre .1 .0 .whole, c .before .before .before .before .before .before .before .before .before .before .number .kept .1 .0)) (c .before .before .put-word .ensures)
+
+-- src/lib.rt:52:1
+same-length-3 : tie.Need-same-length-3
+same-length-3 c = search needs
+
+-- src/lib.rt:52:1
+returns-3 : tie.Need-returns-3
+returns-3 c = full-by _ _ _ _ _ _ (c .before .before .before .before .number .ensures) (c .enum-told .given .1) .more
+
+pub meet-spec : {M : Type 1} → statement M
+meet-spec =
+    tie.close
+    (tie.spec
+    number-requires
+    enum-known-vertex
+    same-length
+    returns
+    put-word-requires
+    add-t20
+    enum-told
+    same-length-2
+    returns-2
+    same-length-3
+    returns-3)

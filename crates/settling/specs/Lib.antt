@@ -1,0 +1,4 @@
+pub mod Keys
+pub mod Stand
+pub mod Made
+pub mod Good

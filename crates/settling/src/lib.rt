@@ -1,0 +1,224 @@
+// The parts of a step that are the same whatever a pair's targets come from: a target is numbered, pushed if it is new, and given an edge in the lent work slice.
+use player::VertexIndex;
+use pairs::Numbered;
+ghost use mathlib.Core.Path.{_≡_};
+ghost use mathlib.Core.List.{List, [], _∷_};
+ghost use Prim.Native.Nat.{ℕ, _+_, _*_, _≤_, _<_};
+ghost use lib.ListN.{length};
+ghost use Rattle.pairs.specs.Slot.{keyOf, Multiples};
+ghost use Rattle.settling.specs.Stand.{putEdge};
+ghost use Rattle.settling.specs.Made.{Ready, Fitting, MeetAnswer, Answer, Marked, Turned, CloseAnswer};
+
+// The regions of the work slice that these functions read or write themselves.
+const STACK: u32 = 4;
+
+const COUNTS: u32 = 6;
+
+const MARKS: u32 = 7;
+
+// Where a walk stands, in numbers.
+pub struct Counters {
+    pub known: u32,
+    pub settled: u32,
+    pub edges: u32,
+    pub waiting: u32,
+}
+
+// What a step, or a part of one, answers: the counters, or that the lent room is too small.
+pub enum Stepped {
+    Room(Counters),
+    Full,
+}
+
+// What meeting a pair answers: its vertex, or that there are too many vertices.
+pub enum Met {
+    Meets {
+        vertex: VertexIndex,
+        known: u32,
+        waiting: u32,
+    },
+    Crowded,
+}
+
+// An edge is put at a place of the edge buffer.
+fn put_edge(work: &mut [u32], v: u32, i: u32, target: VertexIndex)
+    requires { ⌜ (v ≤ 1048576) × (8 * v + i < length (now work)) ⌝ }
+    ensures { λ _. ⌜ now (work .exit) ≡ putEdge v i (target .0) (now (work .entry)) ⌝ }
+{
+    work[8 * (v as usize) + (i as usize)] = target.0;
+}
+
+// A pair is numbered, and its vertex pushed if it is new.
+pub fn meet(
+    multiples: &[u32; 256],
+    work: &mut [u32],
+    v: u32,
+    e: u32,
+    c: Counters,
+    state: u32,
+    item: u32,
+) -> Met
+    requires { ⌜ Multiples (now multiples) ⌝ }
+    requires { ⌜ Ready (now work) v e c × Fitting state item ⌝ }
+    ensures { λ r. ⌜ MeetAnswer (now (work .entry)) (now (work .exit)) v (c .known) (c .waiting) (keyOf state item) r ⌝ }
+{
+    let before = c.known;
+    let waiting = c.waiting;
+    match pairs::number(multiples, work, v, before, state, item) {
+        Numbered::Vertex { vertex, known } => {
+            if known == before {
+                return Met::Meets {
+                    vertex,
+                    known: before,
+                    waiting,
+                };
+            }
+            words::put_word(work, v, STACK, waiting, before);
+            Met::Meets {
+                vertex,
+                known,
+                waiting: waiting + 1,
+            }
+        }
+        Numbered::NoRoom => Met::Crowded,
+    }
+}
+
+// One target is met and gets an edge.
+pub fn number_target(
+    c: Counters,
+    multiples: &[u32; 256],
+    work: &mut [u32],
+    v: u32,
+    e: u32,
+    state: u32,
+    item: u32,
+) -> Stepped
+    requires { ⌜ Multiples (now multiples) ⌝ }
+    requires { ⌜ Ready (now work) v e c × Fitting state item ⌝ }
+    ensures { λ r. ⌜ Answer (now (work .entry)) v e c (keyOf state item ∷ []) (now (work .exit)) r ⌝ }
+{
+    let edges = c.edges;
+    match meet(multiples, work, v, e, c, state, item) {
+        Met::Meets {
+            vertex,
+            known,
+            waiting,
+        } => {
+            if edges == e {
+                return Stepped::Full;
+            }
+            put_edge(work, v, edges, vertex);
+            Stepped::Room(Counters {
+                known,
+                settled: c.settled,
+                edges: edges + 1,
+                waiting,
+            })
+        }
+        Met::Crowded => Stepped::Full,
+    }
+}
+
+// One target is met and gets an edge, if it has none from this step. The step's number marks its targets, so that each target is told in constant time.
+pub fn target_once(
+    c: Counters,
+    multiples: &[u32; 256],
+    work: &mut [u32],
+    v: u32,
+    e: u32,
+    state: u32,
+    item: u32,
+) -> Stepped
+    requires { ⌜ Multiples (now multiples) ⌝ }
+    requires { ⌜ Ready (now work) v e c × Fitting state item ⌝ }
+    requires { ⌜ c .settled < c .known ⌝ }
+    ensures { λ r. ⌜ ((ts : List ℕ) → Marked (now (work .entry)) v c ts → Turned (now (work .entry)) v e c ts (keyOf state item ∷ []) (now (work .exit)) r) ⌝ }
+{
+    let edges = c.edges;
+    let mark = c.settled + 1;
+    match meet(multiples, work, v, e, c, state, item) {
+        Met::Meets {
+            vertex,
+            known,
+            waiting,
+        } => {
+            if words::region_word(work, v, MARKS, vertex.0) == mark {
+                return Stepped::Room(Counters {
+                    known,
+                    settled: c.settled,
+                    edges,
+                    waiting,
+                });
+            }
+            if edges == e {
+                return Stepped::Full;
+            }
+            words::put_word(work, v, MARKS, vertex.0, mark);
+            put_edge(work, v, edges, vertex);
+            Stepped::Room(Counters {
+                known,
+                settled: c.settled,
+                edges: edges + 1,
+                waiting,
+            })
+        }
+        Met::Crowded => Stepped::Full,
+    }
+}
+
+// Two targets with the same state, in order: a target named twice gets two edges.
+pub fn settle_two(
+    c: Counters,
+    multiples: &[u32; 256],
+    work: &mut [u32],
+    v: u32,
+    e: u32,
+    state: u32,
+    left: u32,
+    right: u32,
+) -> Stepped
+    requires { ⌜ Multiples (now multiples) ⌝ }
+    requires { ⌜ Ready (now work) v e c × Fitting state left × Fitting state right ⌝ }
+    ensures { λ r. ⌜ Answer (now (work .entry)) v e c (keyOf state left ∷ keyOf state right ∷ []) (now (work .exit)) r ⌝ }
+{
+    match number_target(c, multiples, work, v, e, state, left) {
+        Stepped::Room(next) => number_target(next, multiples, work, v, e, state, right),
+        Stepped::Full => Stepped::Full,
+    }
+}
+
+// The edges of a vertex are counted, after one to itself if it has none.
+pub fn close(
+    c: Counters,
+    work: &mut [u32],
+    v: u32,
+    e: u32,
+    vertex: VertexIndex,
+    start: u32,
+) -> Stepped
+    requires { ⌜ Ready (now work) v e c × (vertex .0 < v) × (start ≤ c .edges) × (c .settled + c .waiting < c .known) ⌝ }
+    ensures { λ r. ⌜ CloseAnswer (now (work .entry)) v e (vertex .0) start c (now (work .exit)) r ⌝ }
+{
+    let edges = c.edges;
+    if edges == start {
+        if edges == e {
+            return Stepped::Full;
+        }
+        put_edge(work, v, edges, vertex);
+        words::put_word(work, v, COUNTS, vertex.0, 1);
+        return Stepped::Room(Counters {
+            known: c.known,
+            settled: c.settled + 1,
+            edges: edges + 1,
+            waiting: c.waiting,
+        });
+    }
+    words::put_word(work, v, COUNTS, vertex.0, edges - start);
+    Stepped::Room(Counters {
+        known: c.known,
+        settled: c.settled + 1,
+        edges,
+        waiting: c.waiting,
+    })
+}

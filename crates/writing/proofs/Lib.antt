@@ -1,0 +1,10 @@
+pub mod Nodes
+pub mod ActionNodes
+pub mod ActionRows
+pub mod ActionReading
+pub mod ActionTheorems
+pub mod FormulaNodes
+pub mod FormulaEquations
+pub mod FormulaReading
+pub mod FormulaTheorems
+pub mod Cases
