@@ -86,84 +86,84 @@ module _ {A : Type 0} (tree : ℕ → A) (Shown : A → ℕ → ℕ → ℕ → 
       }
 
   module _
-    (words : (t : A) (k l r k′ l′ r′ : ℕ) → Shown t k l r → Shown t k′ l′ r′ → (k ≡ k′) × (l ≡ l′) × (r ≡ r′))
-    (one-tree : (s t : A) (k l r : ℕ) → Shown s k l r → Shown t k l r → s ≡ t)
-    (kinds lefts rights numbers : List ℕ) (v k l r : ℕ) (placed : Placed tree Shown n (v + 1) kinds lefts rights numbers) (inside : v < n) (shown : Shown (tree v) k l r)
+      (words : (t : A) (k l r k′ l′ r′ : ℕ) → Shown t k l r → Shown t k′ l′ r′ → (k ≡ k′) × (l ≡ l′) × (r ≡ r′))
+      (one-tree : (s t : A) (k l r : ℕ) → Shown s k l r → Shown t k l r → s ≡ t)
+      (kinds lefts rights numbers : List ℕ) (v k l r : ℕ) (placed : Placed tree Shown n (v + 1) kinds lefts rights numbers) (inside : v < n) (shown : Shown (tree v) k l r)
     where
-    abbrev found : ℕ
-    found = seek (shownBy kinds lefts rights k l r) (v + 1) (n - (v + 1))
+      abbrev found : ℕ
+      found = seek (shownBy kinds lefts rights k l r) (v + 1) (n - (v + 1))
 
-    -- a later node with the same words has the same tree
-    same-words : (u : ℕ) → v < u → u < n → shownBy kinds lefts rights k l r u ≡ true → tree u ≡ tree v
-    same-words u a b h =
-        let (x, y, z) = shown-equal kinds lefts rights k l r u h in
-        let s = placed .shown u (omega arith) b in
-        one-tree (tree u) (tree v) k l r
-        (subst (λ (j : ℕ). Shown (tree u) k l j) z (subst (λ (j : ℕ). Shown (tree u) k j (word rights u)) y (subst (λ (j : ℕ). Shown (tree u) j (word lefts u) (word rights u)) x s)))
-        shown
+      -- a later node with the same words has the same tree
+      same-words : (u : ℕ) → v < u → u < n → shownBy kinds lefts rights k l r u ≡ true → tree u ≡ tree v
+      same-words u a b h =
+          let (x, y, z) = shown-equal kinds lefts rights k l r u h in
+          let s = placed .shown u (omega arith) b in
+          one-tree (tree u) (tree v) k l r
+          (subst (λ (j : ℕ). Shown (tree u) k l j) z (subst (λ (j : ℕ). Shown (tree u) k j (word rights u)) y (subst (λ (j : ℕ). Shown (tree u) j (word lefts u) (word rights u)) x s)))
+          shown
 
-    -- and one with the same tree has the same words
-    same-tree : (u : ℕ) → v < u → u < n → tree u ≡ tree v → shownBy kinds lefts rights k l r u ≡ true
-    same-tree u a b e =
-        let s = subst (λ (t : A). Shown t (word kinds u) (word lefts u) (word rights u)) e (placed .shown u (omega arith) b) in
-        let (x, y, z) = words (tree v) (word kinds u) (word lefts u) (word rights u) k l r s shown in
-        equal-shown kinds lefts rights k l r u x y z
+      -- and one with the same tree has the same words
+      same-tree : (u : ℕ) → v < u → u < n → tree u ≡ tree v → shownBy kinds lefts rights k l r u ≡ true
+      same-tree u a b e =
+          let s = subst (λ (t : A). Shown t (word kinds u) (word lefts u) (word rights u)) e (placed .shown u (omega arith) b) in
+          let (x, y, z) = words (tree v) (word kinds u) (word lefts u) (word rights u) k l r s shown in
+          equal-shown kinds lefts rights k l r u x y z
 
-    number-last : Last tree n (tree v) (numberOf kinds lefts rights numbers n v k l r)
-    unfolding numberOf
-    number-last = go (decLt found n)
-      where
-        f : ℕ → Bool
-        f = shownBy kinds lefts rights k l r
+      number-last : Last tree n (tree v) (numberOf kinds lefts rights numbers n v k l r)
+      unfolding numberOf
+      number-last = go (decLt found n)
+        where
+          f : ℕ → Bool
+          f = shownBy kinds lefts rights k l r
 
-        old : found < n → Last tree n (tree v) (word numbers found)
-        old h =
-            let p = seek-from f (v + 1) (n - (v + 1)) in
-            subst (λ (t : A). Last tree n t (word numbers found))
-            (same-words found (omega arith) h (seek-holds f (v + 1) (n - (v + 1)) (omega arith)))
-            (placed .numbered .number found (omega arith) h)
+          old : found < n → Last tree n (tree v) (word numbers found)
+          old h =
+              let p = seek-from f (v + 1) (n - (v + 1)) in
+              subst (λ (t : A). Last tree n t (word numbers found))
+              (same-words found (omega arith) h (seek-holds f (v + 1) (n - (v + 1)) (omega arith)))
+              (placed .numbered .number found (omega arith) h)
 
-        none : n ≤ found → (w : ℕ) → v < w → w < n → tree w ≡ tree v → ⊥
-        none h w a b e = true≢false (sym (same-tree w a b e) ∙ seek-before f (v + 1) (n - (v + 1)) w (omega arith) (omega arith))
+          none : n ≤ found → (w : ℕ) → v < w → w < n → tree w ≡ tree v → ⊥
+          none h w a b e = true≢false (sym (same-tree w a b e) ∙ seek-before f (v + 1) (n - (v + 1)) w (omega arith) (omega arith))
 
-        new : n ≤ found → Last tree n (tree v) v
-        new h = record { below = inside; carries = refl; later = λ w b e. upTo (decLt v w) b e h }
-          where
-            upTo : {w : ℕ} → Dec (v < w) → w < n → tree w ≡ tree v → n ≤ found → w ≤ v
-            upTo {w = w} (yes a) b e h = absurd (none h w a b e)
-            upTo (no a) b e h = omega arith
+          new : n ≤ found → Last tree n (tree v) v
+          new h = record { below = inside; carries = refl; later = λ w b e. upTo (decLt v w) b e h }
+            where
+              upTo : {w : ℕ} → Dec (v < w) → w < n → tree w ≡ tree v → n ≤ found → w ≤ v
+              upTo {w = w} (yes a) b e h = absurd (none h w a b e)
+              upTo (no a) b e h = omega arith
 
-        go : Dec (found < n) → Last tree n (tree v) (cond (ltb found n) (word numbers found) v)
-        go (yes h) = rw (lt-ltb found n h) (old h)
-        go (no h) = rw (le-ltb found n (omega arith)) (new (omega arith))
+          go : Dec (found < n) → Last tree n (tree v) (cond (ltb found n) (word numbers found) v)
+          go (yes h) = rw (lt-ltb found n h) (old h)
+          go (no h) = rw (le-ltb found n (omega arith)) (new (omega arith))
 
-    at : (ws : List ℕ) (x : ℕ) → n ≤ length ws → word (set ws v x) v ≡ x
-    at ws x h = getD-set-same {A = ℕ} ws v x 0 (omega arith)
+      at : (ws : List ℕ) (x : ℕ) → n ≤ length ws → word (set ws v x) v ≡ x
+      at ws x h = getD-set-same {A = ℕ} ws v x 0 (omega arith)
 
-    past : (ws : List ℕ) (x u : ℕ) → v < u → word (set ws v x) u ≡ word ws u
-    past ws x u h = getD-set-other {A = ℕ} ws v u x 0 (λ (e : u ≡ v). absurd (omega arith))
+      past : (ws : List ℕ) (x u : ℕ) → v < u → word (set ws v x) u ≡ word ws u
+      past ws x u h = getD-set-other {A = ℕ} ws v u x 0 (λ (e : u ≡ v). absurd (omega arith))
 
-    -- node v is placed
-    pub placed-more : Placed tree Shown n v (set kinds v k) (set lefts v l) (set rights v r) (set numbers v (numberOf kinds lefts rights numbers n v k l r))
-    placed-more =
-        record {
-          kinds-room = omega (arith, length-set kinds v k, placed .kinds-room);
-          lefts-room = omega (arith, length-set lefts v l, placed .lefts-room);
-          rights-room = omega (arith, length-set rights v r, placed .rights-room);
-          shown = λ u a b. at-node u (ℕ-discrete u v) a b;
-          numbered = record {
-            room = omega (arith, length-set numbers v (numberOf kinds lefts rights numbers n v k l r), placed .numbered .room);
-            number = λ u a b. number-at u (ℕ-discrete u v) a b;
-          };
-        }
-      where
-        at-node : (u : ℕ) → Dec (u ≡ v) → v ≤ u → u < n → Shown (tree u) (word (set kinds v k) u) (word (set lefts v l) u) (word (set rights v r) u)
-        at-node u (yes e) a b = rw (e, at kinds k (placed .kinds-room), at lefts l (placed .lefts-room), at rights r (placed .rights-room)) shown
-        at-node u (no d) a b = rw (past kinds k u (omega arith), past lefts l u (omega arith), past rights r u (omega arith)) (placed .shown u (omega arith) b)
+      -- node v is placed
+      pub placed-more : Placed tree Shown n v (set kinds v k) (set lefts v l) (set rights v r) (set numbers v (numberOf kinds lefts rights numbers n v k l r))
+      placed-more =
+          record {
+            kinds-room = omega (arith, length-set kinds v k, placed .kinds-room);
+            lefts-room = omega (arith, length-set lefts v l, placed .lefts-room);
+            rights-room = omega (arith, length-set rights v r, placed .rights-room);
+            shown = λ u a b. at-node u (ℕ-discrete u v) a b;
+            numbered = record {
+              room = omega (arith, length-set numbers v (numberOf kinds lefts rights numbers n v k l r), placed .numbered .room);
+              number = λ u a b. number-at u (ℕ-discrete u v) a b;
+            };
+          }
+        where
+          at-node : (u : ℕ) → Dec (u ≡ v) → v ≤ u → u < n → Shown (tree u) (word (set kinds v k) u) (word (set lefts v l) u) (word (set rights v r) u)
+          at-node u (yes e) a b = rw (e, at kinds k (placed .kinds-room), at lefts l (placed .lefts-room), at rights r (placed .rights-room)) shown
+          at-node u (no d) a b = rw (past kinds k u (omega arith), past lefts l u (omega arith), past rights r u (omega arith)) (placed .shown u (omega arith) b)
 
-        number-at : (u : ℕ) → Dec (u ≡ v) → v ≤ u → u < n → Last tree n (tree u) (word (set numbers v (numberOf kinds lefts rights numbers n v k l r)) u)
-        number-at u (yes e) a b = rw (e, at numbers (numberOf kinds lefts rights numbers n v k l r) (placed .numbered .room)) number-last
-        number-at u (no d) a b = rw (past numbers (numberOf kinds lefts rights numbers n v k l r) u (omega arith)) (placed .numbered .number u (omega arith) b)
+          number-at : (u : ℕ) → Dec (u ≡ v) → v ≤ u → u < n → Last tree n (tree u) (word (set numbers v (numberOf kinds lefts rights numbers n v k l r)) u)
+          number-at u (yes e) a b = rw (e, at numbers (numberOf kinds lefts rights numbers n v k l r) (placed .numbered .room)) number-last
+          number-at u (no d) a b = rw (past numbers (numberOf kinds lefts rights numbers n v k l r) u (omega arith)) (placed .numbered .number u (omega arith) b)
 
 -- the same for tables that were just written
 pub placed-next : {A : Type 0} (tree : ℕ → A) (Shown : A → ℕ → ℕ → ℕ → Type 0) (n : ℕ)

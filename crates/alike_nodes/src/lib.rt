@@ -41,7 +41,13 @@ fn operand_at(table: &[u32], node: usize) -> usize
 }
 
 // The shape of a node of the action formulas, where `numbers` has the later nodes.
-fn action_shape(labels: &[u32], classes: &[u32], actions: &[u32], numbers: &[u32], node: usize) -> Shape
+fn action_shape(
+    labels: &[u32],
+    classes: &[u32],
+    actions: &[u32],
+    numbers: &[u32],
+    node: usize,
+) -> Shape
     requires { ⌜ GoodActions (labelCount (now labels)) (now actions) ⌝ }
     requires { ⌜ Classes (now labels) (now classes) ⌝ }
     requires { ⌜ node < size (now actions) ⌝ }
@@ -50,17 +56,33 @@ fn action_shape(labels: &[u32], classes: &[u32], actions: &[u32], numbers: &[u32
 {
     let k = kind_at(actions, node);
     if k <= 1 {
-        return Shape { kind: k, left: 0, right: 0 };
+        return Shape {
+            kind: k,
+            left: 0,
+            right: 0,
+        };
     }
     let o = operand_at(actions, node);
     if k == 2 {
-        return Shape { kind: k, left: classes[o], right: 0 };
+        return Shape {
+            kind: k,
+            left: classes[o],
+            right: 0,
+        };
     }
     let left = numbers[node + 1];
     if k == 5 {
-        return Shape { kind: k, left: left, right: 0 };
+        return Shape {
+            kind: k,
+            left: left,
+            right: 0,
+        };
     }
-    Shape { kind: k, left: left, right: numbers[o] }
+    Shape {
+        kind: k,
+        left: left,
+        right: numbers[o],
+    }
 }
 
 // The shape of a node of the formula as it stands in a body. Its operands are shown by their numbers, its action formula by the number in `acts`.
@@ -82,21 +104,41 @@ pub fn formula_shape(
 {
     let k = kind_at(formula, node);
     if k <= 1 {
-        return Shape { kind: k, left: 0, right: 0 };
+        return Shape {
+            kind: k,
+            left: 0,
+            right: 0,
+        };
     }
     if 6 <= k {
         if k <= 7 {
-            return Shape { kind: 8, left: equations[node], right: 0 };
+            return Shape {
+                kind: 8,
+                left: equations[node],
+                right: 0,
+            };
         }
         let fixpoint = operand_at(formula, node);
-        return Shape { kind: 8, left: equations[fixpoint], right: 0 };
+        return Shape {
+            kind: 8,
+            left: equations[fixpoint],
+            right: 0,
+        };
     }
     let left = numbers[node + 1];
     let o = operand_at(formula, node);
     if k <= 3 {
-        return Shape { kind: k, left: left, right: numbers[o] };
+        return Shape {
+            kind: k,
+            left: left,
+            right: numbers[o],
+        };
     }
-    Shape { kind: k, left: left, right: acts[o] }
+    Shape {
+        kind: k,
+        left: left,
+        right: acts[o],
+    }
 }
 
 // Is node u shown by these words?
@@ -114,7 +156,16 @@ fn is_shown(kinds: &[u32], lefts: &[u32], rights: &[u32], k: u32, l: u32, r: u32
 }
 
 // The first node from `from` up to `to` that is shown by these words, or `to`.
-fn first_shown(kinds: &[u32], lefts: &[u32], rights: &[u32], k: u32, l: u32, r: u32, from: usize, to: usize) -> usize
+fn first_shown(
+    kinds: &[u32],
+    lefts: &[u32],
+    rights: &[u32],
+    k: u32,
+    l: u32,
+    r: u32,
+    from: usize,
+    to: usize,
+) -> usize
     requires { ⌜ (to ≤ length (now kinds)) × (to ≤ length (now lefts)) × (to ≤ length (now rights)) ⌝ }
     requires { ⌜ from ≤ to ⌝ }
     ensures { λ u. ⌜ u ≡ seek (shownBy (now (kinds .entry)) (now (lefts .entry)) (now (rights .entry)) k l r) from (to - from) ⌝ }
@@ -226,7 +277,16 @@ pub fn number_formula(
     let mut i = n;
     while 0 < i {
         let v = i - 1;
-        let s = formula_shape(labels, system, actions, formula, acts, equations, numbers, v);
+        let s = formula_shape(
+            labels,
+            system,
+            actions,
+            formula,
+            acts,
+            equations,
+            numbers,
+            v,
+        );
         place_node(kinds, lefts, rights, numbers, n, v, s.kind, s.left, s.right);
         i = v;
     }

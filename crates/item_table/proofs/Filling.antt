@@ -31,15 +31,15 @@ use Rattle.item_table.proofs.Numbers.{zeros-word, first-most}
 -- ---- one entry is written
 
 module _ (x : Input) (kinds lefts rights kinds′ lefts′ rights′ : List ℕ) (q k l r : ℕ)
-  (a : kinds′ ≡ set kinds q k) (b : lefts′ ≡ set lefts q l) (c : rights′ ≡ set rights q r)
+    (a : kinds′ ≡ set kinds q k) (b : lefts′ ≡ set lefts q l) (c : rights′ ≡ set rights q r)
   where
-  put-here : q < length kinds → q < length lefts → q < length rights → ItemShown x (itemAt x q) k l r → ShownAt x kinds′ lefts′ rights′ q
-  put-here d e f s =
-      rw (a, b, c, getD-set-same {A = ℕ} kinds q k 0 d, getD-set-same {A = ℕ} lefts q l 0 e, getD-set-same {A = ℕ} rights q r 0 f) s
+    put-here : q < length kinds → q < length lefts → q < length rights → ItemShown x (itemAt x q) k l r → ShownAt x kinds′ lefts′ rights′ q
+    put-here d e f s =
+        rw (a, b, c, getD-set-same {A = ℕ} kinds q k 0 d, getD-set-same {A = ℕ} lefts q l 0 e, getD-set-same {A = ℕ} rights q r 0 f) s
 
-  put-there : (p : ℕ) → (¬ (p ≡ q)) → ShownAt x kinds lefts rights p → ShownAt x kinds′ lefts′ rights′ p
-  put-there p d s =
-      rw (a, b, c, getD-set-other {A = ℕ} kinds q p k 0 d, getD-set-other {A = ℕ} lefts q p l 0 d, getD-set-other {A = ℕ} rights q p r 0 d) s
+    put-there : (p : ℕ) → (¬ (p ≡ q)) → ShownAt x kinds lefts rights p → ShownAt x kinds′ lefts′ rights′ p
+    put-there p d s =
+        rw (a, b, c, getD-set-other {A = ℕ} kinds q p k 0 d, getD-set-other {A = ℕ} lefts q p l 0 d, getD-set-other {A = ℕ} rights q p r 0 d) s
 
 -- the equations and the items of the nodes before v are shown
 pub record NodesShown (x : Input) (v : ℕ) (kinds lefts rights : List ℕ) : Type 0 where
@@ -85,10 +85,10 @@ module _ (x : Input) (good : GoodInput x) where
     unfolding bodyTree
     equation-shown w o e g =
         let (p, q) = body-node in
-        subst (λ (t : Item). ItemShown x t (7 - o) (word numbers w) 0) (sym (item-equation x i h))
-        ( operator-word (equationOf (x .formula) i .operator) o (g ∙ listed .operator i h)
-        , ap (word numbers) (e ∙ listed .body i h) ∙ known .number (equationOf (x .formula) i .body) p q
-        , refl
+        subst (λ (t : Item). ItemShown x t (7 - o) (word numbers w) 0) (sym (item-equation x i h)) (
+          operator-word (equationOf (x .formula) i .operator) o (g ∙ listed .operator i h),
+          ap (word numbers) (e ∙ listed .body i h) ∙ known .number (equationOf (x .formula) i .body) p q,
+          refl,
         )
 
     pub first-next : (kinds lefts rights kinds′ lefts′ rights′ : List ℕ) (w o : ℕ)

@@ -173,9 +173,9 @@ module _ (x : Input) (good : GoodInput x) (nodes : List ℕ) (known : Numbered (
           rest-at : (w : ℕ) → Dec (w ≡ word nodes v) → suc v ≤ w → w < size (x .formula) → word nodes w ≡ w → Met x (suc v) (set (set numbers (word nodes v) next) v next) w
           rest-at w (yes e) a d own =
               let t : formulaTree x w ≡ formulaTree x v = ap (formulaTree x) e ∙ class-last .carries in
-              inr
-              ( ap (λ (j : ℕ). word (set (set numbers (word nodes v) next) v next) j) e ∙ at-class ∙ sym own-number ∙ ap (itemNumber x) (sym t)
-              , subst (λ (s : Formula). In s (subformulasBefore x (suc v))) (sym t) (before-in x v (suc v) (b .0) (omega arith))
+              inr (
+                ap (λ (j : ℕ). word (set (set numbers (word nodes v) next) v next) j) e ∙ at-class ∙ sym own-number ∙ ap (itemNumber x) (sym t),
+                subst (λ (s : Formula). In s (subformulasBefore x (suc v))) (sym t) (before-in x v (suc v) (b .0) (omega arith)),
               )
           rest-at w (no n) a d own = keep w d own n (elsewhere w (omega arith) n) (so-far .rest w (omega arith) d own)
 
@@ -198,8 +198,8 @@ module _ (x : Input) (good : GoodInput x) (nodes : List ℕ) (known : Numbered (
           counted = so-far .counted ∙ ap (λ (l : List Formula). equationCount (x .formula) + length l) (sym same);
           done = λ u a d. done-at u (ℕ-discrete u v) a d;
           rest = λ w a d own.
-            subst (λ (l : List Formula). ((word (set numbers v (word numbers (word nodes v))) w ≡ 0) × (¬ In (formulaTree x w) l)) ⊎ ((word (set numbers v (word numbers (word nodes v))) w ≡ itemNumber x (formulaTree x w)) × In (formulaTree x w) l))
-            (sym same) (keep w (getD-set-other {A = ℕ} numbers v w (word numbers (word nodes v)) 0 (omega arith)) (so-far .rest w (omega arith) d own));
+              subst (λ (l : List Formula). ((word (set numbers v (word numbers (word nodes v))) w ≡ 0) × (¬ In (formulaTree x w) l)) ⊎ ((word (set numbers v (word numbers (word nodes v))) w ≡ itemNumber x (formulaTree x w)) × In (formulaTree x w) l))
+              (sym same) (keep w (getD-set-other {A = ℕ} numbers v w (word numbers (word nodes v)) 0 (omega arith)) (so-far .rest w (omega arith) d own));
         })
       where
         done-at : (u : ℕ) → Dec (u ≡ v) → firstBodyNode (x .formula) ≤ u → u < suc v → word (set numbers v (word numbers (word nodes v))) u ≡ itemNumber x (formulaTree x u)

@@ -81,7 +81,15 @@ fn number_items(
 }
 
 // Item q is shown by these words.
-fn put_entry(kinds: &mut [u32], lefts: &mut [u32], rights: &mut [u32], q: usize, k: u32, l: u32, r: u32)
+fn put_entry(
+    kinds: &mut [u32],
+    lefts: &mut [u32],
+    rights: &mut [u32],
+    q: usize,
+    k: u32,
+    l: u32,
+    r: u32,
+)
     requires { ⌜ (q < length (now kinds)) × (q < length (now lefts)) × (q < length (now rights)) ⌝ }
     ensures { λ _. ⌜ now (kinds .exit) ≡ set (now (kinds .entry)) q k ⌝ }
     ensures { λ _. ⌜ now (lefts .exit) ≡ set (now (lefts .entry)) q l ⌝ }
@@ -147,7 +155,16 @@ fn put_subformulas(
     let mut v = first_body_node(formula);
     while v < n {
         let q = at(numbers, v);
-        let s = formula_shape(labels, system, actions, formula, acts, equations, numbers, v);
+        let s = formula_shape(
+            labels,
+            system,
+            actions,
+            formula,
+            acts,
+            equations,
+            numbers,
+            v,
+        );
         put_entry(kinds, lefts, rights, q, s.kind, s.left, s.right);
         v += 1;
     }
@@ -180,7 +197,18 @@ fn number_all(
     ensures { λ _. ⌜ ItemNumbers (inputOf (now (labels .entry)) (now (system .entry)) (now (actions .entry)) (now (formula .entry))) (now (numbers .exit)) ⌝ }
 {
     number_actions(labels, classes, actions, kinds, lefts, rights, acts);
-    number_formula(labels, system, actions, formula, acts, equations, kinds, lefts, rights, nodes);
+    number_formula(
+        labels,
+        system,
+        actions,
+        formula,
+        acts,
+        equations,
+        kinds,
+        lefts,
+        rights,
+        nodes,
+    );
     number_items(labels, system, actions, formula, nodes, count, numbers)
 }
 
@@ -207,12 +235,44 @@ fn put_items(
     requires { ⌜ (count ≡ equationCount (now formula)) × (2048 ≤ length (now kinds)) × (2048 ≤ length (now lefts)) × (2048 ≤ length (now rights)) ⌝ }
     ensures { λ _. ⌜ FirstShown (inputOf (now (labels .entry)) (now (system .entry)) (now (actions .entry)) (now (formula .entry))) (length (items (inputOf (now (labels .entry)) (now (system .entry)) (now (actions .entry)) (now (formula .entry))))) (now (kinds .exit)) (now (lefts .exit)) (now (rights .exit)) ⌝ }
 {
-    put_equations(labels, system, actions, formula, bodies, operators, equations, numbers, count, kinds, lefts, rights);
-    put_subformulas(labels, system, actions, formula, acts, equations, numbers, count, kinds, lefts, rights);
+    put_equations(
+        labels,
+        system,
+        actions,
+        formula,
+        bodies,
+        operators,
+        equations,
+        numbers,
+        count,
+        kinds,
+        lefts,
+        rights,
+    );
+    put_subformulas(
+        labels,
+        system,
+        actions,
+        formula,
+        acts,
+        equations,
+        numbers,
+        count,
+        kinds,
+        lefts,
+        rights,
+    );
 }
 
 // Puts the priorities into the table: those of the equations, 0 elsewhere.
-fn put_priorities(formula: &[u32], bodies: &[u32], operators: &[u32], equations: &[u32], count: usize, priorities: &mut [u32])
+fn put_priorities(
+    formula: &[u32],
+    bodies: &[u32],
+    operators: &[u32],
+    equations: &[u32],
+    count: usize,
+    priorities: &mut [u32],
+)
     requires { ⌜ Listed (now formula) (now bodies) (now operators) (now equations) ⌝ }
     requires { ⌜ (count ≡ equationCount (now formula)) × (2048 ≤ length (now priorities)) ⌝ }
     ensures { λ _. ⌜ Ranked (now (formula .entry)) count (zeros (now (priorities .entry))) (now (priorities .exit)) ⌝ }
@@ -249,8 +309,36 @@ pub fn compile(
     let mut acts = [0u32; 1024];
     let mut nodes = [0u32; 1024];
     let count = list_equations(formula, &mut bodies, &mut operators, &mut equations);
-    let items = number_all(labels, system, actions, formula, classes, &equations, count, &mut acts, &mut nodes, kinds, lefts, rights, numbers);
-    put_items(labels, system, actions, formula, &bodies, &operators, &equations, &acts, numbers, count, kinds, lefts, rights);
+    let items = number_all(
+        labels,
+        system,
+        actions,
+        formula,
+        classes,
+        &equations,
+        count,
+        &mut acts,
+        &mut nodes,
+        kinds,
+        lefts,
+        rights,
+        numbers,
+    );
+    put_items(
+        labels,
+        system,
+        actions,
+        formula,
+        &bodies,
+        &operators,
+        &equations,
+        &acts,
+        numbers,
+        count,
+        kinds,
+        lefts,
+        rights,
+    );
     put_priorities(formula, &bodies, &operators, &equations, count, priorities);
     items
 }

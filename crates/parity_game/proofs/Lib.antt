@@ -1,5 +1,4 @@
 pub mod Pools
 pub mod Refusals
 pub mod Accepted
-pub mod Edges
 pub mod Stretches

@@ -1,14 +1,13 @@
-// The words of a parity game: the check of a game that is handed over, the place of a vertex's edges, and the first words of a game that is written.
+// The words of a parity game: the check of a game that is handed over, and the first words of a game that is written.
 use rules::Check;
 ghost use mathlib.Core.Path.{_≡_};
 ghost use mathlib.Core.List.{[], _∷_};
 ghost use Prim.Native.Nat.{_+_, _*_, _<_, _≤_};
 ghost use lib.ListN.{length};
-ghost use Rattle.rules.specs.Game.{vertexCount};
 ghost use Rattle.rules.specs.Refusal.{faultFrom, tooLarge};
 ghost use Rattle.rules.specs.GameRefusal.{falls, refusal51, refusal52, refusal53, gameRefusal};
 ghost use Rattle.words.specs.Stretches.{Wrote};
-ghost use Rattle.parity_game.specs.Checked.{edgesFrom, Sizes, Sound};
+ghost use Rattle.parity_game.specs.Sizes.{Sizes};
 
 // ---- the check
 
@@ -125,25 +124,15 @@ pub fn check_game(game: &[u32]) -> Check
     }
 }
 
-// ---- reading and writing
-
-// The place where the targets of vertex v begin; for the vertex count, the place where the last ones end.
-pub fn edges_from(game: &[u32], v: usize) -> usize
-    requires { ⌜ Sound (now game) ⌝ }
-    requires { ⌜ v ≤ vertexCount (now game) ⌝ }
-    ensures { λ r. ⌜ (r ≡ edgesFrom (now (game .entry)) v) × (r ≤ length (now (game .entry))) × (4 + 3 * vertexCount (now (game .entry)) ≤ r) ⌝ }
-{
-    let n = words::at(game, 0);
-    4 + 3 * n + words::at(game, 3 + 2 * n + v)
-}
+// ---- writing
 
 // The first words of a game that begins at vertex 0.
-pub fn write_header(vertices: usize, edges: usize, out: &mut [u32]) -> usize
-    requires { ⌜ (vertices < 4294967296) × (edges < 4294967296) × (3 ≤ length (now out)) ⌝ }
+pub fn write_header(vertices: u32, edges: u32, out: &mut [u32]) -> usize
+    requires { ⌜ 3 ≤ length (now out) ⌝ }
     ensures { λ r. ⌜ Wrote 0 (vertices ∷ edges ∷ 0 ∷ []) (now (out .entry)) (now (out .exit)) r ⌝ }
 {
-    out[0] = vertices as u32;
-    out[1] = edges as u32;
+    out[0] = vertices;
+    out[1] = edges;
     out[2] = 0;
     3
 }

@@ -1,14 +1,13 @@
 -- The end of a step: the edges of the vertex are counted, after one to itself where there are none. Assumes nothing.
 use mathlib.Core.Path.{_≡_, refl, _∙_, ap, ap₂}
-use mathlib.Core.List.{List, [], _∷_}
+use mathlib.Core.List.{List}
 use Prim.Native.Nat.{ℕ, _+_, _-_, _≤_, _<_}
 use native.Mathlib.Numerals.{add-one}
 use native.Mathlib.Omega.{arith}
-use lib.Dec.{lit≤, lit<}
+use lib.Dec.{lit<}
 use lib.ListN.{length, set}
 use Rattle.words.specs.Regions.{region, putWord}
 use Rattle.words.proofs.Regions.{region-same, region-other, length-putWord}
-use Rattle.pairs.specs.Table.{Table, keysOf}
 use Rattle.pairs.proofs.Uses.{keys-kept, table-kept}
 use Rattle.settling.specs.declared.Counters.{Counters}
 use Rattle.settling.specs.Stand.{edgesOf, putEdge}

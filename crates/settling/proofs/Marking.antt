@@ -17,11 +17,11 @@ use Rattle.lists.proofs.Inserts.{inserts-none, inserts-append, insert-old, inse
 use Rattle.lists.proofs.Equalities.{number-equality}
 use Rattle.words.specs.Regions.{region, putWord}
 use Rattle.words.proofs.Regions.{region-same, region-other, rest-region, length-region, length-putWord}
-use Rattle.pairs.specs.Table.{Table, keysOf}
+use Rattle.pairs.specs.Table.{keysOf}
 use Rattle.pairs.proofs.Uses.{keys-kept, length-keys}
 use Rattle.settling.specs.declared.Counters.{Counters}
 use Rattle.settling.specs.declared.Stepped.{Stepped}
-use Rattle.settling.specs.declared.Stepped.the-variants.{Room, Full}
+use Rattle.settling.specs.declared.Stepped.the-variants.{Room}
 use Rattle.settling.specs.Stand.{edgesOf, putEdge}
 use Rattle.settling.specs.Made.{Marks, Ready, Meeting, Made, TooMany, MarkedIn, Marked, Turned}
 use Rattle.settling.proofs.Buffer.{region-edge, edges-put, edges-rest}

@@ -12,7 +12,7 @@ use Rattle.words.specs.Regions.{region, putWord}
 use Rattle.words.proofs.Regions.{region-same, region-other, rest-put, rest-later, rest-region, length-region}
 use Rattle.pairs.specs.declared.Numbered.{Numbered}
 use Rattle.pairs.specs.declared.Numbered.the-variants.{Vertex}
-use Rattle.pairs.specs.Table.{Table, keysOf}
+use Rattle.pairs.specs.Table.{keysOf}
 use Rattle.pairs.specs.Answers.{Numbers, Numbering}
 use Rattle.pairs.proofs.Uses.{keys-kept, table-kept, numbers-by, vertex-place, more-count, room-new, known-new}
 use Rattle.settling.specs.Stand.{waitingIn, waitingOf}

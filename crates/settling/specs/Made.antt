@@ -5,7 +5,6 @@ use mathlib.Core.Logic.{_⊎_}
 use Prim.Native.Nat.{ℕ, suc, _+_, _-_, _*_, _≤_, _<_}
 use lib.Dec.{eqb}
 use lib.ListN.{length, set, drop}
-use Rattle.player.specs.declared.VertexIndex.{VertexIndex}
 use Rattle.rules.specs.Lists.{word, In, place, insert, insertAll}
 use Rattle.rules.specs.Walk.{pushNew}
 use Rattle.lists.specs.Shapes.{added, places}

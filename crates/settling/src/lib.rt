@@ -1,6 +1,6 @@
 // The parts of a step that are the same whatever a pair's targets come from: a target is numbered, pushed if it is new, and given an edge in the lent work slice.
-use player::VertexIndex;
 use pairs::Numbered;
+use player::VertexIndex;
 ghost use mathlib.Core.Path.{_≡_};
 ghost use mathlib.Core.List.{List, [], _∷_};
 ghost use Prim.Native.Nat.{ℕ, _+_, _*_, _≤_, _<_};

@@ -1,3 +1,4 @@
+-- `action_shape` meets its contract: each return is a law of the kinds. Assumes nothing.
 use native.Mathlib.Omega.{arith}
 use Rattle.rules.specs.Labels.{labelCount}
 use Rattle.alike_nodes.proofs.ActionShapes.{shape-leaf, label-below, shape-multi, next-below, right-below, shape-one, shape-two}

@@ -1,3 +1,4 @@
+-- `first_shown` meets its contract. No node that the loop passed is shown by the words. Assumes nothing.
 use mathlib.Core.Path.{_≡_, sym, _∙_}
 use mathlib.Core.Bool.{false}
 use Prim.Native.Nat.{ℕ, _+_, _-_, _≤_, _<_}

@@ -1,3 +1,4 @@
+-- `formula_shape` meets its contract: each return is a law of the kinds. Assumes nothing.
 use native.Mathlib.Omega.{arith}
 use Rattle.rules.specs.Words.{inputOf}
 use Rattle.rules.specs.Table.{size}

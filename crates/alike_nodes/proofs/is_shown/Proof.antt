@@ -1,3 +1,4 @@
+-- `is_shown` meets its contract: each return is a law of the test. Assumes nothing.
 use Rattle.alike_nodes.proofs.Placing.{other-kind, other-left, by-right}
 use borrow.Author.Needs.{needs}
 use Rattle.alike_nodes.proofs.is_shown.Statement.{statement}

@@ -1,3 +1,4 @@
+-- `number_of` meets its contract: the first later node was found, or there is none. Assumes nothing.
 use Rattle.alike_nodes.proofs.Placing.{number-found, number-own}
 use borrow.Author.Needs.{needs}
 use Rattle.alike_nodes.proofs.number_of.Statement.{statement}

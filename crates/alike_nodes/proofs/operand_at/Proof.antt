@@ -1,3 +1,4 @@
+-- `operand_at` meets its contract, by what the two reads ensure. Assumes nothing.
 use mathlib.Core.Path.{_≡_, ap, _∙_}
 use Prim.Native.Nat.{ℕ, _+_}
 use Rattle.rules.specs.Lists.{word}

@@ -1,3 +1,4 @@
+-- `place_node` meets its contract. Assumes nothing.
 use mathlib.Core.Path.{_≡_, refl, ap}
 use Prim.Native.Nat.{ℕ}
 use lib.ListN.{set}

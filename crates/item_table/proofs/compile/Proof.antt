@@ -1,3 +1,4 @@
+-- `compile` meets its contract, by what the four calls ensure. A local table keeps its length over a call. Assumes nothing.
 use mathlib.Core.Path.{_≡_, refl, sym, _∙_}
 use native.Mathlib.Omega.{arith}
 use Rattle.rules.specs.Words.{inputOf}

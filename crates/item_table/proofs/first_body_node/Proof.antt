@@ -1,3 +1,4 @@
+-- `first_body_node` meets its contract: each return is a law of the kinds. Assumes nothing.
 use native.Mathlib.Omega.{arith}
 use Rattle.item_table.proofs.Numbers.{first-low, first-high, first-fixpoint}
 use borrow.Author.Needs.{needs}

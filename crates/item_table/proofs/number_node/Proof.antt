@@ -1,3 +1,4 @@
+-- `number_node` meets its contract: the class has a number, or gets the next one. Assumes nothing.
 use mathlib.Core.Path.{refl}
 use mathlib.Core.Logic.{inl, inr}
 use borrow.Author.Needs.{needs}

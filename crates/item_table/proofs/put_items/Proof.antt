@@ -1,3 +1,4 @@
+-- `put_items` meets its contract, by what the two calls ensure. Assumes nothing.
 use mathlib.Core.Path.{_≡_, _∙_}
 use native.Mathlib.Omega.{arith}
 use Rattle.rules.specs.Words.{inputOf}

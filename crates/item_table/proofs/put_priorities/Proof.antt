@@ -1,3 +1,4 @@
+-- `put_priorities` meets its contract, by what the two calls ensure. Assumes nothing.
 use Rattle.item_table.proofs.Filling.{ranked-from}
 use native.Mathlib.Omega.{arith}
 use Rattle.trees.proofs.Equations.{count-limit}

@@ -1,3 +1,4 @@
+-- `put_subformulas` meets its contract. The equations and the items of the nodes before v are shown. Assumes nothing.
 use mathlib.Core.Path.{_≡_, refl, sym, ap, subst, _∙_}
 use Prim.Native.Nat.{ℕ, _+_, _-_, _≤_, _<_}
 use native.Mathlib.Omega.{arith}

@@ -54,7 +54,7 @@ same-length-2 c = search needs
 
 -- src/lib.rt:192:1
 returns-3 : tie.Need-returns-3
-returns-3 c = 
+returns-3 c =
     let s = c .before .before .before .before .before .before .before in
     close-others _ _ (s .args .work .now) _ (s .args .work .now) _ _ _ (s .pre .0) (s .pre .1) (s .pre .3) (c .before .before .before .before .before .if1 .left) (c .before .before .before .put-word2 .ensures)
 

@@ -11,7 +11,7 @@ use Rattle.words.proofs.put_word.Reads as put-word-reads
 
 -- src/lib.rt:67:11
 number-requires : tie.Need-number-requires
-number-requires c κs = 
+number-requires c κs =
     let r = c .before .before .pre .1 .0 in
     let f = c .before .before .pre .1 .1 in
     (c .before .before .pre .0, record { some = r .some; most = r .most; whole = omega (arith, r .whole); state-fits = f .state-fits; item-fits = f .item-fits; table = r .table })
@@ -30,7 +30,7 @@ returns c = met-old _ _ _ _ _ _ (c .before .before .before .before .before .befo
 
 -- src/lib.rt:76:13
 put-word-requires : tie.Need-put-word-requires
-put-word-requires c κs = 
+put-word-requires c κs =
     let room = met-room _ _ _ _ _ _ (c .before .before .before .before .before .before .before .number .ensures) _ _ (c .before .before .before .vertex .given .1) (c .before .if1 .left) in
     record {
       whole = omega (arith, c .before .before .before .before .before .before .before .before .before .before .pre .1 .0 .whole, c .before .before .before .before .before .before .before .number .kept .1 .0);
@@ -52,7 +52,7 @@ same-length-2 c = search needs
 
 -- src/lib.rt:52:1
 returns-2 : tie.Need-returns-2
-returns-2 c = 
+returns-2 c =
     let room = met-room _ _ _ _ _ _ (c .before .before .before .before .before .before .before .before .before .before .number .ensures) _ _ (c .before .before .before .before .before .before .vertex .given .1) (c .before .before .before .before .if1 .left) in
     met-new _ _ _ _ _ _ (c .before .before .before .before .before .before .before .before .before .before .number .ensures) _ _ (c .before .before .before .before .before .before .vertex .given .1) _ _ (c .before .before .before .before .if1 .left)
     (omega (arith, c .before .before .before .before .before .before .before .before .before .before .before .before .before .pre .1 .0 .stack, room)) (omega (arith, c .before .before .before .before .before .before .before .before .before .before .before .before .before .pre .1 .0 .whole, c .before .before .before .before .before .before .before .before .before .before .number .kept .1 .0)) (c .before .before .put-word .ensures)

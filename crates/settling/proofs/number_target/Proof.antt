@@ -1,5 +1,5 @@
 use mathlib.Core.Path.{refl, subst}
-use mathlib.Core.Logic.{inl, inr}
+use mathlib.Core.Logic.{inr}
 use native.Mathlib.Omega.{arith}
 use Rattle.settling.specs.Made.{MeetAnswer}
 use Rattle.settling.proofs.Make.{edge-made, many-one, marks-rest}
@@ -45,7 +45,7 @@ same-length-2 c = search needs
 
 -- src/lib.rt:88:1
 returns-2 : tie.Need-returns-2
-returns-2 c = 
+returns-2 c =
     let p = subst (MeetAnswer _ _ _ _ _ _) (c .before .before .before .before .before .before .vertex .given .1) (c .before .before .before .before .before .before .before .before .before .before .meet .ensures) in
     edge-made _ _ _ _ _ _ _ _ _ _ _ (c .before .before .before .before .before .before .before .before .before .before .before .before .before .pre .1 .0) p (omega (arith, c .before .before .before .before .before .before .before .before .before .before .before .before .before .pre .1 .0 .buffer, c .before .before .before .before .if1 .left)) (c .before .before .before .before .before .before .before .before .before .before .meet .kept .1 .0) (λ a h. refl) refl (marks-rest _ _ _ _ (p .rest)) (c .before .before .put-edge .ensures)
 

@@ -1,4 +1,4 @@
-use mathlib.Core.Path.{_≡_, sym, _∙_, subst}
+use mathlib.Core.Path.{sym, _∙_, subst}
 use native.Mathlib.Omega.{arith}
 use Rattle.settling.specs.Made.{MeetAnswer}
 use Rattle.settling.proofs.Marking.{met-below, once-old, once-new, once-many, once-crowded}
@@ -26,7 +26,7 @@ enum-known-vertex c = search needs
 
 -- src/lib.rt:146:16
 region-word-requires : tie.Need-region-word-requires
-region-word-requires c κs = 
+region-word-requires c κs =
     let p = subst (MeetAnswer _ _ _ _ _ _) (c .before .before .vertex .given .1) (c .before .before .before .before .before .before .meet .ensures) in
     record {
       whole = omega (arith, c .before .before .before .before .before .before .before .before .before .before .pre .1 .0 .0 .whole, c .before .before .before .before .before .before .meet .kept .1 .0);
@@ -40,7 +40,7 @@ same-length c = search needs
 
 -- src/lib.rt:147:17
 returns : tie.Need-returns
-returns c = 
+returns c =
     let p = subst (MeetAnswer _ _ _ _ _ _) (c .before .before .before .before .vertex .given .1) (c .before .before .before .before .before .before .before .before .meet .ensures) in
     λ ts k. once-old _ _ _ _ _ _ _ _ _ (c .before .before .before .before .before .before .before .before .before .before .before .before .pre .1 .0 .0) p ts (omega (arith, c .before .before .before .before .before .before .before .before .before .before .before .before .pre .1 .0 .0 .whole, c .before .before .before .before .before .before .before .before .meet .kept .1 .0)) (sym (c .before .region-word .ensures) ∙ c .if1 .taken) k
 
@@ -50,13 +50,13 @@ same-length-2 c = search needs
 
 -- src/lib.rt:155:17
 returns-2 : tie.Need-returns-2
-returns-2 c = 
+returns-2 c =
     let p = subst (MeetAnswer _ _ _ _ _ _) (c .before .before .before .before .before .vertex .given .1) (c .before .before .before .before .before .before .before .before .before .meet .ensures) in
     λ ts k. once-many _ _ _ _ _ _ _ _ _ (c .before .before .before .before .before .before .before .before .before .before .before .before .before .pre .1 .0 .0) p ts (λ z. c .before .if1 .left (c .before .before .region-word .ensures ∙ z)) (omega (arith, c .if2 .taken)) k
 
 -- src/lib.rt:157:13
 put-word-requires : tie.Need-put-word-requires
-put-word-requires c κs = 
+put-word-requires c κs =
     let p = subst (MeetAnswer _ _ _ _ _ _) (c .before .before .before .before .before .before .vertex .given .1) (c .before .before .before .before .before .before .before .before .before .before .meet .ensures) in
     record {
       whole = omega (arith, c .before .before .before .before .before .before .before .before .before .before .before .before .before .before .pre .1 .0 .0 .whole, c .before .before .before .before .before .before .before .before .before .before .meet .kept .1 .0);
@@ -82,7 +82,7 @@ same-length-3 c = search needs
 
 -- src/lib.rt:124:1
 returns-3 : tie.Need-returns-3
-returns-3 c = 
+returns-3 c =
     let p = subst (MeetAnswer _ _ _ _ _ _) (c .before .before .before .before .before .before .before .before .before .before .before .before .before .vertex .given .1) (c .before .before .before .before .before .before .before .before .before .before .before .before .before .before .before .before .before .meet .ensures) in
     λ ts k. once-new _ _ _ _ _ _ _ _ _ (c .before .before .before .before .before .before .before .before .before .before .before .before .before .before .before .before .before .before .before .before .before .pre .1 .0 .0) p ts _ _ (c .before .before .before .before .before .before .before .before .before .before .before .before .before .before .before .before .before .meet .kept .1 .0) (λ z. c .before .before .before .before .before .before .before .before .before .if1 .left (c .before .before .before .before .before .before .before .before .before .before .region-word .ensures ∙ z)) (omega (arith, c .before .before .before .before .before .before .before .before .before .before .before .before .before .before .before .before .before .before .before .before .before .pre .1 .0 .0 .buffer, c .before .before .before .before .before .before .before .before .if2 .left)) (c .before .before .before .before .before .before .put-word .ensures) (c .before .before .put-edge .ensures) k
 
@@ -92,7 +92,7 @@ same-length-4 c = search needs
 
 -- src/lib.rt:124:1
 returns-4 : tie.Need-returns-4
-returns-4 c = 
+returns-4 c =
     λ ts k. once-crowded _ _ _ (c .before .before .before .before .before .before .before .before .args .c) _ ts (c .before .before .before .before .before .before .before .before .pre .1 .0 .0 .table .chains .room) (subst (MeetAnswer _ _ _ _ _ _) (c .enum-told .given .1) (c .before .before .before .before .meet .ensures)) k
 
 pub target-once-spec : {M : Type 1} → statement M

@@ -1,8 +1,8 @@
 -- `first_transition` meets its contract: the loop begins at a sample. Assumes nothing.
-use mathlib.Core.Path.{_≡_, refl, sym, ap, _∙_}
-use Prim.Native.Nat.{ℕ, _+_, _-_, _*_, _/_, _≤_, _<_}
+use mathlib.Core.Path.{_≡_, ap, _∙_}
+use Prim.Native.Nat.{_-_, _*_, _/_, _≤_}
 use native.Mathlib.Omega.{arith}
-use Rattle.rules.specs.System.{stateCount, firstTransition}
+use Rattle.rules.specs.System.{firstTransition}
 use Rattle.transitions.specs.Samples.{stride}
 use Rattle.transitions.proofs.Sums.{first-more, first-most}
 use borrow.Author.Needs.{needs}

@@ -1,0 +1,4 @@
+pub mod Vertices
+pub mod Rows
+pub mod Edges
+pub mod Whole

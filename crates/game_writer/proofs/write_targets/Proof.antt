@@ -1,0 +1,71 @@
+use denote.Ref.{now}
+use Prim.Native.Nat.{ℕ, _-_, _≤_}
+use native.Mathlib.Omega.{arith}
+use mathlib.Core.List.{List, []}
+use Rattle.rules.specs.Game.{edgeTargets}
+use Rattle.words.proofs.Stretches.{Writing}
+use Rattle.game_writer.specs.Shown.{shownVertices}
+use Rattle.game_writer.proofs.Edges.{later, targets-start, targets-room, targets-put, targets-done}
+use Rattle.game_writer.proofs.write_targets.Statement.{statement}
+use Rattle.game_writer.proofs.write_targets.Tie as tie
+
+abbrev Inv-loop : tie.InvT-loop
+Inv-loop work v known game₀ start u₀ p₀ game u p =
+    (u ≤ known)
+    × ((kinds priorities : List ℕ) → Writing p (edgeTargets (later kinds priorities work v known u)) game start (edgeTargets (shownVertices kinds priorities work v known)) game₀)
+
+abbrev μ-loop : tie.MeasureT-loop
+μ-loop work v known game₀ start u₀ p₀ game u p = known - u
+
+loop-holds : tie.Need-loop-holds Inv-loop μ-loop
+loop-holds c =
+    let s = c .before .before in
+    (omega arith, λ ks ps. targets-start ks ps (now (s .args .work)) (s .args .v) (s .args .known) (s .pre .1 .0))
+
+write-edges-requires : tie.Need-write-edges-requires Inv-loop μ-loop
+write-edges-requires c κs =
+    let s = c .before .before .before .before .before in
+    let t = c .before .loop-test .taken in (
+      (
+        s .pre .0 .regions,
+        omega (arith, s .pre .0 .known, t),
+        targets-room [] [] (now (s .args .work)) (s .args .v) (s .args .known) (s .pre .1 .0) (c .before .before .loop .u) t (s .pre .1 .1) (c .before .before .loop .inv .1 [] []),
+      ),
+      s .pre .1 .0 .stretch _ t,
+    )
+
+add-u : tie.Need-add-u Inv-loop μ-loop
+add-u c = omega arith
+
+loop-less : tie.Need-loop-less Inv-loop μ-loop
+loop-less c = omega arith
+
+loop-again : tie.Need-loop-again Inv-loop μ-loop
+loop-again c =
+    let s = c .before .before .before .before .before .before .before .before in
+    let l = c .before .before .before .before .before .loop in (
+      omega arith,
+      λ ks ps. targets-put ks ps (now (s .args .work)) (s .args .v) (s .args .known) (s .pre .1 .0) (l .u) (c .before .before .before .before .loop-test .taken) (c .before .before .write-edges .kept .1 .1 .1 .0) (c .before .before .write-edges .ensures) (l .inv .1 ks ps),
+    )
+
+same-length : tie.Need-same-length Inv-loop μ-loop
+same-length c = c .before .loop .inv .1 [] [] .long
+
+returns : tie.Need-returns Inv-loop μ-loop
+returns c =
+    let s = c .before .before .before .before in
+    λ ks ps. targets-done ks ps (now (s .args .work)) (s .args .v) (s .args .known) (s .pre .1 .0) (c .before .loop .u) (c .loop-test .left) (c .before .loop .inv .1 ks ps)
+
+pub write-targets-spec : {M : Type 1} → statement M
+write-targets-spec =
+    tie.close
+    (tie.spec
+    Inv-loop
+    μ-loop
+    loop-holds
+    write-edges-requires
+    add-u
+    loop-less
+    loop-again
+    same-length
+    returns)

@@ -1,0 +1,75 @@
+-- The vertices of a walk as the work words and the item table show them (document 01, "Words handed over": the work slice; "A cut game shows a waiting vertex with
+-- owner 2, priority 0 and no edges"). A vertex waits exactly if its count of edges is 0: a settled one has an edge, if only to itself. Assumes nothing: these are
+-- definitions.
+use mathlib.Core.Path.{_≡_}
+use mathlib.Core.Bool.{cond}
+use mathlib.Core.List.{List, map}
+use Prim.Native.Nat.{ℕ, _+_, _*_, _≤_, _<_}
+use lib.ListN.{length, take, drop}
+use lib.Dec.{eqb}
+use Rattle.player.specs.Player.{playerIndex}
+use Rattle.player.specs.declared.Player.{Player}
+use Rattle.rules.specs.Lists.{word, from, sumWords}
+use Rattle.rules.specs.Game.{Vertex, stuckPriority}
+use Rattle.words.specs.Regions.{region}
+use Rattle.item_table.specs.Entries.{kindOwner}
+
+-- ---- one vertex. The regions have v words each, and the edge buffer stands behind the eight of them
+
+-- the item of vertex u, where its edges begin in the buffer, and how many they are
+abbrev pub itemIn : List ℕ → ℕ → ℕ → ℕ
+itemIn w v u = word (region 3 v w) u
+
+abbrev pub startIn : List ℕ → ℕ → ℕ → ℕ
+startIn w v u = word (region 5 v w) u
+
+abbrev pub countIn : List ℕ → ℕ → ℕ → ℕ
+countIn w v u = word (region 6 v w) u
+
+-- the player to whom the item of vertex u belongs
+unfoldable pub shownPlayer : List ℕ → List ℕ → ℕ → ℕ → Player
+shownPlayer kinds w v u = kindOwner (word kinds (itemIn w v u))
+
+unfoldable pub shownOwner : List ℕ → List ℕ → ℕ → ℕ → ℕ
+shownOwner kinds w v u = cond (eqb (countIn w v u) 0) 2 (playerIndex (shownPlayer kinds w v u))
+
+-- the item's priority, but if the first edge leads to the vertex itself, as only the edge does that is added where there is none, that of a vertex without targets
+unfoldable pub shownPriority : List ℕ → List ℕ → List ℕ → ℕ → ℕ → ℕ
+shownPriority kinds priorities w v u =
+    cond (eqb (countIn w v u) 0) 0
+    (cond (eqb (word w (8 * v + startIn w v u)) u) (stuckPriority (shownPlayer kinds w v u)) (word priorities (itemIn w v u)))
+
+unfoldable pub shownEdges : List ℕ → ℕ → ℕ → List ℕ
+shownEdges w v u = take (countIn w v u) (drop (8 * v + startIn w v u) w)
+
+-- theorem `shown-waiting`: a waiting vertex is shown as such
+unfoldable pub shownVertex : List ℕ → List ℕ → List ℕ → ℕ → ℕ → Vertex
+shownVertex kinds priorities w v u = record { owner = shownOwner kinds w v u; priority = shownPriority kinds priorities w v u; edges = shownEdges w v u }
+
+-- the first n vertices
+unfoldable pub shownVertices : List ℕ → List ℕ → List ℕ → ℕ → ℕ → List Vertex
+shownVertices kinds priorities w v n = map (shownVertex kinds priorities w v) (from 0 n)
+
+-- ---- what the functions ask for: sizes only
+
+-- the first n vertices have their words in the regions
+pub record Placed (w : List ℕ) (v n : ℕ) : Type 0 where
+  pub known : n ≤ v
+  pub regions : 8 * v ≤ length w
+
+-- the items of those that are settled have their words in a table of this size
+pub record ItemsWithin (w : List ℕ) (v n size : ℕ) : Type 0 where
+  pub item : (u : ℕ) → u < n → 0 < countIn w v u → itemIn w v u < size
+
+-- the edges of those that are settled stand in the buffer
+pub record EdgesWithin (w : List ℕ) (v n : ℕ) : Type 0 where
+  pub stretch : (u : ℕ) → u < n → 0 < countIn w v u → 8 * v + (startIn w v u + countIn w v u) ≤ length w
+
+-- all this, and the n vertices have m edges, which stand in the first m words of the buffer, and a game of this size has room for them
+pub record Showable (kinds priorities w : List ℕ) (v n m size : ℕ) : Type 0 where
+  pub known : n ≤ v
+  pub whole : 8 * v + m ≤ length w
+  pub items : (u : ℕ) → u < n → 0 < countIn w v u → (itemIn w v u < length kinds) × (itemIn w v u < length priorities)
+  pub stretches : (u : ℕ) → u < n → 0 < countIn w v u → startIn w v u + countIn w v u ≤ m
+  pub total : sumWords (region 6 v w) 0 n ≡ m
+  pub room : 4 + 3 * n + m ≤ size

@@ -1,0 +1,154 @@
+-- The stretches of the game that is written, one vertex reached at a time. Assumes nothing.
+use mathlib.Core.Path.{_≡_, refl, sym, ap, _∙_}
+use mathlib.Core.List.{List, [], _∷_, _++_, map}
+use Prim.Native.Nat.{ℕ, zero, suc, _+_, _-_, _≤_, _<_}
+use native.Mathlib.Numerals.{add-one}
+use native.Mathlib.Omega.{arith}
+use lib.ListN.{length, take, length-map}
+use lib.Seq.{slice, slice-cons, length-slice, length-take-le}
+use Rattle.rules.specs.Lists.{word}
+use Rattle.rules.specs.Game.{Vertex, edgeCount, offsets, edgeTargets, vertexCount, targetsIn}
+use Rattle.rules.specs.Restrict.{newNumber, keptVertex, keptVertices}
+use Rattle.words.proofs.Stretches.{Writing, carry-length}
+use Rattle.games.proofs.Reading.{length-offsets, length-targets}
+use Rattle.parity_game.proofs.Stretches.{offsets-none, offsets-more, targets-none, targets-more, edges-none, edges-more}
+use Rattle.restrictions.specs.GoodGame.{GoodGame}
+use Rattle.restrictions.proofs.Kept.{kept-length, edges-fit}
+use Rattle.reachability.specs.Search.{edgesFrom, Knows, Chosen}
+use Rattle.reachability.proofs.Edges.{targets-between, edges-past, edges-rise, edges-within, leads-at, degree}
+use Rattle.reachability.proofs.Meeting.{length-known, knows-at}
+use Rattle.reachability.proofs.Turns.{slice-none}
+
+-- the vertices that stand at the places from i up to count of the work slice
+pub some-of : List ℕ → List ℕ → ℕ → ℕ → List Vertex
+some-of g work count i = map (keptVertex g (take count work)) (slice i count work)
+
+pub all-some : (g work : List ℕ) (count : ℕ) → keptVertices g (take count work) ≡ some-of g work count 0
+unfolding some-of keptVertices
+all-some g work count = refl
+
+some-more : (g work : List ℕ) (count i : ℕ) → i < count → count ≤ length work
+    → some-of g work count i ≡ keptVertex g (take count work) (word work i) ∷ some-of g work count (i + 1)
+unfolding some-of
+some-more g work count i h k = rw (add-one i) (ap (map (keptVertex g (take count work))) (slice-cons i count work 0 h k))
+
+some-none : (g work : List ℕ) (count i : ℕ) → count ≤ i → some-of g work count i ≡ []
+unfolding some-of
+some-none g work count i h = rw (slice-none i count work h)
+
+-- how many edges the vertex at place i has, by the places that were read
+kept-degree : (g work : List ℕ) (count i v a b : ℕ) → Chosen g count work → i < count → v ≡ word work i → a ≡ edgesFrom g v → b ≡ edgesFrom g (v + 1)
+    → length (keptVertex g (take count work) (word work i) .edges) ≡ b - a
+unfolding keptVertex
+kept-degree g work count i v a b k h e p q =
+    length-map (targetsIn g (word work i)) (newNumber (take count work)) ∙ degree g (k .good) (word work i) (k .inside i h) ∙ sym (rw (p, q, e))
+
+-- those places are in order
+pub rises-read : (g work : List ℕ) (count i v a b : ℕ) → Chosen g count work → i < count → v ≡ word work i → a ≡ edgesFrom g v → b ≡ edgesFrom g (v + 1) → a ≤ b
+rises-read g work count i v a b k h e p q = rw (p, q) (edges-rise g (k .good) v (omega (arith, k .inside i h)))
+
+-- ---- the number of edges
+
+pub count-more : (g work : List ℕ) (count i v a b : ℕ) → Chosen g count work → i < count → v ≡ word work i → a ≡ edgesFrom g v → b ≡ edgesFrom g (v + 1)
+    → edgeCount (some-of g work count i) ≡ (b - a) + edgeCount (some-of g work count (i + 1))
+count-more g work count i v a b k h e p q =
+    ap edgeCount (some-more g work count i h (k .within))
+    ∙ edges-more (keptVertex g (take count work) (word work i)) (some-of g work count (i + 1))
+    ∙ ap (λ (n : ℕ). n + edgeCount (some-of g work count (i + 1))) (kept-degree g work count i v a b k h e p q)
+
+pub count-none : (g work : List ℕ) (count i : ℕ) → count ≤ i → edgeCount (some-of g work count i) ≡ 0
+count-none g work count i h = ap edgeCount (some-none g work count i h) ∙ edges-none
+
+-- ---- the offsets
+
+pub offsets-next : (g work : List ℕ) (count i v a b e : ℕ) → Chosen g count work → i < count → v ≡ word work i → a ≡ edgesFrom g v → b ≡ edgesFrom g (v + 1)
+    → offsets e (some-of g work count i) ≡ e ∷ offsets (e + (b - a)) (some-of g work count (i + 1))
+offsets-next g work count i v a b e k h r p q =
+    ap (offsets e) (some-more g work count i h (k .within))
+    ∙ offsets-more e (keptVertex g (take count work) (word work i)) (some-of g work count (i + 1))
+    ∙ ap (λ (n : ℕ). e ∷ offsets (e + n) (some-of g work count (i + 1))) (kept-degree g work count i v a b k h r p q)
+
+pub offsets-last : (g work : List ℕ) (count i e : ℕ) → count ≤ i → offsets e (some-of g work count i) ≡ e ∷ []
+offsets-last g work count i e h = ap (offsets e) (some-none g work count i h) ∙ offsets-none e
+
+-- ---- the targets
+
+-- two functions that agree at the words from a up to b
+alike : (f h : ℕ → ℕ) (g : List ℕ) (a b : ℕ) → b ≤ length g → ((p : ℕ) → a ≤ p → p < b → f (word g p) ≡ h (word g p)) → map f (slice a b g) ≡ map h (slice a b g)
+alike f h g a b k same = go (b - a) a (omega arith) same
+  where
+    go : (d a′ : ℕ) → b - a′ ≡ d → ((p : ℕ) → a′ ≤ p → p < b → f (word g p) ≡ h (word g p)) → map f (slice a′ b g) ≡ map h (slice a′ b g)
+    go zero a′ e w =
+        let n : slice a′ b g ≡ [] = slice-none a′ b g (omega arith) in
+        rw n
+    go (suc d) a′ e w =
+        let m : slice a′ b g ≡ word g a′ ∷ slice (suc a′) b g = slice-cons a′ b g 0 (omega arith) k in
+        let ih = go d (suc a′) (omega arith) (λ p l. w p (omega arith)) in
+        rw m (ap (λ (x : ℕ). x ∷ map f (slice (suc a′) b g)) (w a′ (omega arith) (omega arith)) ∙ ap (λ (l : List ℕ). h (word g a′) ∷ l) ih)
+
+-- the map holds the new numbers of the targets
+kept-edges : (g numbers work : List ℕ) (count v : ℕ) → GoodGame g → Knows count numbers work → length numbers ≡ vertexCount g → v < vertexCount g
+    → keptVertex g (take count work) v .edges ≡ map (λ t. word numbers t) (slice (edgesFrom g v) (edgesFrom g (v + 1)) g)
+unfolding keptVertex
+kept-edges g numbers work count v good n k h =
+    ap (map (newNumber (take count work))) (targets-between g v)
+    ∙ sym (alike (λ t. word numbers t) (newNumber (take count work)) g (edgesFrom g v) (edgesFrom g (v + 1)) last same)
+  where
+    last : edgesFrom g (v + 1) ≤ length g
+    last = edges-within g good (v + 1) (omega arith)
+
+    same : (r : ℕ) → edgesFrom g v ≤ r → r < edgesFrom g (v + 1) → word numbers (word g r) ≡ newNumber (take count work) (word g r)
+    same r l m = n .right (word g r) (omega (arith, leads-at g good r (omega (arith, edges-past g v)) (omega (arith, last))))
+
+pub targets-next : (g numbers work : List ℕ) (count i v a b : ℕ) → Chosen g count work → Knows count numbers work → length numbers ≡ vertexCount g → i < count
+    → v ≡ word work i → a ≡ edgesFrom g v → b ≡ edgesFrom g (v + 1)
+    → edgeTargets (some-of g work count i) ≡ map (λ t. word numbers t) (slice a b g) ++ edgeTargets (some-of g work count (i + 1))
+targets-next g numbers work count i v a b c n k h e p q =
+    ap edgeTargets (some-more g work count i h (c .within))
+    ∙ targets-more (keptVertex g (take count work) (word work i)) (some-of g work count (i + 1))
+    ∙ ap (λ (l : List ℕ). l ++ edgeTargets (some-of g work count (i + 1))) (kept-edges g numbers work count (word work i) (c .good) n k (c .inside i h) ∙ read)
+  where
+    read : map (λ t. word numbers t) (slice (edgesFrom g (word work i)) (edgesFrom g (word work i + 1)) g) ≡ map (λ t. word numbers t) (slice a b g)
+    read = rw (p, q, e)
+
+pub targets-last : (g work : List ℕ) (count i : ℕ) → count ≤ i → edgeTargets (some-of g work count i) ≡ []
+targets-last g work count i h = ap edgeTargets (some-none g work count i h) ∙ targets-none
+
+-- ---- the room that is left
+
+pub offsets-room : (g work : List ℕ) (count i e : ℕ) {p at₀ : ℕ} {out out₀ : List ℕ} → Chosen g count work → at₀ + (count + 1) ≤ length out₀
+    → Writing p (offsets e (some-of g work count i)) out at₀ (offsets 0 (keptVertices g (take count work))) out₀ → p < length out
+offsets-room g work count i e k h w =
+    omega (
+      arith,
+      w .long,
+      w .last,
+      length-offsets e (some-of g work count i),
+      length-offsets 0 (keptVertices g (take count work)),
+      kept-length g (take count work),
+      length-take-le count work (k .within),
+    )
+
+pub targets-room : (g work : List ℕ) (count i : ℕ) {p at₀ : ℕ} {out out₀ : List ℕ} → at₀ + edgeCount (keptVertices g (take count work)) ≤ length out₀
+    → Writing p (edgeTargets (some-of g work count i)) out at₀ (edgeTargets (keptVertices g (take count work))) out₀ → p + edgeCount (some-of g work count i) ≤ length out
+targets-room g work count i h w =
+    omega (arith, w .long, w .last, length-targets (some-of g work count i), length-targets (keptVertices g (take count work)))
+
+-- ---- the vertices met can be written
+
+pub chosen : (g numbers work : List ℕ) (count : ℕ) → GoodGame g → Knows count numbers work → length numbers ≡ vertexCount g → Chosen g count work
+chosen g numbers work count good k n =
+    record {
+      good = good;
+      within = omega (arith, k .within, k .workLong);
+      few = omega (arith, k .within);
+      inside = λ i h. omega (arith, knows-at k i h);
+      fit = edges-fit g good (take count work) (k .distinct) (λ v m. omega (arith, k .below v m));
+    }
+
+-- ---- the targets of one vertex
+
+pub numbers-room : (g numbers : List ℕ) (from q end : ℕ) {p at₀ : ℕ} {out out₀ : List ℕ} → q < end → end ≤ length g → at₀ + (end - from) ≤ length out₀
+    → Writing p (map (λ t. word numbers t) (slice q end g)) out at₀ (map (λ t. word numbers t) (slice from end g)) out₀ → p < length out
+numbers-room g numbers from q end h k r w =
+    omega (arith, w .long, w .last, carry-length (λ t. word numbers t) g from end k, carry-length (λ t. word numbers t) g q end k)

@@ -1,0 +1,77 @@
+-- The keys of a pair's targets, by the words that the table has for its item. Assumes nothing.
+use mathlib.Core.Path.{_≡_, refl, _∙_, ap}
+use mathlib.Core.List.{List, [], _∷_, map}
+use Prim.Native.Nat.{ℕ, _≤_, _<_}
+use native.Mathlib.Omega.{arith}
+use lib.ListN.{length}
+use Rattle.rules.specs.Lists.{word}
+use Rattle.rules.specs.Words.{Input}
+use Rattle.rules.specs.Table.{size}
+use Rattle.rules.specs.Actions.{actionTree}
+use Rattle.rules.specs.Items.{items}
+use Rattle.rules.specs.Pairs.{targets, successors}
+use Rattle.arena.specs.Arena.{Inside}
+use Rattle.arena.proofs.ItemNumbers.{items-few}
+use Rattle.item_table.specs.Entries.{Entry}
+use Rattle.item_table.proofs.Steps.{entry-none, entry-two, entry-modal, entry-action, entry-one, entry-left, entry-right}
+use Rattle.pairs.specs.Slot.{keyOf}
+use Rattle.settling.specs.Keys.{pairKey}
+use Rattle.settling.specs.Made.{Fitting}
+use Rattle.stepping.specs.Tables.{Tables}
+
+key-each : (l : ℕ) (ts : List ℕ) → map pairKey (map (λ t. (t, l)) ts) ≡ map (λ t. keyOf t l) ts
+key-each l [] = refl
+key-each l (t ∷ ts) = ap (λ (ks : List ℕ). keyOf t l ∷ ks) (key-each l ts)
+
+module _ (x : Input) (multiples classes samples kinds lefts rights priorities : List ℕ) (t : Tables x multiples classes samples kinds lefts rights priorities) (s q : ℕ)
+    (i : Inside x (s, q)) where
+  pub kinds-long : q < length kinds
+  kinds-long = omega (arith, i .1, t .items .kinds-room)
+
+  pub lefts-long : q < length lefts
+  lefts-long = omega (arith, i .1, t .items .lefts-room)
+
+  pub rights-long : q < length rights
+  rights-long = omega (arith, i .1, t .items .rights-room)
+
+  state-fits : s < 65535
+  state-fits = omega (arith, i .0, t .input .system .states)
+
+  -- the words as they are read
+  module _ (k : ℕ) (is-kind : k ≡ word kinds q) where
+    pub kind-none : k < 2 → map pairKey (targets x (s, q)) ≡ []
+    kind-none h = ap (map pairKey) (entry-none x q (word kinds q) (word lefts q) (word rights q) (word priorities q) s (t .items .entry q (i .1)) (omega arith))
+
+    module _ (l : ℕ) (is-left : l ≡ word lefts q) where
+      first : Entry x q k l (word rights q) (word priorities q)
+      first = rw (is-kind, is-left) (t .items .entry q (i .1))
+
+      pub kind-one : 6 ≤ k → map pairKey (targets x (s, q)) ≡ keyOf s l ∷ []
+      kind-one a = ap (map pairKey) (entry-one x q k l (word rights q) (word priorities q) s first a)
+
+      pub left-small : 2 ≤ k → l < 2048
+      left-small a = omega (arith, entry-left x q k l (word rights q) (word priorities q) s first (t .input) (i .1) a, items-few x (t .input))
+
+      pub left-fits : 2 ≤ k → Fitting s l
+      left-fits a = record { state-fits = state-fits; item-fits = left-small a }
+
+      module _ (r : ℕ) (is-right : r ≡ word rights q) where
+        both : Entry x q k l r (word priorities q)
+        both = rw is-right first
+
+        pub kind-two : 2 ≤ k → k < 4 → map pairKey (targets x (s, q)) ≡ keyOf s l ∷ keyOf s r ∷ []
+        kind-two a b = ap (map pairKey) (entry-two x q k l r (word priorities q) s both a (omega arith))
+
+        pub right-fits : 2 ≤ k → k < 4 → Fitting s r
+        right-fits a b =
+            record {
+              state-fits = state-fits;
+              item-fits = omega (arith, entry-right x q k l r (word priorities q) s both (t .input) (i .1) a (omega arith), items-few x (t .input));
+            }
+
+        pub kind-modal : 4 ≤ k → k < 6 → map pairKey (targets x (s, q)) ≡ map (λ t. keyOf t l) (successors x (actionTree (x .labels) (x .actions) r) s)
+        kind-modal a b =
+            ap (map pairKey) (entry-modal x q k l r (word priorities q) s both a (omega arith)) ∙ key-each l (successors x (actionTree (x .labels) (x .actions) r) s)
+
+        pub action-there : 4 ≤ k → k < 6 → r < size (x .actions)
+        action-there a b = entry-action x q k l r (word priorities q) s both a (omega arith)

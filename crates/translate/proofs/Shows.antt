@@ -1,0 +1,287 @@
+-- The vertices that the work words and the item table show are those of the walk: once the keys in the work words are those of the walk's pairs. Assumes nothing.
+use mathlib.Core.Path.{_≡_, refl, sym, ap, ap₂, _∙_, subst}
+use mathlib.Core.Bool.{Bool, true, false, cond}
+use mathlib.Core.List.{List, [], _∷_, _++_, map}
+use mathlib.Core.Logic.{_⊎_, inl, inr, ⊎-elim}
+use Prim.Native.Nat.{ℕ, zero, suc, _+_, _-_, _*_, _≤_, _<_, max}
+use native.Mathlib.Nat.{not-suc-le-zero, le-of-suc-le-suc}
+use native.Mathlib.Omega.{arith}
+use lib.ListN.{length, getD, take, drop, length-map}
+use lib.Seq.{take-take, drop-drop}
+use lib.Dec.{eqb}
+use borrow.Author.Tests.{eq-eqb, ne-eqb}
+use Rattle.player.specs.Player.{playerIndex}
+use Rattle.player.specs.declared.Player.{Player}
+use Rattle.rules.specs.Lists.{word, In, from, place}
+use Rattle.rules.specs.Words.{Input}
+use Rattle.rules.specs.Depth.{byDepth}
+use Rattle.rules.specs.Items.{items}
+use Rattle.rules.specs.Pairs.{Pair, samePair, initialPair, owner, priority, targets}
+use Rattle.rules.specs.Reach.{Reachable, onward}
+use Rattle.rules.specs.Walk.{State, walk}
+use Rattle.rules.specs.Game.{Vertex, waitingVertex, stuckPriority, settledVertex, vertexAt, vertices}
+use Rattle.rules.specs.Run.{walkOf, verticesOf}
+use Rattle.rules.specs.Good.{GoodInput}
+use Rattle.lists.specs.Shapes.{places}
+use Rattle.lists.proofs.Members.{map-at, in-at, in-or, place-at, place-below}
+use Rattle.lists.proofs.Equalities.{number-equality, pair-equality}
+use Rattle.arena.specs.Arena.{Inside}
+use Rattle.arena.proofs.ItemNumbers.{items-few}
+use Rattle.arena.proofs.Inside.{initial-inside, targets-inside}
+use Rattle.arena.proofs.SelfTargets.{no-self-target}
+use Rattle.walks.specs.Sums.{Settled}
+use Rattle.walks.proofs.Steps.{sound}
+use Rattle.walks.proofs.Reached.{reachable-inside}
+use Rattle.walks.proofs.Rename.{places-map}
+use Rattle.theorems.proofs.Vertices.{vertex-waits, vertex-settled, settled-degree}
+use Rattle.words.specs.Regions.{region}
+use Rattle.pairs.specs.Slot.{keyOf}
+use Rattle.pairs.specs.Table.{keysOf}
+use Rattle.pairs.proofs.Chain.{getD-keysIn}
+use Rattle.pairs.proofs.Uses.{key-state, key-item, key-same, length-keys}
+use Rattle.settling.specs.declared.Counters.{Counters}
+use Rattle.settling.specs.Keys.{pairKey, keyPair, keyTargets, rootKey}
+use Rattle.settling.specs.Stand.{waitingOf, edgesOf, standOf, edgesFor}
+use Rattle.settling.specs.Good.{Good, Stretch}
+use Rattle.item_table.specs.Entries.{Entry, ItemTable, kindOwner}
+use Rattle.item_table.proofs.Steps.{entry-owner, entry-priority}
+use Rattle.game_writer.specs.Shown.{itemIn, startIn, countIn, shownPlayer, shownOwner, shownPriority, shownEdges, shownVertex, shownVertices}
+
+-- ---- lists
+
+-- a part of a part
+drop-of-take : (s m : ℕ) (l : List ℕ) → drop s (take m l) ≡ take (m - s) (drop s l)
+drop-of-take zero m l = let e : m ≡ m - 0 = omega arith in ap (λ (n : ℕ). take n l) e
+drop-of-take (suc s) zero l = let e : 0 - suc s ≡ 0 = omega arith in sym (ap (λ (n : ℕ). take n (drop (suc s) l)) e)
+drop-of-take (suc s) (suc m) [] = nothing (m - s) (suc m - suc s)
+  where
+    nothing : (a b : ℕ) → _≡_ {A = List ℕ} [] (take b [])
+    nothing a zero = refl
+    nothing a (suc b) = refl
+drop-of-take (suc s) (suc m) (x ∷ l) = let e : m - s ≡ suc m - suc s = omega arith in drop-of-take s m l ∙ ap (λ (n : ℕ). take n (drop s l)) e
+
+part-of-part : (c s m b : ℕ) (w : List ℕ) → s + c ≤ m → take c (drop s (take m (drop b w))) ≡ take c (drop (b + s) w)
+part-of-part c s m b w h =
+    ap (take c) (drop-of-take s m (drop b w))
+    ∙ take-take c (m - s) (drop s (drop b w)) (omega arith)
+    ∙ ap (take c) (drop-drop s b w)
+
+-- the first word of a part
+head-of-part : (c b : ℕ) (w : List ℕ) (t : ℕ) (ts : List ℕ) → take c (drop b w) ≡ t ∷ ts → word w b ≡ t
+head-of-part c zero w t ts e = go c w e
+  where
+    go : (n : ℕ) (l : List ℕ) → take n l ≡ t ∷ ts → word l 0 ≡ t
+    go zero l f = absurd (let z : 0 ≡ suc (length ts) = ap length f in omega arith)
+    go (suc n) [] f = absurd (let z : 0 ≡ suc (length ts) = ap length f in omega arith)
+    go (suc n) (y ∷ l) f = ap (λ (q : List ℕ). word q 0) f
+head-of-part c (suc b) [] t ts e = absurd (none c e)
+  where
+    none : (n : ℕ) → take n [] ≡ t ∷ ts → ⊥
+    none zero f = let z : 0 ≡ suc (length ts) = ap length f in absurd (omega arith)
+    none (suc n) f = let z : 0 ≡ suc (length ts) = ap length f in absurd (omega arith)
+head-of-part c (suc b) (y ∷ w) t ts e = head-of-part c b w t ts e
+
+short-part : (c b : ℕ) (w : List ℕ) → c ≡ 0 → take c (drop b w) ≡ []
+short-part c b w e = ap (λ (n : ℕ). take n (drop b w)) e
+
+part-length : (c b : ℕ) (w : List ℕ) → length (take c (drop b w)) ≤ c
+part-length zero b w = omega arith
+part-length (suc c) b w = go (drop b w)
+  where
+    least : (n : ℕ) (l : List ℕ) → length (take n l) ≤ n
+    least zero l = omega arith
+    least (suc n) [] = omega arith
+    least (suc n) (y ∷ l) = omega (arith, least n l)
+
+    go : (l : List ℕ) → length (take (suc c) l) ≤ suc c
+    go l = least (suc c) l
+
+map-from : (f g : ℕ → Vertex) (i n : ℕ) → ((u : ℕ) → i ≤ u → u < i + n → f u ≡ g u) → map f (from i n) ≡ map g (from i n)
+unfolding from
+map-from f g i zero h = refl
+map-from f g i (suc n) h =
+    ap (λ (y : Vertex). y ∷ map f (from (suc i) n)) (h i (omega arith) (omega arith))
+    ∙ ap (λ (ys : List Vertex). g i ∷ ys) (map-from f g (suc i) n (λ u a b. h u (omega arith) (omega arith)))
+
+-- ---- one vertex
+
+-- a vertex with one more edge than none is not waiting, and its owner, priority and edges are those of the rules
+module _ (x : Input) (good : GoodInput x) (k : ℕ) (kinds lefts rights priorities : List ℕ) (table : ItemTable x kinds lefts rights priorities)
+    (w : List ℕ) (v e : ℕ) (c : Counters) (g : Good (keyTargets x) (rootKey x) w v e c)
+    (same-known : keysOf w v (c .known) ≡ map pairKey (walkOf x k .known)) (same-waiting : waitingOf w v (c .waiting) ≡ walkOf x k .waiting) where
+  abbrev st : State Pair
+  st = walkOf x k
+
+  abbrev pair : ℕ → Pair
+  pair u = getD (st .known) u (initialPair x)
+
+  pub known-many : length (st .known) ≡ c .known
+  known-many = sym (length-map (st .known) pairKey) ∙ ap length (sym same-known) ∙ length-keys w v (c .known)
+
+  reached : (p : Pair) → In p (st .known) → Reachable (targets x) (initialPair x) p
+  unfolding walkOf
+  reached = sound pair-equality (targets x) (initialPair x) k .reached
+
+  inside : (p : Pair) → Reachable (targets x) (initialPair x) p → Inside x p
+  inside = reachable-inside (targets x) (initialPair x) (Inside x) (initial-inside x good) (λ p i q m. targets-inside x good p q i m)
+
+  pair-reached : (u : ℕ) → u < c .known → Reachable (targets x) (initialPair x) (pair u)
+  pair-reached u h = reached (pair u) (in-at (st .known) u (initialPair x) (omega (arith, known-many)))
+
+  item-small : (p : Pair) → Inside x p → p .1 < 2048
+  item-small p i = let m = items-few x good in omega (arith, i .1)
+
+  key-at : (u : ℕ) → u < c .known → getD (keysOf w v (c .known)) u (rootKey x) ≡ pairKey (pair u)
+  key-at u h = ap (λ (l : List ℕ). getD l u (rootKey x)) same-known ∙ map-at pairKey (st .known) u (initialPair x) (rootKey x) (omega (arith, known-many))
+
+  word-at : (u : ℕ) → u < c .known → word (keysOf w v (c .known)) u ≡ pairKey (pair u)
+  word-at u h = ap (λ (l : List ℕ). getD l u 0) same-known ∙ map-at pairKey (st .known) u (initialPair x) 0 (omega (arith, known-many))
+
+  item-at : (u : ℕ) → u < c .known → itemIn w v u ≡ pair u .1
+  item-at u h =
+      key-same (word (region 2 v w) u) (itemIn w v u) (pair u .0) (pair u .1) (g .ready .table .small u h .item)
+      (item-small (pair u) (inside (pair u) (pair-reached u h)))
+      (sym (getD-keysIn (region 2 v w) (region 3 v w) (c .known) u h) ∙ word-at u h) .1
+
+  back : (p : Pair) → p .1 < 2048 → keyPair (pairKey p) ≡ p
+  back p h = ap₂ (λ (s q : ℕ). (s, q)) (key-state (p .0) (p .1) h) (key-item (p .0) (p .1) h)
+
+  targets-at : (u : ℕ) → u < c .known → keyTargets x (getD (keysOf w v (c .known)) u (rootKey x)) ≡ map pairKey (targets x (pair u))
+  unfolding keyTargets
+  targets-at u h =
+      ap (λ (n : ℕ). map pairKey (targets x (keyPair n))) (key-at u h)
+      ∙ ap (λ (p : Pair). map pairKey (targets x p)) (back (pair u) (item-small (pair u) (inside (pair u) (pair-reached u h))))
+
+  numbers-at : (u : ℕ) → u < c .known → (t : Pair) → In t (targets x (pair u)) → Reachable (targets x) (initialPair x) t
+  numbers-at u h t m = onward (pair-reached u h) m
+
+  -- different reachable pairs have different keys
+  keys-apart : (p q : Pair) → Reachable (targets x) (initialPair x) p → Reachable (targets x) (initialPair x) q → pairKey p ≡ pairKey q → p ≡ q
+  keys-apart p q r s e =
+      let (a, b) = key-same (p .0) (p .1) (q .0) (q .1) (item-small p (inside p r)) (item-small q (inside q s)) e in
+      ap₂ (λ (i j : ℕ). (i, j)) a b
+
+  -- the edges of a settled vertex, as the rules number its targets
+  abbrev numbers : ℕ → List ℕ
+  numbers u = map (λ q. place samePair q (st .known)) (targets x (pair u))
+
+  keys-moved : (p : Pair) → Reachable (targets x) (initialPair x) p → keyTargets x (pairKey p) ≡ map pairKey (targets x p)
+  unfolding keyTargets
+  keys-moved p r = ap (λ (q : Pair). map pairKey (targets x q)) (back p (item-small p (inside p r)))
+
+  places-at : (u : ℕ) → u < c .known → places eqb (keysOf w v (c .known)) (map pairKey (targets x (pair u))) ≡ numbers u
+  unfolding places
+  places-at u h =
+      ap (λ (l : List ℕ). places eqb l (map pairKey (targets x (pair u)))) same-known
+      ∙ places-map pair-equality number-equality pairKey (targets x) (keyTargets x) (initialPair x) keys-apart keys-moved (st .known) (targets x (pair u)) reached (numbers-at u h)
+
+  edges-for : (u : ℕ) (o : Player) (p : ℕ) (ts : List Pair) → places eqb (keysOf w v (c .known)) (map pairKey ts) ≡ map (λ q. place samePair q (st .known)) ts
+      → edgesFor u (keysOf w v (c .known)) (map pairKey ts) ≡ settledVertex u o p (map (λ q. place samePair q (st .known)) ts) .edges
+  unfolding edgesFor settledVertex
+  edges-for u o p [] s = refl
+  edges-for u o p (t ∷ ts) s = s
+
+  shown-edges : (u : ℕ) → u < c .known → (¬ In u (st .waiting)) → (o : Player) (p : ℕ) → shownEdges w v u ≡ settledVertex u o p (numbers u) .edges
+  unfolding shownEdges edgesOf
+  shown-edges u h n o p =
+      let s = g .stretches u (omega (arith, length-keys w v (c .known)), λ m. n (subst (In u) same-waiting m)) in
+      sym (part-of-part (countIn w v u) (startIn w v u) (c .edges) (8 * v) w (s .inside))
+      ∙ s .row
+      ∙ ap (edgesFor u (keysOf w v (c .known))) (targets-at u h)
+      ∙ edges-for u o p (targets x (pair u)) (places-at u h)
+
+  shown-length : (u : ℕ) → u < c .known → (¬ In u (st .waiting)) → 0 < countIn w v u
+  unfolding shownEdges
+  shown-length u h n =
+      let o = owner x (pair u) in
+      let e : length (take (countIn w v u) (drop (8 * v + startIn w v u) w)) ≡ max 1 (length (numbers u))
+      = ap length (shown-edges u h n o 0) ∙ settled-degree u o 0 (numbers u) in
+      omega (arith, part-length (countIn w v u) (8 * v + startIn w v u) w)
+
+  waits-none : (u : ℕ) → u < c .known → In u (st .waiting) → countIn w v u ≡ 0
+  waits-none u h m =
+      let l = g .ready .table .chains .room in
+      let z = g .unsettled u (omega arith) (λ s. s .1 (subst (In u) (sym same-waiting) m)) in
+      omega arith
+
+  entry-at : (u : ℕ) → u < c .known → Entry x (pair u .1) (word kinds (pair u .1)) (word lefts (pair u .1)) (word rights (pair u .1)) (word priorities (pair u .1))
+  entry-at u h = table .entry (pair u .1) (inside (pair u) (pair-reached u h) .1)
+
+  player-at : (u : ℕ) → u < c .known → shownPlayer kinds w v u ≡ owner x (pair u)
+  unfolding shownPlayer
+  player-at u h =
+      ap (λ (q : ℕ). kindOwner (word kinds q)) (item-at u h)
+      ∙ sym (entry-owner x (pair u .1) (word kinds (pair u .1)) (word lefts (pair u .1)) (word rights (pair u .1)) (word priorities (pair u .1)) (pair u .0) (entry-at u h))
+
+  priority-at : (u : ℕ) → u < c .known → word priorities (itemIn w v u) ≡ priority byDepth x (pair u)
+  priority-at u h =
+      ap (word priorities) (item-at u h)
+      ∙ sym (entry-priority x (pair u .1) (word kinds (pair u .1)) (word lefts (pair u .1)) (word rights (pair u .1)) (word priorities (pair u .1)) (pair u .0) (entry-at u h))
+
+  -- the first edge of a vertex with targets leads to another vertex
+  first-other : (u : ℕ) → u < c .known → (¬ In u (st .waiting)) → (t : Pair) → In t (targets x (pair u)) → ¬ (place samePair t (st .known) ≡ u)
+  unfolding walkOf
+  first-other u h n t m e =
+      let l : u < length (st .known) = omega (arith, known-many) in
+      let known = sound pair-equality (targets x) (initialPair x) k .edges u l n t m in
+      let same : t ≡ pair u = sym (place-at pair-equality t (st .known) (initialPair x) known) ∙ ap (λ (i : ℕ). getD (st .known) i (initialPair x)) e in
+      no-self-target x good (pair u) (inside (pair u) (pair-reached u h)) (subst (λ (q : Pair). In q (targets x (pair u))) same m)
+
+  settled-priority : (u : ℕ) (o : Player) (p : ℕ) (ts : List Pair) (b : ℕ) → (shown : List ℕ) → take b (drop (8 * v + startIn w v u) w) ≡ shown
+      → shown ≡ settledVertex u o p (map (λ q. place samePair q (st .known)) ts) .edges
+      → ((t : Pair) → In t ts → ¬ (place samePair t (st .known) ≡ u))
+      → cond (eqb (word w (8 * v + startIn w v u)) u) (stuckPriority o) p ≡ settledVertex u o p (map (λ q. place samePair q (st .known)) ts) .priority
+  unfolding settledVertex
+  settled-priority u o p [] b shown s f other =
+      let e : word w (8 * v + startIn w v u) ≡ u = head-of-part b (8 * v + startIn w v u) w u [] (s ∙ f) in
+      rw (eq-eqb (word w (8 * v + startIn w v u)) u e) refl
+  settled-priority u o p (t ∷ ts) b shown s f other =
+      let e : word w (8 * v + startIn w v u) ≡ place samePair t (st .known)
+      = head-of-part b (8 * v + startIn w v u) w (place samePair t (st .known)) (map (λ q. place samePair q (st .known)) ts) (s ∙ f) in
+      rw (ne-eqb (word w (8 * v + startIn w v u)) u (λ q. other t (inl refl) (sym e ∙ q))) refl
+
+  settled-owned : (u : ℕ) (o : Player) (p : ℕ) (es : List ℕ) → settledVertex u o p es .owner ≡ playerIndex o
+  unfolding settledVertex
+  settled-owned u o p [] = refl
+  settled-owned u o p (e ∷ es) = refl
+
+  abbrev ruled : ℕ → Vertex
+  ruled u = settledVertex u (owner x (pair u)) (priority byDepth x (pair u)) (numbers u)
+
+  shown-settled : (u : ℕ) → u < c .known → (¬ In u (st .waiting)) → shownVertex kinds priorities w v u ≡ ruled u
+  unfolding shownVertex shownOwner shownPriority
+  shown-settled u h n =
+      let some : eqb (countIn w v u) 0 ≡ false = ne-eqb (countIn w v u) 0 (λ z. let l = shown-length u h n in omega arith) in
+      let a : shownOwner kinds w v u ≡ ruled u .owner
+      = rw some (ap playerIndex (player-at u h) ∙ sym (settled-owned u (owner x (pair u)) (priority byDepth x (pair u)) (numbers u))) in
+      let b : shownPriority kinds priorities w v u ≡ ruled u .priority
+      = rw (some, player-at u h, priority-at u h)
+      (settled-priority u (owner x (pair u)) (priority byDepth x (pair u)) (targets x (pair u)) (countIn w v u) (shownEdges w v u) (edges-word u)
+      (shown-edges u h n (owner x (pair u)) (priority byDepth x (pair u))) (first-other u h n)) in
+      λ i. record { owner = a i; priority = b i; edges = shown-edges u h n (owner x (pair u)) (priority byDepth x (pair u)) i }
+    where
+      edges-word : (z : ℕ) → take (countIn w v z) (drop (8 * v + startIn w v z) w) ≡ shownEdges w v z
+      edges-word z = unfold shownEdges in refl
+
+  shown-waits : (u : ℕ) → u < c .known → In u (st .waiting) → shownVertex kinds priorities w v u ≡ waitingVertex
+  unfolding shownVertex shownOwner shownPriority shownEdges waitingVertex
+  shown-waits u h m =
+      let none : eqb (countIn w v u) 0 ≡ true = eq-eqb (countIn w v u) 0 (waits-none u h m) in
+      let a : shownOwner kinds w v u ≡ 2 = rw none refl in
+      let b : shownPriority kinds priorities w v u ≡ 0 = rw none refl in
+      λ i. record { owner = a i; priority = b i; edges = short-part (countIn w v u) (8 * v + startIn w v u) w (waits-none u h m) i }
+
+  shown-vertex : (u : ℕ) → u < c .known → shownVertex kinds priorities w v u ≡ vertexAt samePair (targets x) (initialPair x) (owner x) (priority byDepth x) st u
+  shown-vertex u h = go (in-or number-equality u (st .waiting))
+    where
+      go : In u (st .waiting) ⊎ (¬ In u (st .waiting)) → shownVertex kinds priorities w v u ≡ vertexAt samePair (targets x) (initialPair x) (owner x) (priority byDepth x) st u
+      go (inl m) = shown-waits u h m ∙ sym (vertex-waits samePair (targets x) (initialPair x) (owner x) (priority byDepth x) st u m)
+      go (inr n) = shown-settled u h n ∙ sym (vertex-settled samePair (targets x) (initialPair x) (owner x) (priority byDepth x) st u n)
+
+  -- the vertices shown are those of the rules
+  pub shown-all : shownVertices kinds priorities w v (c .known) ≡ verticesOf byDepth x (walkOf x k)
+  unfolding shownVertices verticesOf vertices
+  shown-all =
+      map-from (shownVertex kinds priorities w v) (vertexAt samePair (targets x) (initialPair x) (owner x) (priority byDepth x) st) 0 (c .known)
+      (λ u a b. shown-vertex u (omega arith))
+      ∙ ap (λ (n : ℕ). map (vertexAt samePair (targets x) (initialPair x) (owner x) (priority byDepth x) st) (from 0 n)) (sym known-many)

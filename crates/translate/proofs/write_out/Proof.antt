@@ -1,0 +1,90 @@
+use mathlib.Core.Path.{subst}
+use Rattle.settling.specs.Good.{WalkAnswer}
+use Rattle.translate.proofs.Outcomes.{showable, full-run, done-run, cut-run}
+use borrow.Author.Needs.{needs}
+use Rattle.translate.proofs.write_out.Statement.{statement}
+use Rattle.translate.proofs.write_out.Tie as tie
+use Rattle.translate.proofs.write_out.Reads as reads
+use Rattle.translate.proofs.write_out.Lts as lts
+use Rattle.game_writer.proofs.write_game.Reads as write-game-reads
+use Rattle.words.proofs.clear.Reads as clear-reads
+
+-- src/lib.rt:95:23
+enum-known-walked : tie.Need-enum-known-walked
+enum-known-walked c = search needs
+
+-- src/lib.rt:98:13
+write-game-requires : tie.Need-write-game-requires
+write-game-requires c κs = showable _ _ _ _ (c .before .before .before .before .before .before .before .before .before .before .before .before .before .before .before .args .game .now) _ (c .before .before .before .before .before .before .before .before .before .before .before .before .before .before .before .pre .1 .0) _ _ _ _ (c .before .before .before .before .before .before .before .before .before .before .before .before .before .before .before .pre .0) _ (subst (WalkAnswer _ _ _ _ _ _) (c .before .before .before .walked .given .1) (c .before .before .before .before .before .before .before .before .before .before .before .before .before .before .before .pre .1 .1))
+
+-- src/lib.rt:99:13
+clear-requires : tie.Need-clear-requires
+clear-requires c κs = search needs
+
+-- src/lib.rt:101:17
+same-length : tie.Need-same-length
+same-length c = search needs
+
+-- src/lib.rt:101:17
+same-length-2 : tie.Need-same-length-2
+same-length-2 c = search needs
+
+-- src/lib.rt:101:17
+returns : tie.Need-returns
+returns c = done-run _ _ _ _ _ _ (c .before .before .before .before .before .before .before .before .before .before .before .before .before .before .before .before .before .before .before .before .before .before .before .before .pre .1 .0) _ _ _ _ (c .before .before .before .before .before .before .before .before .before .before .before .before .before .before .before .before .before .before .before .before .before .before .before .before .pre .0) _ (subst (WalkAnswer _ _ _ _ _ _) (c .before .before .before .before .before .before .before .before .before .before .before .before .walked .given .1) (c .before .before .before .before .before .before .before .before .before .before .before .before .before .before .before .before .before .before .before .before .before .before .before .before .pre .1 .1)) _ _ (c .if1 .taken) (c .before .before .before .before .before .before .before .before .write-game .ensures) (c .before .before .before .before .clear .ensures)
+
+-- src/lib.rt:106:26
+enum-told : tie.Need-enum-told
+enum-told c = search needs
+
+-- src/lib.rt:106:13
+clear-requires-2 : tie.Need-clear-requires-2
+clear-requires-2 c κs = search needs
+
+-- src/lib.rt:107:13
+clear-requires-3 : tie.Need-clear-requires-3
+clear-requires-3 c κs = search needs
+
+-- src/lib.rt:72:1
+same-length-3 : tie.Need-same-length-3
+same-length-3 c = search needs
+
+-- src/lib.rt:72:1
+same-length-4 : tie.Need-same-length-4
+same-length-4 c = search needs
+
+-- src/lib.rt:72:1
+returns-2 : tie.Need-returns-2
+returns-2 c = cut-run _ _ _ _ _ _ (c .before .before .before .before .before .before .before .before .before .before .before .before .before .before .before .before .before .before .before .before .before .before .before .before .pre .1 .0) _ _ _ _ (c .before .before .before .before .before .before .before .before .before .before .before .before .before .before .before .before .before .before .before .before .before .before .before .before .pre .0) _ (subst (WalkAnswer _ _ _ _ _ _) (c .before .before .before .before .before .before .before .before .before .before .before .before .walked .given .1) (c .before .before .before .before .before .before .before .before .before .before .before .before .before .before .before .before .before .before .before .before .before .before .before .before .pre .1 .1)) _ _ (c .if1 .left) (c .before .before .before .before .before .before .before .before .write-game .ensures) (c .before .before .before .before .clear .ensures)
+
+-- src/lib.rt:72:1
+same-length-5 : tie.Need-same-length-5
+same-length-5 c = search needs
+
+-- src/lib.rt:72:1
+same-length-6 : tie.Need-same-length-6
+same-length-6 c = search needs
+
+-- src/lib.rt:72:1
+returns-3 : tie.Need-returns-3
+returns-3 c = full-run _ _ _ _ _ _ (c .before .before .before .before .before .before .before .before .before .before .before .before .before .before .before .before .before .before .before .before .pre .1 .0) _ _ (subst (WalkAnswer _ _ _ _ _ _) (c .before .before .before .before .before .before .before .before .enum-told .given .1) (c .before .before .before .before .before .before .before .before .before .before .before .before .before .before .before .before .before .before .before .before .pre .1 .1)) (c .before .before .before .before .before .before .clear2 .ensures) (c .before .before .clear3 .ensures)
+
+pub write-out-spec : {M : Type 1} → statement M
+write-out-spec =
+    tie.close
+    (tie.spec
+    enum-known-walked
+    write-game-requires
+    clear-requires
+    same-length
+    same-length-2
+    returns
+    enum-told
+    clear-requires-2
+    clear-requires-3
+    same-length-3
+    same-length-4
+    returns-2
+    same-length-5
+    same-length-6
+    returns-3)
