@@ -203,7 +203,7 @@ pub fn write_game(
     requires { ⌜ Showable (now kinds) (now priorities) (now work) v known edges (length (now game)) ⌝ }
     ensures { λ _. ⌜ now (game .exit) ≡ padded (length (now (game .entry))) (gameOf (shownVertices (now (kinds .entry)) (now (priorities .entry)) (now (work .entry)) v known)) ⌝ }
 {
-    let owners = write_header(known as usize, edges as usize, game);
+    let owners = write_header(known, edges, game);
     let ranks = write_owners(work, kinds, v, known, game, owners);
     let places = write_priorities(work, kinds, priorities, v, known, game, ranks);
     let targets = write_offsets(work, v, known, game, places);
