@@ -1,0 +1,73 @@
+//! Talks to the oracle, the Rust original behind the same words: many requests to a process.
+use crate::{Model, bytes_of, words_of};
+use std::io::{Error, Read, Result, Write};
+use std::path::PathBuf;
+use std::process::{Command, Stdio};
+
+pub enum Request<'a> {
+    Translate(&'a Model),
+    Restrict(&'a [u32]),
+}
+
+#[derive(Clone, Debug, PartialEq, Eq)]
+pub enum Reply {
+    Words(Vec<u32>),
+    NotValid,
+    Panicked,
+}
+
+pub struct Oracle {
+    program: PathBuf,
+}
+
+impl Oracle {
+    /// `None` if there is no such program.
+    pub fn at(program: PathBuf) -> Option<Oracle> {
+        program.is_file().then_some(Oracle { program })
+    }
+
+    /// A reply for each request, in order.
+    pub fn ask(&self, requests: &[Request]) -> Result<Vec<Reply>> {
+        let mut child = Command::new(&self.program)
+            .stdin(Stdio::piped())
+            .stdout(Stdio::piped())
+            // What it says there of words that are not valid repeats the reply.
+            .stderr(Stdio::null())
+            .spawn()?;
+        // It reads all of its input before it answers, so writing first can't block.
+        let mut input = child.stdin.take().ok_or_else(|| Error::other("no standard input"))?;
+        for request in requests {
+            input.write_all(&encode(request))?;
+        }
+        drop(input);
+        let mut bytes = Vec::new();
+        child.stdout.take().ok_or_else(|| Error::other("no standard output"))?.read_to_end(&mut bytes)?;
+        child.wait()?;
+        let words = words_of(&bytes).map_err(|fault| Error::other(format!("the oracle's answers: {fault}")))?;
+        let replies = decode(&words);
+        if replies.len() == requests.len() { Ok(replies) } else { Err(Error::other("the oracle stopped early")) }
+    }
+}
+
+fn encode(request: &Request) -> Vec<u8> {
+    match request {
+        // Request 1: the actions of a formula's multi-actions are sorted first, so that they are alike by multiset.
+        Request::Translate(model) => [bytes_of(&[1]), model.to_bytes()].concat(),
+        Request::Restrict(game) => [bytes_of(&[2, game.len() as u32]), bytes_of(game)].concat(),
+    }
+}
+
+fn decode(mut words: &[u32]) -> Vec<Reply> {
+    let mut replies = Vec::new();
+    while let Some((&[status, length], rest)) = words.split_first_chunk::<2>()
+        && let Some((answer, rest)) = rest.split_at_checked(length as usize)
+    {
+        replies.push(match status {
+            0 => Reply::Words(answer.to_vec()),
+            1 => Reply::NotValid,
+            _ => Reply::Panicked,
+        });
+        words = rest;
+    }
+    replies
+}
