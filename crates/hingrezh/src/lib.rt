@@ -49,7 +49,15 @@ pub extern "C" fn hingrezh_translate(
     ensures demand3 { λ _. ⌜ Demand3 byDepth (inputOf (now (labels .entry)) (now (system .entry)) (now (actions .entry)) (now (formula .entry))) limit (now (answer .exit)) (now (game .exit)) ⌝ }
 {
     let a = translate::translate(
-        labels, system, actions, formula, vertices, edges, limit, game, work,
+        labels,
+        system,
+        actions,
+        formula,
+        vertices,
+        edges,
+        limit,
+        game,
+        work,
     );
     put_answer(a, answer);
 }
