@@ -1,4 +1,6 @@
 // The equations of a formula, their alternation depth and their priorities (modal_equation_system.rs).
+use formula_reader::kind_at;
+use formula_reader::operand_at;
 use player::Priority;
 use words::at;
 ghost use mathlib.Core.Path.{_≡_};
@@ -8,29 +10,10 @@ ghost use Prim.Native.Nat.{_≤_, _<_, max};
 ghost use lib.ListN.{length};
 ghost use lib.Dec.{eqb};
 ghost use Rattle.rules.specs.Lists.{word, one};
-ghost use Rattle.rules.specs.Table.{size, kind, operand, formulaNode};
+ghost use Rattle.rules.specs.Table.{size, kind, formulaNode};
 ghost use Rattle.rules.specs.Formula.{isFixpoint, equationCount, formulaTree};
 ghost use Rattle.rules.specs.Depth.{references, reading, depth, byDepth};
 ghost use Rattle.modal_equation_system.specs.System.{formulaOnly, Good, Listed, bodyReading, Ranked};
-
-// The kind of a node.
-fn kind_at(formula: &[u32], node: usize) -> usize
-    requires { ⌜ Good (now formula) ⌝ }
-    requires { ⌜ node < size (now formula) ⌝ }
-    ensures { λ r. ⌜ r ≡ kind (now (formula .entry)) node ⌝ }
-{
-    at(formula, 1 + node)
-}
-
-// The operand of a node.
-fn operand_at(formula: &[u32], node: usize) -> usize
-    requires { ⌜ Good (now formula) ⌝ }
-    requires { ⌜ node < size (now formula) ⌝ }
-    ensures { λ r. ⌜ r ≡ operand (now (formula .entry)) node ⌝ }
-{
-    let n = at(formula, 0);
-    at(formula, 1 + n + node)
-}
 
 // 1 if a node is a fixpoint, else 0.
 fn fixpoints_at(formula: &[u32], node: usize) -> usize

@@ -6,3 +6,5 @@ pub mod Walking
 pub mod Starts
 pub mod Offsets
 pub mod Paired
+pub mod Again
+pub mod Lies

@@ -18,6 +18,7 @@ ghost use Rattle.settling.specs.Keys.{pairKey, keyTargets, rootKey};
 ghost use Rattle.settling.specs.Made.{Marks, Ready, Answer, Cleared, Sized};
 ghost use Rattle.settling.specs.Good.{Good, StepAnswer, WalkMade, WalkAnswer};
 ghost use Rattle.stepping.specs.Tables.{Tables};
+ghost use Rattle.stepping.specs.Answers.{TurnAnswer, TurnsAnswer};
 
 // The regions of the work slice.
 const STATES: u32 = 2;
@@ -159,6 +160,173 @@ pub fn step(
     }
 }
 
+// The counters after a turn of the walk, and whether there may be another.
+pub struct Turned {
+    pub counters: Counters,
+    pub more: bool,
+}
+
+// A step, where a vertex waits and there is room for its targets. Elsewhere the counters stay as they are.
+fn turn(
+    c: Counters,
+    work: &mut [u32],
+    multiples: &[u32; 256],
+    labels: &[u32],
+    system: &[u32],
+    actions: &[u32],
+    formula: &[u32],
+    classes: &[u32],
+    samples: &[u32; 4096],
+    kinds: &[u32],
+    lefts: &[u32],
+    rights: &[u32],
+    priorities: &[u32],
+    v: u32,
+    e: u32,
+) -> Turned
+    requires { ⌜ Tables (inputOf (now labels) (now system) (now actions) (now formula)) (now multiples) (now classes) (now samples) (now kinds) (now lefts) (now rights) (now priorities)
+        × Good (keyTargets (inputOf (now labels) (now system) (now actions) (now formula))) (rootKey (inputOf (now labels) (now system) (now actions) (now formula))) (now work) v e c ⌝ }
+    ensures { λ r. ⌜ TurnAnswer (keyTargets (inputOf (now (labels .entry)) (now (system .entry)) (now (actions .entry)) (now (formula .entry))))
+        (rootKey (inputOf (now (labels .entry)) (now (system .entry)) (now (actions .entry)) (now (formula .entry)))) (now (work .entry)) v e c (now (work .exit)) (r .counters) (r .more) ⌝ }
+{
+    if c.waiting == 0 {
+        return Turned {
+            counters: c,
+            more: false,
+        };
+    }
+    match step(
+        c,
+        multiples,
+        work,
+        labels,
+        system,
+        actions,
+        formula,
+        classes,
+        samples,
+        kinds,
+        lefts,
+        rights,
+        priorities,
+        v,
+        e,
+    ) {
+        Stepped::Room(next) => Turned {
+            counters: next,
+            more: true,
+        },
+        Stepped::Full => Turned {
+            counters: c,
+            more: false,
+        },
+    }
+}
+
+// The same where the counters stand. It answers whether there may be another turn.
+pub fn step_in_place(
+    c: &mut Counters,
+    work: &mut [u32],
+    multiples: &[u32; 256],
+    labels: &[u32],
+    system: &[u32],
+    actions: &[u32],
+    formula: &[u32],
+    classes: &[u32],
+    samples: &[u32; 4096],
+    kinds: &[u32],
+    lefts: &[u32],
+    rights: &[u32],
+    priorities: &[u32],
+    v: u32,
+    e: u32,
+) -> bool
+    requires { ⌜ Tables (inputOf (now labels) (now system) (now actions) (now formula)) (now multiples) (now classes) (now samples) (now kinds) (now lefts) (now rights) (now priorities)
+        × Good (keyTargets (inputOf (now labels) (now system) (now actions) (now formula))) (rootKey (inputOf (now labels) (now system) (now actions) (now formula))) (now work) v e (now c) ⌝ }
+    ensures { λ r. ⌜ TurnAnswer (keyTargets (inputOf (now (labels .entry)) (now (system .entry)) (now (actions .entry)) (now (formula .entry))))
+        (rootKey (inputOf (now (labels .entry)) (now (system .entry)) (now (actions .entry)) (now (formula .entry)))) (now (work .entry)) v e (now (c .entry)) (now (work .exit)) (now (c .exit)) r ⌝ }
+{
+    let s = turn(
+        *c,
+        work,
+        multiples,
+        labels,
+        system,
+        actions,
+        formula,
+        classes,
+        samples,
+        kinds,
+        lefts,
+        rights,
+        priorities,
+        v,
+        e,
+    );
+    *c = s.counters;
+    s.more
+}
+
+// Where the turns end: the counters, and how many turns there were.
+pub struct Ran {
+    pub counters: Counters,
+    pub steps: u32,
+}
+
+// At most k turns. The counters stand in one place, and each turn updates them there.
+fn turns(
+    work: &mut [u32],
+    multiples: &[u32; 256],
+    labels: &[u32],
+    system: &[u32],
+    actions: &[u32],
+    formula: &[u32],
+    classes: &[u32],
+    samples: &[u32; 4096],
+    kinds: &[u32],
+    lefts: &[u32],
+    rights: &[u32],
+    priorities: &[u32],
+    v: u32,
+    e: u32,
+    k: u32,
+    c: Counters,
+) -> Ran
+    requires { ⌜ Tables (inputOf (now labels) (now system) (now actions) (now formula)) (now multiples) (now classes) (now samples) (now kinds) (now lefts) (now rights) (now priorities)
+        × WalkMade (keyTargets (inputOf (now labels) (now system) (now actions) (now formula))) (rootKey (inputOf (now labels) (now system) (now actions) (now formula))) v e 0 (now work) c ⌝ }
+    ensures { λ r. ⌜ TurnsAnswer (keyTargets (inputOf (now (labels .entry)) (now (system .entry)) (now (actions .entry)) (now (formula .entry))))
+        (rootKey (inputOf (now (labels .entry)) (now (system .entry)) (now (actions .entry)) (now (formula .entry)))) v e k (now (work .exit)) (r .counters) (r .steps) ⌝ }
+{
+    let mut at = c;
+    let mut i: u32 = 0;
+    while i < k {
+        if !step_in_place(
+            &mut at,
+            work,
+            multiples,
+            labels,
+            system,
+            actions,
+            formula,
+            classes,
+            samples,
+            kinds,
+            lefts,
+            rights,
+            priorities,
+            v,
+            e,
+        ) {
+            break;
+        }
+        i += 1;
+    }
+    Ran {
+        counters: at,
+        steps: i,
+    }
+}
+
 // At most k steps from the beginning.
 pub fn walk(
     c: Counters,
@@ -183,39 +351,31 @@ pub fn walk(
     ensures { λ r. ⌜ WalkAnswer (keyTargets (inputOf (now (labels .entry)) (now (system .entry)) (now (actions .entry)) (now (formula .entry))))
         (rootKey (inputOf (now (labels .entry)) (now (system .entry)) (now (actions .entry)) (now (formula .entry)))) v e k (now (work .exit)) r ⌝ }
 {
-    let mut at = c;
-    let mut i = 0;
-    while i < k {
-        if at.waiting == 0 {
-            return Stepped::Room(at);
+    let ran = turns(
+        work,
+        multiples,
+        labels,
+        system,
+        actions,
+        formula,
+        classes,
+        samples,
+        kinds,
+        lefts,
+        rights,
+        priorities,
+        v,
+        e,
+        k,
+        c,
+    );
+    let counters = ran.counters;
+    if ran.steps < k {
+        if 0 < counters.waiting {
+            return Stepped::Full;
         }
-        match step(
-            at,
-            multiples,
-            work,
-            labels,
-            system,
-            actions,
-            formula,
-            classes,
-            samples,
-            kinds,
-            lefts,
-            rights,
-            priorities,
-            v,
-            e,
-        ) {
-            Stepped::Room(next) => {
-                at = next;
-            }
-            Stepped::Full => {
-                return Stepped::Full;
-            }
-        }
-        i += 1;
     }
-    Stepped::Room(at)
+    Stepped::Room(counters)
 }
 
 // Every word of a region becomes 0.

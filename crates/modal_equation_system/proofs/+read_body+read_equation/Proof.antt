@@ -19,9 +19,9 @@ use Rattle.modal_equation_system.proofs.read_equation.Reads as read-equ
 use Rattle.modal_equation_system.proofs.read_equation.Kinds as read-equation-kinds
 use Rattle.modal_equation_system.proofs.+read_body+read_equation.Lts-read_equation as read-equation-lts
 use Rattle.modal_equation_system.proofs.differing.Reads as differing-reads
-use Rattle.modal_equation_system.proofs.kind_at.Reads as kind-at-reads
+use Rattle.formula_reader.proofs.kind_at.Reads as kind-at-reads
 use Rattle.modal_equation_system.proofs.larger.Reads as larger-reads
-use Rattle.modal_equation_system.proofs.operand_at.Reads as operand-at-reads
+use Rattle.formula_reader.proofs.operand_at.Reads as operand-at-reads
 use Rattle.modal_equation_system.proofs.referred.Reads as referred-reads
 use Rattle.words.proofs.at.Reads as at-reads
 use Rattle.modal_equation_system.proofs.+read_body+read_equation.{statement}
@@ -52,7 +52,7 @@ read-equation-below t =
     (falls 4 read-equation-kinds.ps _<_ μ-read-equation t)
     read-equation.Pre
 
--- src/lib.rt:143:9
+-- src/lib.rt:126:9
 read-body-kind-at-requires : (t : ℕ) → read-body-lts.Need-kind-at-requires (
   kind-at-reads.Asked,
   kind-at-reads.Learnt,
@@ -69,9 +69,9 @@ read-body-kind-at-requires : (t : ℕ) → read-body-lts.Need-kind-at-requires (
   differing-reads.Asked,
   differing-reads.Learnt,
 ) (read-body-at t) read-body.Post
-read-body-kind-at-requires t c κs = let s = c .before .before .before .before in (s .pre .1 .0 .good, s .pre .1 .1 .0)
+read-body-kind-at-requires t c κs = let s = c .before .before .before .before in omega (arith, s .pre .1 .0 .good .formula .sized, s .pre .1 .1 .0)
 
--- src/lib.rt:145:9
+-- src/lib.rt:128:9
 read-body-returns : (t : ℕ) → read-body-lts.Need-returns (
   kind-at-reads.Asked,
   kind-at-reads.Learnt,
@@ -90,7 +90,7 @@ read-body-returns : (t : ℕ) → read-body-lts.Need-returns (
 ) (read-body-at t) read-body.Post
 read-body-returns t c = let s = c .before .before .before .before .before .before in body-leaf (s .args .formula .now) (s .pre .1 .0 .good) (s .args .target) (s .args .equation) (s .args .node) (s .pre .1 .1 .0) (omega (arith, c .before .kind-at .ensures, c .if1 .taken))
 
--- src/lib.rt:148:20
+-- src/lib.rt:131:20
 read-body-add-next : (t : ℕ) → read-body-lts.Need-add-next (
   kind-at-reads.Asked,
   kind-at-reads.Learnt,
@@ -109,7 +109,7 @@ read-body-add-next : (t : ℕ) → read-body-lts.Need-add-next (
 ) (read-body-at t) read-body.Post
 read-body-add-next t c = let s = c .before .before .before .before .before .before .before in omega (arith, s .pre .1 .0 .good .formula .few, s .pre .1 .1 .0)
 
--- src/lib.rt:149:13
+-- src/lib.rt:132:13
 read-body-read-body-requires : (t : ℕ) → read-body-lts.Need-read-body-requires (
   kind-at-reads.Asked,
   kind-at-reads.Learnt,
@@ -132,7 +132,7 @@ read-body-read-body-requires t c κs =
     let next = s .pre .1 .0 .good .formula .nodes (s .args .node) (s .pre .1 .1 .0) .next (omega (arith, k, c .before .if1 .left)) (omega (arith, k, c .if2 .taken)) in
     (omega (arith, next, s .pre .0), (s .pre .1 .0, (omega (arith, next), s .pre .1 .1 .1)))
 
--- src/lib.rt:151:13
+-- src/lib.rt:134:13
 read-body-returns-2 : (t : ℕ) → read-body-lts.Need-returns-2 (
   kind-at-reads.Asked,
   kind-at-reads.Learnt,
@@ -154,7 +154,7 @@ read-body-returns-2 t c =
     let k = c .before .before .before .before .kind-at .ensures in
     c .before .read-body .ensures ∙ body-one (s .args .formula .now) (s .pre .1 .0 .good) (s .args .target) (s .args .equation) (s .args .node) (s .pre .1 .1 .0) (omega (arith, k, c .if3 .taken)) (omega (arith, k, c .before .before .if2 .taken))
 
--- src/lib.rt:153:13
+-- src/lib.rt:136:13
 read-body-operand-at-requires : (t : ℕ) → read-body-lts.Need-operand-at-requires (
   kind-at-reads.Asked,
   kind-at-reads.Learnt,
@@ -171,9 +171,9 @@ read-body-operand-at-requires : (t : ℕ) → read-body-lts.Need-operand-at-requ
   differing-reads.Asked,
   differing-reads.Learnt,
 ) (read-body-at t) read-body.Post
-read-body-operand-at-requires t c κs = let s = c .before .before .before .before .before .before .before .before .before in (s .pre .1 .0 .good, s .pre .1 .1 .0)
+read-body-operand-at-requires t c κs = let s = c .before .before .before .before .before .before .before .before .before in omega (arith, s .pre .1 .0 .good .formula .sized, s .pre .1 .1 .0)
 
--- src/lib.rt:154:13
+-- src/lib.rt:137:13
 read-body-read-body-requires-2 : (t : ℕ) → read-body-lts.Need-read-body-requires-2 (
   kind-at-reads.Asked,
   kind-at-reads.Learnt,
@@ -197,7 +197,7 @@ read-body-read-body-requires-2 t c κs =
     let right = s .pre .1 .0 .good .formula .nodes (s .args .node) (s .pre .1 .1 .0) .right (omega (arith, k, c .before .before .before .before .if1 .left)) (omega (arith, k, c .before .if3 .left)) in
     (omega (arith, right, e, s .pre .0), (s .pre .1 .0, (omega (arith, right, e), s .pre .1 .1 .1)))
 
--- src/lib.rt:155:9
+-- src/lib.rt:138:9
 read-body-larger-requires : (t : ℕ) → read-body-lts.Need-larger-requires (
   kind-at-reads.Asked,
   kind-at-reads.Learnt,
@@ -216,7 +216,7 @@ read-body-larger-requires : (t : ℕ) → read-body-lts.Need-larger-requires (
 ) (read-body-at t) read-body.Post
 read-body-larger-requires t c κs = search needs
 
--- src/lib.rt:155:9
+-- src/lib.rt:138:9
 read-body-returns-3 : (t : ℕ) → read-body-lts.Need-returns-3 (
   kind-at-reads.Asked,
   kind-at-reads.Learnt,
@@ -240,7 +240,7 @@ read-body-returns-3 t c =
     let right = rw (c .before .before .operand-at .ensures) at (c .before .read-body2 .ensures) in
     omega (arith, two, right, c .before .before .before .before .read-body .ensures, c .larger .ensures)
 
--- src/lib.rt:157:9
+-- src/lib.rt:140:9
 read-body-referred-requires : (t : ℕ) → read-body-lts.Need-referred-requires (
   kind-at-reads.Asked,
   kind-at-reads.Learnt,
@@ -259,7 +259,7 @@ read-body-referred-requires : (t : ℕ) → read-body-lts.Need-referred-requires
 ) (read-body-at t) read-body.Post
 read-body-referred-requires t c κs = let s = c .before .before .before .before .before .before .before in (s .pre .1 .0, (s .pre .1 .1 .0, omega (arith, c .before .before .kind-at .ensures, c .if2 .left)))
 
--- src/lib.rt:159:9
+-- src/lib.rt:142:9
 read-body-returns-4 : (t : ℕ) → read-body-lts.Need-returns-4 (
   kind-at-reads.Asked,
   kind-at-reads.Learnt,
@@ -280,7 +280,7 @@ read-body-returns-4 t c =
     let s = c .before .before .before .before .before .before .before .before .before in
     body-target (s .args .formula .now) (s .pre .1 .0 .good) (s .args .target) (s .args .equation) (s .args .node) (c .before .referred .result) (c .before .referred .ensures .0) (c .if4 .taken)
 
--- src/lib.rt:162:9
+-- src/lib.rt:145:9
 read-body-returns-5 : (t : ℕ) → read-body-lts.Need-returns-5 (
   kind-at-reads.Asked,
   kind-at-reads.Learnt,
@@ -301,7 +301,7 @@ read-body-returns-5 t c =
     let s = c .before .before .before .before .before .before .before .before .before .before in
     body-outer (s .args .formula .now) (s .pre .1 .0 .good) (s .args .target) (s .args .equation) (s .args .node) (c .before .before .referred .result) (c .before .before .referred .ensures .0) (c .before .if4 .left) (c .if5 .taken)
 
--- src/lib.rt:164:9
+-- src/lib.rt:147:9
 read-body-read-equation-requires : (t : ℕ) → read-body-lts.Need-read-equation-requires (
   kind-at-reads.Asked,
   kind-at-reads.Learnt,
@@ -323,7 +323,7 @@ read-body-read-equation-requires t c κs =
     let below = c .before .before .referred .ensures .1 in
     (omega (arith, below, c .if5 .left, s .pre .0, s .pre .1 .0 .good .formula .few), (s .pre .1 .0, below))
 
--- src/lib.rt:165:9
+-- src/lib.rt:148:9
 read-body-differing-requires : (t : ℕ) → read-body-lts.Need-differing-requires (
   kind-at-reads.Asked,
   kind-at-reads.Learnt,
@@ -345,7 +345,7 @@ read-body-differing-requires t c κs =
     let long = s .pre .1 .0 .operators-long in
     (omega (arith, long, s .pre .1 .1 .1), omega (arith, long, c .before .before .before .referred .ensures .1))
 
--- src/lib.rt:166:5
+-- src/lib.rt:149:5
 read-body-add-result : (t : ℕ) → read-body-lts.Need-add-result (
   kind-at-reads.Asked,
   kind-at-reads.Learnt,
@@ -369,7 +369,7 @@ read-body-add-result t c =
     let differ = listed-differ f (s .args .bodies .now) (s .args .operators .now) (s .args .numbers .now) (s .pre .1 .0) (s .args .equation) j (s .pre .1 .1 .1) (c .before .before .before .before .referred .ensures .1) in
     omega (arith, c .before .read-equation .ensures, c .differing .ensures, differ, reading-limit (s .pre .1 .0 .good .actions) (formulaOnly f) (s .pre .1 .0 .good .formula) (s .args .target) j, alternates-most (equationOf f (s .args .equation) .operator) (equationOf f j .operator))
 
--- src/lib.rt:130:1
+-- src/lib.rt:113:1
 read-body-returns-6 : (t : ℕ) → read-body-lts.Need-returns-6 (
   kind-at-reads.Asked,
   kind-at-reads.Learnt,
@@ -394,7 +394,7 @@ read-body-returns-6 t c =
     ap₂ _+_ (c .before .read-equation .ensures) (c .differing .ensures ∙ differ)
     ∙ body-later f (s .pre .1 .0 .good) (s .args .target) (s .args .equation) (s .args .node) j (c .before .before .before .before .referred .ensures .0) (c .before .before .before .if4 .left) (c .before .before .if5 .left)
 
--- src/lib.rt:182:9
+-- src/lib.rt:165:9
 read-equation-at-requires : (t : ℕ) → read-equation-lts.Need-at-requires (
   at-reads.Asked,
   at-reads.Learnt,
@@ -403,7 +403,7 @@ read-equation-at-requires : (t : ℕ) → read-equation-lts.Need-at-requires (
 ) (read-equation-at t) read-equation.Post
 read-equation-at-requires t c κs = let s = c .before .before .before .before in omega (arith, s .pre .1 .0 .bodies-long, s .pre .1 .1)
 
--- src/lib.rt:183:5
+-- src/lib.rt:166:5
 read-equation-read-body-requires : (t : ℕ) → read-equation-lts.Need-read-body-requires (
   at-reads.Asked,
   at-reads.Learnt,
@@ -416,7 +416,7 @@ read-equation-read-body-requires t c κs =
     let inside = body-below (s .pre .1 .0 .good .actions) (s .args .formula .now) (s .pre .1 .0 .good .formula) (s .args .equation) (s .pre .1 .1) in
     (omega (arith, e, inside, s .pre .0), (s .pre .1 .0, (omega (arith, e, inside), s .pre .1 .1)))
 
--- src/lib.rt:170:1
+-- src/lib.rt:153:1
 read-equation-returns : (t : ℕ) → read-equation-lts.Need-returns (
   at-reads.Asked,
   at-reads.Learnt,

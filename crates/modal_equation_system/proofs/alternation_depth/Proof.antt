@@ -7,11 +7,11 @@ use Rattle.modal_equation_system.proofs.alternation_depth.Reads as read
 use Rattle.modal_equation_system.proofs.alternation_depth.Lts as lts
 use Rattle.modal_equation_system.proofs.read_equation.Reads as read-equation-reads
 
--- src/lib.rt:161:5
+-- src/lib.rt:181:5
 read-equation-requires : tie.Need-read-equation-requires
 read-equation-requires c κs = search needs
 
--- src/lib.rt:156:1
+-- src/lib.rt:170:1
 returns : tie.Need-returns
 unfolding depth
 returns c = c .read-equation .ensures

@@ -8,21 +8,21 @@ use Rattle.modal_equation_system.proofs.fixpoints_at.Statement.{stateme
 use Rattle.modal_equation_system.proofs.fixpoints_at.Tie as tie
 use Rattle.modal_equation_system.proofs.fixpoints_at.Reads as reads
 use Rattle.modal_equation_system.proofs.fixpoints_at.Lts as lts
-use Rattle.modal_equation_system.proofs.kind_at.Reads as kind-at-reads
+use Rattle.formula_reader.proofs.kind_at.Reads as kind-at-reads
 
--- src/lib.rt:41:9
+-- src/lib.rt:24:9
 kind-at-requires : tie.Need-kind-at-requires
 kind-at-requires c κs = search needs
 
--- src/lib.rt:43:9
+-- src/lib.rt:26:9
 returns : tie.Need-returns
 returns c = let s = c .before .before .before in (sym (ap one (no-fixpoint-below (s .args .formula .now) (s .args .node) (s .pre .1) (omega (arith, c .before .kind-at .ensures, c .if1 .taken)))), omega arith)
 
--- src/lib.rt:46:9
+-- src/lib.rt:29:9
 returns-2 : tie.Need-returns-2
 returns-2 c = let s = c .before .before .before .before in (sym (ap one (no-fixpoint-above (s .args .formula .now) (s .args .node) (s .pre .1) (omega (arith, c .before .before .kind-at .ensures, c .if2 .taken)))), omega arith)
 
--- src/lib.rt:36:1
+-- src/lib.rt:19:1
 returns-3 : tie.Need-returns-3
 returns-3 c = let s = c .before .before .before .before in (sym (ap one (fixpoint-at (s .args .formula .now) (s .args .node) (s .pre .1) (omega (arith, c .before .before .kind-at .ensures, c .before .if1 .left)) (omega (arith, c .before .before .kind-at .ensures, c .if2 .left)))), omega arith)
 

@@ -15,7 +15,7 @@ use Rattle.modal_equation_system.proofs.list_equations.Reads as reads
 use Rattle.modal_equation_system.proofs.list_equations.Lts as lts
 use Rattle.modal_equation_system.proofs.fixpoints_at.Reads as fixpoints-at-reads
 use Rattle.modal_equation_system.proofs.is.Reads as is-reads
-use Rattle.modal_equation_system.proofs.kind_at.Reads as kind-at-reads
+use Rattle.formula_reader.proofs.kind_at.Reads as kind-at-reads
 use Rattle.words.proofs.at.Reads as at-reads
 
 abbrev Inv-loop : tie.InvT-loop
@@ -24,94 +24,94 @@ Inv-loop formula bodies₀ operators₀ numbers₀ n i₀ v₀ bodies operators 
 abbrev μ-loop : tie.MeasureT-loop
 μ-loop formula bodies₀ operators₀ numbers₀ n i₀ v₀ bodies operators numbers i v = n - v
 
--- src/lib.rt:59:9
+-- src/lib.rt:47:9
 at-requires : tie.Need-at-requires Inv-loop μ-loop
 at-requires c κs = search needs
 
--- src/lib.rt:61:5
+-- src/lib.rt:49:5
 slice-write-bodies : tie.Need-slice-write-bodies Inv-loop μ-loop
 slice-write-bodies c = search needs
 
--- src/lib.rt:62:5
+-- src/lib.rt:50:5
 slice-write-operators : tie.Need-slice-write-operators Inv-loop μ-loop
 slice-write-operators c = search needs
 
--- src/lib.rt:63:21
+-- src/lib.rt:51:21
 fixpoints-at-requires : tie.Need-fixpoints-at-requires Inv-loop μ-loop
 fixpoints-at-requires c κs = search needs
 
--- src/lib.rt:63:17
+-- src/lib.rt:51:17
 sub-i : tie.Need-sub-i Inv-loop μ-loop
 sub-i c = search needs
 
--- src/lib.rt:65:5
+-- src/lib.rt:53:5
 loop-holds : tie.Need-loop-holds Inv-loop μ-loop
 loop-holds c =
     let s = c .before .before .before .before .before .before in
     let first = listing-first (s .args .formula .now) (1 - c .fixpoints-at .result) (set (s .args .bodies .now) 0 0) (set (s .args .operators .now) 0 1) (s .args .numbers .now) (ap (λ (k : ℕ). 1 - k) (c .fixpoints-at .ensures .0)) (getD-set-same {A = ℕ} (s .args .bodies .now) 0 0 0 (omega (arith, s .pre .1 .0))) (getD-set-same {A = ℕ} (s .args .operators .now) 0 1 0 (omega (arith, s .pre .1 .1))) in
     (omega arith, c .before .at .ensures .0, refl, refl, refl, omega arith, first)
 
--- src/lib.rt:67:13
+-- src/lib.rt:55:13
 kind-at-requires : tie.Need-kind-at-requires Inv-loop μ-loop
 kind-at-requires c κs = search needs
 
--- src/lib.rt:68:13
+-- src/lib.rt:56:13
 fixpoints-at-requires-2 : tie.Need-fixpoints-at-requires-2 Inv-loop μ-loop
 fixpoints-at-requires-2 c κs = search needs
 
--- src/lib.rt:69:22
+-- src/lib.rt:57:22
 cast-numbers : tie.Need-cast-numbers Inv-loop μ-loop
 cast-numbers c = search needs
 
--- src/lib.rt:69:9
+-- src/lib.rt:57:9
 mul-numbers : tie.Need-mul-numbers Inv-loop μ-loop
 mul-numbers c = search needs
 
--- src/lib.rt:69:9
+-- src/lib.rt:57:9
 slice-write-numbers : tie.Need-slice-write-numbers Inv-loop μ-loop
 slice-write-numbers c = search needs
 
--- src/lib.rt:70:21
+-- src/lib.rt:58:21
 cast-bodies : tie.Need-cast-bodies Inv-loop μ-loop
 cast-bodies c = search needs
 
--- src/lib.rt:70:21
+-- src/lib.rt:58:21
 add-bodies : tie.Need-add-bodies Inv-loop μ-loop
 add-bodies c = search needs
 
--- src/lib.rt:70:9
+-- src/lib.rt:58:9
 mul-bodies : tie.Need-mul-bodies Inv-loop μ-loop
 mul-bodies c = search needs
 
--- src/lib.rt:70:9
+-- src/lib.rt:58:9
 slice-write-bodies-2 : tie.Need-slice-write-bodies-2 Inv-loop μ-loop
 slice-write-bodies-2 c = omega (arith, c .before .before .before .loop .inv .2, length-set (c .before .before .before .before .before .before .before .before .before .before .args .bodies .now) 0 0, c .before .before .before .before .before .before .before .before .before .before .pre .1, c .before .before .before .before .before .before .before .before .before .before .pre .0 .formula .few)
 
--- src/lib.rt:71:24
+-- src/lib.rt:59:24
 is-requires : tie.Need-is-requires Inv-loop μ-loop
 is-requires c κs = search needs
 
--- src/lib.rt:71:9
+-- src/lib.rt:59:9
 mul-operators : tie.Need-mul-operators Inv-loop μ-loop
 mul-operators c = search needs
 
--- src/lib.rt:71:9
+-- src/lib.rt:59:9
 slice-write-operators-2 : tie.Need-slice-write-operators-2 Inv-loop μ-loop
 slice-write-operators-2 c = omega (arith, c .before .before .before .before .loop .inv .3, length-set (c .before .before .before .before .before .before .before .before .before .before .before .args .operators .now) 0 1, c .before .before .before .before .before .before .before .before .before .before .before .pre .1, c .before .before .before .before .before .before .before .before .before .before .before .pre .0 .formula .few)
 
--- src/lib.rt:72:9
+-- src/lib.rt:60:9
 add-i : tie.Need-add-i Inv-loop μ-loop
 add-i c = search needs
 
--- src/lib.rt:73:9
+-- src/lib.rt:61:9
 add-v : tie.Need-add-v Inv-loop μ-loop
 add-v c = search needs
 
--- src/lib.rt:65:5
+-- src/lib.rt:53:5
 loop-less : tie.Need-loop-less Inv-loop μ-loop
 loop-less c = search needs
 
--- src/lib.rt:65:5
+-- src/lib.rt:53:5
 loop-again : tie.Need-loop-again Inv-loop μ-loop
 loop-again c =
     let s = c .before .before .before .before .before .before .before .before .before .before .before in
@@ -120,19 +120,19 @@ loop-again c =
     let next = listing-next (s .args .formula .now) (l .v) (l .i) (l .bodies) (l .operators) (l .numbers) (c .before .fixpoints-at2 .result) (c .is .result) (omega arith) (omega (arith, few, length-set (s .args .bodies .now) 0 0)) (omega (arith, few, length-set (s .args .operators .now) 0 1)) (omega arith) (c .before .fixpoints-at2 .ensures .0) (c .is .ensures ∙ ap (λ (k : ℕ). one (eqb k 6)) (c .before .before .kind-at .ensures)) (l .inv .6) in
     (omega arith, l .inv .1, length-set (l .bodies) (l .i) _ ∙ l .inv .2, length-set (l .operators) (l .i) _ ∙ l .inv .3, length-set (l .numbers) (l .v) _ ∙ l .inv .4, omega arith, next)
 
--- src/lib.rt:53:1
+-- src/lib.rt:36:1
 same-length : tie.Need-same-length Inv-loop μ-loop
 same-length c = c .before .loop .inv .2 ∙ length-set (c .before .before .before .before .before .before .before .before .args .bodies .now) 0 0
 
--- src/lib.rt:53:1
+-- src/lib.rt:36:1
 same-length-2 : tie.Need-same-length-2 Inv-loop μ-loop
 same-length-2 c = c .before .loop .inv .3 ∙ length-set (c .before .before .before .before .before .before .before .before .args .operators .now) 0 1
 
--- src/lib.rt:53:1
+-- src/lib.rt:36:1
 same-length-3 : tie.Need-same-length-3 Inv-loop μ-loop
 same-length-3 c = search needs
 
--- src/lib.rt:53:1
+-- src/lib.rt:36:1
 returns : tie.Need-returns Inv-loop μ-loop
 returns c =
     let s = c .before .before .before .before .before .before .before .before in

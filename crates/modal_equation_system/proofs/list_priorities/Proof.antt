@@ -18,31 +18,31 @@ Inv-loop formula bodies operators numbers count priorities₀ i₀ priorities i 
 abbrev μ-loop : tie.MeasureT-loop
 μ-loop formula bodies operators numbers count priorities₀ i₀ priorities i = count - i
 
--- src/lib.rt:181:5
+-- src/lib.rt:214:5
 loop-holds : tie.Need-loop-holds Inv-loop μ-loop
 loop-holds c = (omega arith, refl, ranked-first (c .before .before .before .before .before .args .formula .now) (c .before .before .before .before .before .args .priorities .now))
 
--- src/lib.rt:182:13
+-- src/lib.rt:215:13
 priority-of-requires : tie.Need-priority-of-requires Inv-loop μ-loop
 priority-of-requires c κs = let s = c .before .before .before .before .before .before .before in (s .pre .0, omega (arith, s .pre .1 .0, c .loop-test .taken))
 
--- src/lib.rt:183:9
+-- src/lib.rt:216:9
 mul-priorities : tie.Need-mul-priorities Inv-loop μ-loop
 mul-priorities c = search needs
 
--- src/lib.rt:183:9
+-- src/lib.rt:216:9
 slice-write-priorities : tie.Need-slice-write-priorities Inv-loop μ-loop
 slice-write-priorities c = search needs
 
--- src/lib.rt:184:9
+-- src/lib.rt:217:9
 add-i : tie.Need-add-i Inv-loop μ-loop
 add-i c = search needs
 
--- src/lib.rt:181:5
+-- src/lib.rt:214:5
 loop-less : tie.Need-loop-less Inv-loop μ-loop
 loop-less c = search needs
 
--- src/lib.rt:181:5
+-- src/lib.rt:214:5
 loop-again : tie.Need-loop-again Inv-loop μ-loop
 loop-again c =
     let s = c .before .before .before .before .before .before .before .before in
@@ -50,11 +50,11 @@ loop-again c =
     let next = ranked-next (s .args .formula .now) (l .i) (s .args .priorities .now) (l .priorities) (c .priority-of .result .0) (omega (arith, l .inv .1, s .pre .1)) (c .priority-of .ensures) (l .inv .2) in
     (omega arith, next .sized, next)
 
--- src/lib.rt:175:1
+-- src/lib.rt:201:1
 same-length : tie.Need-same-length Inv-loop μ-loop
 same-length c = search needs
 
--- src/lib.rt:175:1
+-- src/lib.rt:201:1
 returns : tie.Need-returns Inv-loop μ-loop
 returns c =
     let s = c .before .before .before .before .before .before .before in

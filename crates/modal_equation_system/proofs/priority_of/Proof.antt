@@ -12,30 +12,30 @@ use Rattle.modal_equation_system.proofs.priority_of.Reads as reads
 use Rattle.modal_equation_system.proofs.priority_of.Lts as lts
 use Rattle.modal_equation_system.proofs.alternation_depth.Reads as alternation-depth-reads
 
--- src/lib.rt:170:9
+-- src/lib.rt:196:9
 alternation-depth-requires : tie.Need-alternation-depth-requires
 alternation-depth-requires c κs = search needs
 
--- src/lib.rt:171:14
+-- src/lib.rt:197:14
 mul-t8 : tie.Need-mul-t8
 mul-t8 c = search needs
 
--- src/lib.rt:171:28
+-- src/lib.rt:197:28
 mul-t9 : tie.Need-mul-t9
 mul-t9 c = search needs
 
--- src/lib.rt:171:28
+-- src/lib.rt:197:28
 shared-slice-read-t11 : tie.Need-shared-slice-read-t11
 shared-slice-read-t11 c = search needs
 
--- src/lib.rt:171:14
+-- src/lib.rt:197:14
 add-t12 : tie.Need-add-t12
 unfolding byDepth
 add-t12 c =
     let s = c .before .before .before .before .before .before in
     omega (arith, c .before .alternation-depth .ensures, s .pre .0 .operator (s .args .equation) (s .pre .1), byDepth-limit (s .pre .0 .good .actions) (formulaOnly (s .args .formula .now)) (s .pre .0 .good .formula) (s .args .equation))
 
--- src/lib.rt:165:1
+-- src/lib.rt:185:1
 returns : tie.Need-returns
 unfolding byDepth
 returns c = let s = c .before .before .before .before .before .before in ap₂ (λ (d b : ℕ). 2 * (d / 2) + b) (c .before .alternation-depth .ensures) (s .pre .0 .operator (s .args .equation) (s .pre .1))

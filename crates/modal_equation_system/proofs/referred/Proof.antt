@@ -13,30 +13,30 @@ use Rattle.modal_equation_system.proofs.referred.Statement.{statement}
 use Rattle.modal_equation_system.proofs.referred.Tie as tie
 use Rattle.modal_equation_system.proofs.referred.Reads as reads
 use Rattle.modal_equation_system.proofs.referred.Lts as lts
-use Rattle.modal_equation_system.proofs.kind_at.Reads as kind-at-reads
-use Rattle.modal_equation_system.proofs.operand_at.Reads as operand-at-reads
+use Rattle.formula_reader.proofs.kind_at.Reads as kind-at-reads
+use Rattle.formula_reader.proofs.operand_at.Reads as operand-at-reads
 use Rattle.words.proofs.at.Reads as at-reads
 
--- src/lib.rt:102:9
+-- src/lib.rt:96:9
 kind-at-requires : tie.Need-kind-at-requires
 kind-at-requires c κs = search needs
 
--- src/lib.rt:104:9
+-- src/lib.rt:98:9
 at-requires : tie.Need-at-requires
 at-requires c κs = search needs
 
--- src/lib.rt:106:13
+-- src/lib.rt:100:13
 operand-at-requires : tie.Need-operand-at-requires
 operand-at-requires c κs = search needs
 
--- src/lib.rt:107:9
+-- src/lib.rt:101:9
 at-requires-2 : tie.Need-at-requires-2
 at-requires-2 c κs =
     let s = c .before .before .before .before .before .before .before in
     let back = s .pre .0 .good .formula .nodes (s .args .node) (s .pre .1 .0) .refers (omega (arith, c .before .before .kind-at .ensures, c .before .if1 .left)) .0 in
     omega (arith, back, c .operand-at .ensures, s .pre .0 .numbers-long, s .pre .1 .0)
 
--- src/lib.rt:96:1
+-- src/lib.rt:84:1
 returns : tie.Need-returns
 returns c =
     let s = c .before .before .before .before .before .before .before in
@@ -48,7 +48,7 @@ returns c =
       omega (arith, e, number-below f v (fixpoint-at f v (s .pre .1 .0) (s .pre .1 .1) q)),
     )
 
--- src/lib.rt:96:1
+-- src/lib.rt:84:1
 returns-2 : tie.Need-returns-2
 returns-2 c =
     let s = c .before .before .before .before .before .before .before .before in

@@ -1,0 +1,148 @@
+-- The program's parts make the program: the words that are read are run, and what is printed of that run is what the rules print. Assumes nothing.
+use mathlib.Core.Path.{_≡_, refl, sym, ap, _∙_, subst}
+use mathlib.Core.Bool.{Bool, true, false, cond, _||_, true≢false}
+use mathlib.Core.List.{List, [], _∷_, _++_}
+use mathlib.Core.Option.{Option, none, some}
+use Prim.Native.Nat.{ℕ, _+_, _-_, _≤_, _<_}
+use native.Mathlib.Omega.{arith}
+use native.Mathlib.Decide.{decLt}
+use lib.ListN.{length, take, drop, length-take, length-drop}
+use lib.Seq.{drop-drop, take-all, length-take-le}
+use lib.Dec.{eqb, ltb}
+use borrow.Author.Tests.{ltb-false, eqb-true, not-false}
+use Rattle.rules.specs.declared.Answer.{Answer}
+use Rattle.rules.specs.Lists.{word, sum}
+use Rattle.rules.specs.Answers.{said}
+use Rattle.rules.specs.Words.{Input, inputOf}
+use Rattle.rules.specs.Refusal.{differ}
+use Rattle.rules.specs.Run.{Outcome}
+use Rattle.rules.specs.Program.{wordsOf, disagree, slicesOf, gateRun, refusedText, line, report, reported, printedWords, printed}
+use Rattle.words.specs.Stretches.{Wrote}
+use Rattle.gate_text.specs.declared.Decoded.{Decoded}
+use Rattle.gate_text.specs.declared.Decoded.the-variants.{Read, Unreadable}
+use Rattle.gate_text.specs.Reading.{agreeing, accepted, decoded, wordCount}
+use Rattle.gate_text.specs.Shown.{Shown}
+use Rattle.gate_text.proofs.Decoding.{sum-four, refused-long}
+use Rattle.gate_text.proofs.NeverCut.{gate-shown}
+
+-- ---- what is read
+
+neither : (s t : Bool) → (s || t) ≡ false → (s ≡ false) × (t ≡ false)
+neither true t e = absurd (true≢false e)
+neither false t e = (refl, e)
+
+-- the words of an input that agrees: the four lengths, and the slices behind them
+module _ (ws : List ℕ) (agrees : disagree ws ≡ false) where
+  lengths : (length ws ≤ 2_048) × (4 ≤ length ws) × (length ws ≡ 4 + sum (take 4 ws))
+  unfolding disagree differ
+  lengths =
+      let (a, r) = neither (ltb 2_048 (length ws)) (ltb (length ws) 4 || differ (length ws) (4 + sum (take 4 ws))) agrees in
+      let (b, c) = neither (ltb (length ws) 4) (differ (length ws) (4 + sum (take 4 ws))) r in
+      (ltb-false 2_048 (length ws) a, ltb-false (length ws) 4 b, eqb-true (length ws) (4 + sum (take 4 ws)) (not-false (eqb (length ws) (4 + sum (take 4 ws))) c))
+
+  pub four-words : 4 ≤ length ws
+  four-words = lengths .1
+
+  pub all-words : length ws ≡ 4 + word ws 0 + word ws 1 + word ws 2 + word ws 3
+  all-words = omega (arith, lengths .2, sum-four ws (lengths .1))
+
+part-behind : (ws : List ℕ) (p q m n : ℕ) → p ≡ 4 + q → m ≡ n → take m (drop p ws) ≡ take n (drop q (drop 4 ws))
+part-behind ws p q m n e f =
+    ap (λ (k : ℕ). take k (drop p ws)) f ∙ ap (take n) (ap (λ (k : ℕ). drop k ws) e ∙ sym (drop-drop q 4 ws))
+
+-- the parts of the words are the four slices
+module _ (ws : List ℕ) (l s a : ℕ) (labels : l ≡ word ws 0) (system : s ≡ word ws 1) (actions : a ≡ word ws 2) where
+  abbrev rest : List ℕ
+  rest = drop 4 ws
+
+  formula-part : take (length ws - (4 + l + s + a)) (drop (4 + l + s + a) ws) ≡ drop (l + s + a) rest
+  formula-part =
+      let e : 4 + l + s + a ≡ 4 + (l + s + a) = omega arith in
+      take-all (length ws - (4 + l + s + a)) (drop (4 + l + s + a) ws) (omega (arith, length-drop (4 + l + s + a) ws))
+      ∙ ap (λ (k : ℕ). drop k ws) e
+      ∙ sym (drop-drop (l + s + a) 4 ws)
+
+  pub parts-are :
+      inputOf (take (4 + l - 4) (drop 4 ws)) (take (4 + l + s - (4 + l)) (drop (4 + l) ws)) (take (4 + l + s + a - (4 + l + s)) (drop (4 + l + s) ws))
+      (take (length ws - (4 + l + s + a)) (drop (4 + l + s + a) ws))
+      ≡ slicesOf ws
+  unfolding slicesOf
+  parts-are =
+      let first : 4 + l - 4 ≡ l = omega arith in
+      let second : take (4 + l + s - (4 + l)) (drop (4 + l) ws) ≡ take s (drop l rest) = part-behind ws (4 + l) l (4 + l + s - (4 + l)) s refl (omega arith) in
+      let third : take (4 + l + s + a - (4 + l + s)) (drop (4 + l + s) ws) ≡ take a (drop (l + s) rest) =
+      part-behind ws (4 + l + s) (l + s) (4 + l + s + a - (4 + l + s)) a (omega arith) (omega arith)
+      in
+      rw (first, second, third, formula-part, labels, system, actions) refl
+
+-- ---- what is printed
+
+accepted-some : (bytes ws : List ℕ) → accepted bytes ≡ some ws → (disagree ws ≡ false) × (printed bytes ≡ reported (gateRun (slicesOf ws)))
+unfolding accepted agreeing printed printedWords
+accepted-some bytes ws e = go (wordsOf bytes) e
+  where
+    go : (o : Option (List ℕ)) → agreeing o ≡ some ws → (disagree ws ≡ false) × (printedWords o ≡ reported (gateRun (slicesOf ws)))
+    go none h = let z : _≡_ {A = ℕ} 0 1 = cc in absurd (omega arith)
+    go (some us) h = within (disagree us) refl h
+      where
+        within : (t : Bool) → disagree us ≡ t → cond t none (some us) ≡ some ws → (disagree ws ≡ false) × (printedWords (some us) ≡ reported (gateRun (slicesOf ws)))
+        within true d h = let z : _≡_ {A = ℕ} 0 1 = cc in absurd (omega arith)
+        within false d h =
+            let u : us ≡ ws = cc in
+            (ap disagree (sym u) ∙ d, rw d (ap (λ (vs : List ℕ). reported (gateRun (slicesOf vs))) u))
+
+accepted-none : (bytes : List ℕ) → accepted bytes ≡ none → line refusedText (2 ∷ 0 ∷ []) ≡ printed bytes
+unfolding accepted agreeing printed printedWords
+accepted-none bytes e = go (wordsOf bytes) e
+  where
+    go : (o : Option (List ℕ)) → agreeing o ≡ none → line refusedText (2 ∷ 0 ∷ []) ≡ printedWords o
+    go none h = refl
+    go (some us) h = within (disagree us) refl h
+      where
+        within : (t : Bool) → disagree us ≡ t → cond t none (some us) ≡ none → line refusedText (2 ∷ 0 ∷ []) ≡ printedWords (some us)
+        within true d h = rw d refl
+        within false d h = let z : _≡_ {A = ℕ} 0 1 = cc in absurd (omega arith)
+
+module _ (bytes ws : List ℕ) (d : Decoded) (same : decoded d ws ≡ accepted bytes) where
+  read-some : (n : ℕ) → d ≡ Read n → accepted bytes ≡ some (take n ws)
+  unfolding decoded
+  read-some n e = sym same ∙ ap (λ (k : Decoded). decoded k ws) e
+
+  pub read-agrees : (n : ℕ) → d ≡ Read n → disagree (take n ws) ≡ false
+  read-agrees n e = accepted-some bytes (take n ws) (read-some n e) .0
+
+  pub read-printed : (n : ℕ) → d ≡ Read n → reported (gateRun (slicesOf (take n ws))) ≡ printed bytes
+  read-printed n e = sym (accepted-some bytes (take n ws) (read-some n e) .1)
+
+  pub unreadable-printed : d ≡ Unreadable → line (114 ∷ 101 ∷ 102 ∷ 117 ∷ 115 ∷ 101 ∷ 100 ∷ []) (2 ∷ 0 ∷ []) ≡ printed bytes
+  unfolding decoded refusedText
+  unreadable-printed e = accepted-none bytes (sym same ∙ ap (λ (k : Decoded). decoded k ws) e)
+
+pub read-count : (d : Decoded) (n : ℕ) → d ≡ Read n → wordCount d ≤ 2_048 → n ≤ 2_048
+unfolding wordCount
+read-count d n e h = subst (λ (k : Decoded). wordCount k ≤ 2_048) e h
+
+-- ---- a run, as the code leaves it
+module _ (x : Input) (a : Answer) (game work : List ℕ) (same : _≡_ {A = Outcome} (record { answer = said a; game = game; work = work }) (gateRun x)) where
+  pub run-printed : report (word (said a) 0) (said a) game ≡ reported (gateRun x)
+  unfolding reported
+  run-printed = ap reported same
+
+  pub game-shown : (¬ (word (said a) 0 ≡ 2)) → Shown game
+  game-shown = subst (λ (o : Outcome). (¬ (word (o .answer) 0 ≡ 2)) → Shown (o .game)) (sym same) (gate-shown x)
+
+-- all that is written
+pub wrote-all : (bytes : List ℕ) {s text text′ : List ℕ} {r : ℕ} → Wrote 0 s text text′ r → s ≡ bytes → (take r text′ ≡ bytes) × (r ≤ length text′)
+wrote-all bytes {s} {text} {text′} {r} w e = (w .words ∙ e, omega (arith, w .past, ap length (w .words), length-take r text′))
+
+-- ---- a longer input need not be read whole: one byte more than the largest input tells that it is refused
+
+long-printed : (bytes : List ℕ) → 8_192 < length bytes → line refusedText (2 ∷ 0 ∷ []) ≡ printed bytes
+long-printed bytes h = accepted-none bytes (refused-long bytes h)
+
+pub read-enough : (bytes : List ℕ) → printed (take 8_193 bytes) ≡ printed bytes
+read-enough bytes = go (decLt 8_193 (length bytes))
+  where
+    go : Dec (8_193 < length bytes) → printed (take 8_193 bytes) ≡ printed bytes
+    go (yes l) = sym (long-printed (take 8_193 bytes) (omega (arith, length-take-le 8_193 bytes (omega arith)))) ∙ long-printed bytes (omega arith)
+    go (no l) = ap printed (take-all 8_193 bytes (omega arith))
