@@ -34,6 +34,10 @@ pub line-length : (text ns : List ℕ) → length (line text ns) ≤ length text
 unfolding line
 line-length text ns = omega (arith, length-append text (spaced ns ++ (10 ∷ [])), length-append (spaced ns) (10 ∷ []), spaced-length ns)
 
+-- a line of three numbers or fewer fits
+pub line-fits : (name ns : List ℕ) (size : ℕ) → length name ≤ 7 → length ns ≤ 3 → 32_768 ≤ size → 0 + length (line name ns) ≤ size
+line-fits name ns size h k l = omega (arith, line-length name ns)
+
 vertex-length : (g : List ℕ) (v : ℕ) → length (vertexLine g v) ≤ 33 + 11 * length (targetsIn g v)
 unfolding vertexLine
 vertex-length g v = omega (arith, line-length (decimal v) (ownerIn g v ∷ priorityIn g v ∷ targetsIn g v), decimal-length v)

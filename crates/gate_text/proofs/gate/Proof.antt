@@ -1,11 +1,10 @@
 -- `gate` meets its contract: the words run, or the refusal. Assumes nothing.
 use mathlib.Core.Path.{sym}
-use mathlib.Core.List.{[], _∷_}
 use native.Mathlib.Omega.{arith}
 use denote.Ref.{now}
 use lib.Seq.{length-take-le}
 use Rattle.rules.specs.Program.{printed}
-use Rattle.gate_text.proofs.Sizes.{line-length}
+use Rattle.gate_text.proofs.Sizes.{line-fits}
 use Rattle.gate_text.proofs.Programs.{read-agrees, read-printed, unreadable-printed, read-count, wrote-all}
 use borrow.Author.Needs.{needs}
 use Rattle.gate_text.proofs.gate.Statement.{statement}
@@ -39,7 +38,7 @@ slice-aggregate-put-line-2 : tie.Need-slice-aggregate-put-line-2
 slice-aggregate-put-line-2 c = search needs
 
 put-line-requires : tie.Need-put-line-requires
-put-line-requires c κs = omega (arith, c .before .before .before .before .before .before .before .before .before .before .pre, line-length (114 ∷ 101 ∷ 102 ∷ 117 ∷ 115 ∷ 101 ∷ 100 ∷ []) (2 ∷ 0 ∷ []))
+put-line-requires c κs = line-fits _ _ _ (omega arith) (omega arith) (c .before .before .before .before .before .before .before .before .before .before .pre)
 
 same-length : tie.Need-same-length
 same-length c = c .before .before .run-words .kept .1 .0

@@ -1,9 +1,8 @@
 -- `print` meets its contract, by the cases of the answer. Assumes nothing.
-use mathlib.Core.List.{[], _∷_}
 use native.Mathlib.Omega.{arith}
 use denote.Ref.{now}
 use Rattle.gate_text.proofs.Lines.{wrote-as}
-use Rattle.gate_text.proofs.Sizes.{line-length}
+use Rattle.gate_text.proofs.Sizes.{line-fits}
 use Rattle.gate_text.proofs.Reports.{report-done, report-cut, report-refused, done-printed, cut-printed}
 use borrow.Author.Needs.{needs}
 use Rattle.gate_text.proofs.print.Statement.{statement}
@@ -43,7 +42,7 @@ slice-aggregate-put-line-2 : tie.Need-slice-aggregate-put-line-2
 slice-aggregate-put-line-2 c = search needs
 
 put-line-requires : tie.Need-put-line-requires
-put-line-requires c κs = omega (arith, c .before .before .before .before .before .before .before .before .pre .0, line-length (114 ∷ 101 ∷ 102 ∷ 117 ∷ 115 ∷ 101 ∷ 100 ∷ []) (c .before .before .before .before .answer3 .given .0 .0 ∷ c .before .before .before .before .answer3 .given .0 .1 .0 ∷ []))
+put-line-requires c κs = line-fits _ _ _ (omega arith) (omega arith) (c .before .before .before .before .before .before .before .before .pre .0)
 
 same-length : tie.Need-same-length
 same-length c = c .before .before .put-game .kept .0
