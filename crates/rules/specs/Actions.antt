@@ -14,7 +14,7 @@ pub data Action : Type 0 where
   union intersection : (left right : Action) → Action
   negation : (action : Action) → Action
 
--- the tree of node v, given the trees of other nodes. The last case is never met in accepted words (theorem `accepted-actions`)
+-- the tree of node v, given the trees of other nodes. The last case is never met in accepted words (theorem `actions-known`)
 unfoldable pub actionOf : (ℕ → Action) → List ℕ → ℕ → ActionNode → Action
 actionOf tree ls v trueNode = anyAction
 actionOf tree ls v falseNode = neverAction

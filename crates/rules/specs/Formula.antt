@@ -76,7 +76,7 @@ pub data Formula : Type 0 where
   box diamond : (action : Action) (formula : Formula) → Formula
   reference : (equation : ℕ) → Formula
 
--- the subformula of node v, given those of other nodes. The last case is never met in accepted words (theorem `accepted-formula`)
+-- the subformula of node v, given those of other nodes. The last case is never met in accepted words (theorem `formula-known`)
 unfoldable pub formulaOf : (ℕ → Formula) → Input → ℕ → FormulaNode → Formula
 formulaOf tree x v truthNode = truth
 formulaOf tree x v falsityNode = falsity

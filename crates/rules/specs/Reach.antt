@@ -30,7 +30,7 @@ module _ {A : Type 0} (same : A → A → Bool) (next : A → List A) (root : A)
 abbrev pub pairCount : Input → ℕ
 pairCount x = stateCount (x .system) * length (items x)
 
--- all reachable pairs, each once (theorems `reachable-exactly`, `reachable-once`)
+-- all reachable pairs, each once (fields `exactly` and `once` of the cut theorem)
 unfoldable pub reachablePairs : Input → List Pair
 reachablePairs x = reachedIn samePair (targets x) (initialPair x) (pairCount x)
 
