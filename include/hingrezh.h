@@ -70,7 +70,11 @@
  *
  * Of several faults hingrezh_translate answers the first in the order 1, 2, 11 to 45, 60, and
  * hingrezh_compute_reachable in the order 51, 52, 53, 2; of faults with one number the one with the smallest place.
- * In 34 and 44 a right-child operand isn't judged if its left tree is unfinished. */
+ * In 34 and 44 a right-child operand isn't judged if its left tree is unfinished.
+ *
+ * Stack: the deepest formulas (1,024 nested nodes) have needed up to 320 KB for a whole process; give the calling
+ * thread at least 512 KB.
+ */
 #ifndef HINGREZH_H
 #define HINGREZH_H
 
