@@ -1,0 +1,3 @@
+pub mod Quantifiers
+pub mod Modal
+pub mod Winning
