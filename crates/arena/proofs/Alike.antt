@@ -1,6 +1,6 @@
 -- Subformulas that are alike as trees are equal, and so are action formulas. Assumes nothing.
 use mathlib.Core.Path.{_≡_, refl, sym, ap, ap₂, _∙_}
-use mathlib.Core.Bool.{Bool, true, false, _&&_, false≢true}
+use mathlib.Core.Bool.{true, _&&_, false≢true}
 use mathlib.Core.List.{[], _∷_}
 use lib.Dec.{eqb}
 use lib.ListN.{getD}
@@ -9,10 +9,7 @@ use Rattle.rules.specs.Actions.{Action, anyAction, neverAction, multiAction, un
 use Rattle.rules.specs.Formula.{Formula, truth, falsity, conjunction, disjunction, box, diamond, reference}
 use Rattle.rules.specs.Items.{Tree, leaf, node, sameTree, actionView, formulaView, alike}
 use Rattle.lists.specs.Shapes.{Equality}
-
-pub and-true : (a b : Bool) → (a && b) ≡ true → (a ≡ true) × (b ≡ true)
-and-true true b e = (refl, e)
-and-true false b e = absurd (false≢true e)
+use Rattle.lists.proofs.Tests.{and-true}
 
 -- ---- plain trees
 
@@ -84,7 +81,3 @@ alike-self f = same-tree-self (formulaView f)
 
 pub alike-equality : Equality alike
 alike-equality = record { sound = alike-equal; self = alike-self }
-
--- two action formulas with one view are equal
-pub action-view-equal : (a b : Action) → sameTree (actionView a) (actionView b) ≡ true → a ≡ b
-action-view-equal a b h = sym (action-back a) ∙ ap actionBack (same-tree-equal (actionView a) (actionView b) h) ∙ action-back b

@@ -8,7 +8,7 @@ use native.Mathlib.Decide.{decLt, ℕ-discrete}
 use native.Mathlib.Nat.{zero-mul, suc-mul}
 use native.Mathlib.Omega.{arith}
 use lib.ListN.{length, length-append, length-map}
-use Rattle.rules.specs.Lists.{In, word, from, sumWords}
+use Rattle.rules.specs.Lists.{In, from, sumWords}
 use Rattle.rules.specs.Words.{Input}
 use Rattle.rules.specs.Labels.{labelCount, multiset}
 use Rattle.rules.specs.System.{stateCount, transitionCount, degree, transitionLabel, transitionTarget, firstTransition, transitions}
@@ -24,20 +24,12 @@ use Rattle.lists.proofs.Inserts.{once-in}
 use Rattle.lists.proofs.Equalities.{number-equality}
 use Rattle.trees.proofs.Equations.{good-some-equation}
 use Rattle.arena.specs.Arena.{BodyNode, Carried, Parts, Inside, pairsOfStates, allPairs}
-use Rattle.arena.proofs.Ranges.{from-length, from-in, in-from}
+use Rattle.lists.proofs.Ranges.{from-length, from-in, in-from}
 use Rattle.arena.proofs.ItemNumbers.{items-count, item-equation, item-below, item-subformula, item-carried}
 use Rattle.arena.proofs.Parts.{carried-parts, body-carried}
+use Rattle.lists.proofs.Sums.{sum-grows}
 
 -- ---- transitions
-
-sum-grows : (ws : List ℕ) (p m n : ℕ) → m ≤ n → sumWords ws p m ≤ sumWords ws p n
-unfolding sumWords
-sum-grows ws p m zero h = let e : m ≡ 0 = omega arith in rw e (omega arith)
-sum-grows ws p m (suc n) h = go (λ k. sum-grows ws p m n k) (ℕ-discrete m (suc n))
-  where
-    go : (m ≤ n → sumWords ws p m ≤ sumWords ws p n) → Dec (m ≡ suc n) → sumWords ws p m ≤ sumWords ws p n + word ws (p + n)
-    go f (yes e) = rw e (omega arith)
-    go f (no d) = let k = f (omega arith) in omega arith
 
 module _ (l : ℕ) (ss : List ℕ) (good : GoodSystem l ss) (s : ℕ) (h : s < stateCount ss) where
   -- the transitions of a state are some of all

@@ -21,7 +21,7 @@ use Rattle.lists.proofs.Members.{in-at, map-at, map-in, in-map, place-below, pl
 use Rattle.lists.proofs.Inserts.{once-in, once-distinct, once-length}
 use Rattle.trees.proofs.Equations.{count-few}
 use Rattle.arena.proofs.Alike.{alike-equality}
-use Rattle.arena.proofs.Ranges.{from-length, from-in, in-from}
+use Rattle.lists.proofs.Ranges.{from-length, from-in, in-from}
 
 -- ---- body nodes
 

@@ -1,5 +1,4 @@
 pub mod Alike
-pub mod Ranges
 pub mod ItemNumbers
 pub mod Numbering
 pub mod Parts

@@ -22,13 +22,14 @@ use Rattle.rules.specs.Items.{items, itemNumber}
 use Rattle.rules.specs.Pairs.{Pair, owner, targets}
 use Rattle.rules.specs.Run.{run}
 use Rattle.rules.specs.Good.{GoodLabels, GoodActions, GoodInput}
-use Rattle.labels.proofs.Counts.{flags, both-true, tally-some}
+use Rattle.labels.proofs.Counts.{flags, tally-some}
 use Rattle.labels.proofs.Alike.{same-times, times-same}
 use Rattle.arena.specs.Reworded.{reworded, SameCounts, SameMultisets, SameActions}
-use Rattle.arena.proofs.Ranges.{same-seek}
+use Rattle.lists.proofs.Ranges.{same-seek}
 use Rattle.arena.proofs.Inside.{transition-inside}
 use Rattle.arena.proofs.SameTrees.{same-actions, same-formulas, same-items, same-numbers, same-owners, same-targets, same-run}
 use Rattle.arena.proofs.SameRefusals.{relabelled-refusal, renamed-refusal}
+use Rattle.lists.proofs.Tests.{and-true}
 
 -- ---- labels
 
@@ -62,7 +63,7 @@ times-past ls good l a h = go (tally-some (λ p. eqb (labelAt ls p) l && eqb (ac
         → tally (λ p. eqb (labelAt ls p) l && eqb (actionAt ls p) a) 0 (actionCount ls) ≡ 0
     go (inl e) = e
     go (inr (q, b, c, t)) =
-        let e = eqb-true (labelAt ls q) l (both-true (eqb (labelAt ls q) l) (eqb (actionAt ls q) a) t .0) in
+        let e = eqb-true (labelAt ls q) l (and-true (eqb (labelAt ls q) l) (eqb (actionAt ls q) a) t .0) in
         let k = good .below q (omega arith) in
         absurd (omega arith)
 

@@ -1,14 +1,14 @@
 -- Good labels, or action formulas that name equal labels, are refused as the others are: the other words decide. Assumes nothing.
 use mathlib.Core.Path.{_≡_, refl, sym, ap, ap₂, _∙_}
-use mathlib.Core.Bool.{Bool, true, false, not, _&&_, _||_}
+use mathlib.Core.Bool.{false, not, _&&_, _||_}
 use mathlib.Core.List.{List, [], _∷_}
 use mathlib.Core.Option.{Option}
 use Prim.Native.Nat.{ℕ, zero, suc, _+_, _*_, _-_, _≤_, _<_}
 use native.Mathlib.Decide.{decLt, ℕ-discrete}
 use native.Mathlib.Omega.{arith}
-use lib.Dec.{eqb, ltb, leb}
+use lib.Dec.{ltb, leb}
 use lib.ListN.{length}
-use borrow.Author.Tests.{eq-eqb, ne-eqb, le-ltb, lt-leb}
+use borrow.Author.Tests.{ne-eqb, le-ltb, lt-leb}
 use Rattle.rules.specs.declared.Check.{Check}
 use Rattle.rules.specs.declared.Check.the-variants.{Passed}
 use Rattle.rules.specs.Lists.{word}
@@ -27,17 +27,8 @@ use Rattle.rules.specs.Good.{GoodLabels, GoodActions}
 use Rattle.tables.proofs.Faults.{if-false, from-none, from-same}
 use Rattle.tables.proofs.Decode.{action-at, action-past}
 use Rattle.arena.specs.Reworded.{reworded, SameActions}
-
-neither : (a b : Bool) → a ≡ false → b ≡ false → (a || b) ≡ false
-neither a b p q = rw (p, q)
-
-second : (a b : Bool) → b ≡ false → (a && b) ≡ false
-second true b e = e
-second false b e = refl
-
-no-difference : (m n : ℕ) → m ≡ n → differ m n ≡ false
-unfolding differ
-no-difference m n e = rw (eq-eqb m n e)
+use Rattle.lists.proofs.Tests.{or-none, and-false}
+use Rattle.tables.proofs.Choices.{differ-no}
 
 -- ---- labels
 
@@ -46,16 +37,16 @@ module _ (ls : List ℕ) (good : GoodLabels ls) where
   unfolding refusal11
   passed-11 =
       let s = good .sized in
-      if-false 11 0 (neither (ltb (length ls) 2) (differ (length ls) (2 + 2 * actionCount ls)) (le-ltb (length ls) 2 (omega arith)) (no-difference (length ls) (2 + 2 * actionCount ls) s))
+      if-false 11 0 (or-none (le-ltb (length ls) 2 (omega arith)) (differ-no s))
 
   passed-12 : refusal12 ls ≡ Passed
   unfolding refusal12 mostLabels mostActions
   passed-12 =
-      if-false 12 0 (neither (ltb 4_096 (labelCount ls)) (ltb 16_384 (actionCount ls)) (le-ltb 4_096 (labelCount ls) (good .few)) (le-ltb 16_384 (actionCount ls) (good .small)))
+      if-false 12 0 (or-none (le-ltb 4_096 (labelCount ls) (good .few)) (le-ltb 16_384 (actionCount ls) (good .small)))
 
   labels-right : (w : ℕ) → leb (labelCount ls) (word ls w) ≡ false → (ltb 2 w && ltb (word ls w) (word ls (w - 1))) ≡ false → badLabel ls w ≡ false
   unfolding badLabel
-  labels-right w p q = neither (leb (labelCount ls) (word ls w)) (ltb 2 w && ltb (word ls w) (word ls (w - 1))) p q
+  labels-right w p q = or-none p q
 
   passed-13 : refusal13 ls ≡ Passed
   unfolding refusal13
@@ -72,7 +63,7 @@ module _ (ls : List ℕ) (good : GoodLabels ls) where
           let k = good .order (w - 1 - 2) (w - 2) (omega arith) (omega arith) in
           let e = at w a in
           let f = at (w - 1) (omega arith) in
-          second (ltb 2 w) (ltb (word ls w) (word ls (w - 1))) (le-ltb (word ls w) (word ls (w - 1)) (omega arith))
+          and-false (ltb 2 w) (le-ltb (word ls w) (word ls (w - 1)) (omega arith))
       rises w a b (no h) = rw (le-ltb 2 w (omega arith))
 
       right : (w : ℕ) → 2 ≤ w → w < 2 + actionCount ls → badLabel ls w ≡ false
@@ -160,7 +151,7 @@ module _ (ls acts acts′ : List ℕ) (good : GoodActions (labelCount ls) acts) 
       passed : (ws : List ℕ) → length ws ≡ 1 + 2 * size ws → refusal31 ws ≡ Passed
       passed ws e =
           unfold refusal31 in
-          if-false 31 0 (neither (eqb (length ws) 0) (differ (length ws) (1 + 2 * size ws)) (ne-eqb (length ws) 0 (λ z. omega arith)) (no-difference (length ws) (1 + 2 * size ws) e))
+          if-false 31 0 (or-none (ne-eqb (length ws) 0 (λ z. omega arith)) (differ-no e))
 
   same-32 : refusal32 acts′ ≡ refusal32 acts
   unfolding refusal32

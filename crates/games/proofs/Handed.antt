@@ -1,25 +1,26 @@
 -- The check of a game that is handed over, of the words of written vertices: it passes if every owner is 0 or 1, and is refused 53 at the first owner that is not. Assumes nothing.
 use mathlib.Core.Path.{_≡_, refl, sym, ap, _∙_, subst}
-use mathlib.Core.Bool.{Bool, true, false, _||_}
+use mathlib.Core.Bool.{false}
 use mathlib.Core.List.{List, [], _∷_, _++_, append-nil}
-use mathlib.Core.Logic.{_⊎_, inl, inr, ⊎-elim}
-use Prim.Native.Nat.{ℕ, zero, suc, _+_, _-_, _*_, _≤_, _<_}
+use mathlib.Core.Logic.{_⊎_, ⊎-elim}
+use Prim.Native.Nat.{ℕ, suc, _+_, _-_, _*_, _≤_, _<_}
 use native.Mathlib.Omega.{arith}
 use lib.ListN.{length, getD, take}
 use lib.Seq.{take-all}
-use lib.Dec.{eqb, ltb, leb}
-use borrow.Author.Tests.{lt-ltb, le-ltb, lt-leb, ne-eqb, eq-eqb}
+use lib.Dec.{ltb, leb}
+use borrow.Author.Tests.{lt-ltb, le-ltb, lt-leb, ne-eqb}
 use Rattle.rules.specs.declared.Check.{Check}
 use Rattle.rules.specs.declared.Check.the-variants.{Passed, Fault}
 use Rattle.rules.specs.Lists.{word, In}
 use Rattle.rules.specs.Words.{mostVertices, mostEdges}
 use Rattle.rules.specs.Answers.{faultIf, andThen, firstFault}
 use Rattle.rules.specs.Game.{Vertex, edgeCount, edgeTargets, gameOf, vertexCount, edgesIn, initialIn, ownerIn, offsetIn}
-use Rattle.rules.specs.Refusal.{differ, faultFrom, lowerFault, tooLarge}
+use Rattle.rules.specs.Refusal.{tooLarge}
 use Rattle.rules.specs.GameRefusal.{refusal51, falls, refusal52, refusal53, gameRefusal}
 use Rattle.lists.proofs.Members.{in-either, in-at}
 use Rattle.tables.proofs.Faults.{if-false, from-none, from-first, then-last, lower-passed, lower-alone}
-use Rattle.games.proofs.Reading.{count-read, owner-read, offset-read, length-read, target-word, count-rises, length-targets}
+use Rattle.games.proofs.Reading.{owner-read, offset-read, length-read, target-word, count-rises, length-targets}
+use Rattle.tables.proofs.Choices.{differ-no}
 
 -- what holds of every edge of every vertex holds of every word of the targets
 all-edges : (P : ℕ → Type 0) (vs : List Vertex) (d : Vertex) → ((v : ℕ) → v < length vs → (t : ℕ) → In t (getD vs v d .edges) → P t) → (t : ℕ) → In t (edgeTargets vs) → P t
@@ -30,10 +31,6 @@ all-edges P (v ∷ vs) d f t m = ⊎-elim (f 0 (omega arith) t) (all-edges P vs 
 third-check : (a b c : Check) → a ≡ Passed → b ≡ Passed → firstFault (a ∷ b ∷ c ∷ []) ≡ c
 unfolding firstFault andThen
 third-check a b c e f = rw (e, f) (then-last c)
-
-same-number : (m n : ℕ) → m ≡ n → differ m n ≡ false
-unfolding differ
-same-number m n e = rw (eq-eqb m n e) refl
 
 module _ (vs : List Vertex) (d : Vertex) (some : 1 ≤ length vs) (few : length vs ≤ 1_048_576) (light : edgeCount vs ≤ 4_194_304)
     (inside : (v : ℕ) → v < length vs → (t : ℕ) → In t (getD vs v d .edges) → t < length vs) where
@@ -68,7 +65,7 @@ module _ (vs : List Vertex) (d : Vertex) (some : 1 ≤ length vs) (few : length 
       if-false 51 0
       (rw (
         le-ltb (length g) 3 (omega arith),
-        same-number (length g) (4 + 3 * vertexCount g + edgesIn g) (omega (arith, counts, edges)),
+        differ-no {a = length g} {b = 4 + 3 * vertexCount g + edgesIn g} (omega (arith, counts, edges)),
         ne-eqb (vertexCount g) 0 (λ e. omega (arith, counts)),
         le-ltb 1_048_576 (vertexCount g) (omega (arith, counts)),
         le-ltb 4_194_304 (edgesIn g) (omega (arith, edges)),
@@ -94,9 +91,9 @@ module _ (vs : List Vertex) (d : Vertex) (some : 1 ≤ length vs) (few : length 
   passes-52 : refusal52 g ≡ Passed
   unfolding refusal52
   passes-52 =
-      lower-passed _ (if-false 52 (3 + 2 * vertexCount g) (same-number (offsetIn g 0) 0 begins-0))
+      lower-passed _ (if-false 52 (3 + 2 * vertexCount g) (differ-no begins-0))
       ∙ lower-passed _ (from-none 52 (4 + 2 * vertexCount g) (4 + 3 * vertexCount g) (falls g) rises)
-      ∙ if-false 52 (3 + 3 * vertexCount g) (same-number (offsetIn g (vertexCount g)) (edgesIn g) ends-all)
+      ∙ if-false 52 (3 + 3 * vertexCount g) (differ-no ends-all)
 
   target-small : (w : ℕ) → 4 + 3 * vertexCount g ≤ w → w < 4 + 3 * vertexCount g + edgesIn g → tooLarge g (vertexCount g) w ≡ false
   unfolding tooLarge

@@ -1,3 +1,4 @@
+pub mod Offsets
 pub mod Reading
 pub mod Rewriting
 pub mod Handed

@@ -1,16 +1,14 @@
 -- A written game, read back: at the words of `gameOf vs` stand the vertices vs. `rest` is what stands past the game.
 -- Assumes nothing.
-use mathlib.Core.Path.{_≡_, refl, sym, ap, _∙_, subst}
+use mathlib.Core.Path.{_≡_, refl, sym, ap, _∙_}
 use mathlib.Core.List.{List, [], _∷_, _++_, map, append-assoc}
 use Prim.Native.Nat.{ℕ, zero, suc, _+_, _-_, _*_, _≤_, _<_}
 use native.Mathlib.Nat.{not-suc-le-zero, le-of-suc-le-suc}
-use native.Mathlib.Numerals.{add-one}
 use native.Mathlib.Omega.{arith}
 use lib.ListN.{length, getD, take, drop, length-append, length-map, List·getD-append}
 use lib.Seq.{slice, getD-append-add, take-append-add, drop-append-add, take-append-seam}
-use Rattle.rules.specs.Lists.{word, sum, In}
-use Rattle.rules.specs.Game.{Vertex, edgeCount, offsets, edgeTargets, gameOf, padded, vertexCount, edgesIn, initialIn, ownerIn, priorityIn, offsetIn, targetsAt, targetsIn, gameEnd}
-use mathlib.Core.Logic.{⊎-elim}
+use Rattle.rules.specs.Lists.{word, sum}
+use Rattle.rules.specs.Game.{Vertex, edgeCount, offsets, edgeTargets, gameOf, vertexCount, offsetIn, targetsAt, targetsIn}
 
 pub length-offsets : (e : ℕ) (vs : List Vertex) → length (offsets e vs) ≡ suc (length vs)
 unfolding offsets

@@ -1,14 +1,15 @@
 -- The words of a game are told by what is read from them: two slices of one length from which the same vertices are read, and in which nothing else stands, are equal.
 -- Assumes nothing.
 use mathlib.Core.Path.{_≡_, refl, sym, ap, _∙_, subst}
-use mathlib.Core.List.{List, [], _∷_, _++_, append-nil}
+use mathlib.Core.List.{List, _∷_, _++_}
 use Prim.Native.Nat.{ℕ, zero, suc, _+_, _-_, _*_, _≤_, _<_}
 use native.Mathlib.Decide.{decLt}
 use native.Mathlib.Omega.{arith}
-use lib.ListN.{length, getD, take, drop}
+use lib.ListN.{length}
 use lib.Seq.{slice, slice-cons, slice-empty, take-all}
 use Rattle.rules.specs.Lists.{word}
 use Rattle.rules.specs.Game.{vertexCount, edgesIn, initialIn, ownerIn, priorityIn, offsetIn, targetsAt, targetsIn, gameEnd}
+use Rattle.games.proofs.Offsets.{offset-within}
 
 -- the words are a game, and zeros past it
 pub record Whole (g : List ℕ) : Type 0 where
@@ -59,10 +60,6 @@ module _ (g h : List ℕ) (long : length g ≡ length h) (wg : Whole g) (wh : Wh
   edges-alike =
       sym (wg .ends .0) ∙ offset-alike (vertexCount g) (omega arith) ∙ ap (λ (v : ℕ). offsetIn h v) (r .count) ∙ wh .ends .0
 
-  offset-most : (d v : ℕ) → v + d ≡ vertexCount g → offsetIn g v ≤ edgesIn g
-  offset-most zero v e = let z : v ≡ vertexCount g = omega arith in omega (arith, wg .ends .0, ap (λ (u : ℕ). offsetIn g u) z)
-  offset-most (suc d) v e = omega (arith, wg .follows v (omega arith), offset-most d (suc v) (omega arith))
-
   -- the words before the targets
   before-alike : (i : ℕ) → i < targetsAt g → word g i ≡ word h i
   before-alike zero l = r .count
@@ -92,7 +89,7 @@ module _ (g h : List ℕ) (long : length g ≡ length h) (wg : Whole g) (wh : Wh
       let e : targetsAt g + offsetIn g 0 ≡ targetsAt g = omega (arith, wg .begins) in
       rw e (slice-empty (targetsAt g) g ∙ sym (slice-empty (targetsAt g) h))
   targets-alike (suc v) l =
-      let most = offset-most (vertexCount g - suc v) (suc v) (omega arith) in
+      let most = offset-within g (λ u b. omega (arith, wg .follows u b)) (wg .ends .0) (suc v) (omega arith) in
       let room = wg .ends .1 in
       let more = wg .follows v l in
       let last : slice (targetsAt g + offsetIn g v) (targetsAt g + offsetIn g (suc v)) g ≡ slice (targetsAt g + offsetIn g v) (targetsAt g + offsetIn g (suc v)) h

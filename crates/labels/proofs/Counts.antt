@@ -1,11 +1,12 @@
 -- The places at which a test holds: how many they are, and whether it holds at each. Assumes nothing.
-use mathlib.Core.Path.{_≡_, refl, sym, ap, ap₂, subst, _∙_}
+use mathlib.Core.Path.{_≡_, refl, sym, ap, ap₂, _∙_}
 use mathlib.Core.Logic.{⊎-elim, _⊎_, inl, inr}
-use mathlib.Core.Bool.{Bool, true, false, _&&_}
+use mathlib.Core.Bool.{Bool, true, false}
 use Prim.Native.Nat.{ℕ, zero, suc, _+_, _-_, _≤_, _<_}
 use native.Mathlib.Omega.{arith}
 use native.Mathlib.Nat.{add-suc, add-assoc, add-zero, eq-or-lt-of-le}
 use Rattle.rules.specs.Lists.{one, tally, every}
+use Rattle.lists.proofs.Tests.{and-true}
 
 -- two flags are equal if each follows from the other
 pub flags : (a b : Bool) → (a ≡ true → b ≡ true) → (b ≡ true → a ≡ true) → a ≡ b
@@ -13,25 +14,12 @@ flags true b p q = sym (p refl)
 flags false true p q = q refl
 flags false false p q = refl
 
-pub both-true : (a b : Bool) → (a && b) ≡ true → (a ≡ true) × (b ≡ true)
-both-true true b h = (refl, h)
-both-true false b h = (h, let z : _≡_ {A = ℕ} 0 1 = cc in absurd (omega arith))
-
-pub one-le : (b : Bool) → one b ≤ 1
-one-le true = omega arith
-one-le false = omega arith
-
 pub tally-cong : (f g : ℕ → Bool) (p n : ℕ) → ((q : ℕ) → p ≤ q → q < p + n → f q ≡ g q) → tally f p n ≡ tally g p n
 unfolding tally
 tally-cong f g p zero h = refl
 tally-cong f g p (suc n) h = ap₂ _+_ (tally-cong f g p n (λ q a b. h q a (omega arith))) (ap one (h (p + n) (omega arith) (omega arith)))
 
 module _ (f : ℕ → Bool) where
-  pub tally-le : (p n : ℕ) → tally f p n ≤ n
-  unfolding tally
-  tally-le p zero = omega arith
-  tally-le p (suc n) = omega (arith, tally-le p n, one-le (f (p + n)))
-
   tally-zero : (p n : ℕ) → ((q : ℕ) → p ≤ q → q < p + n → f q ≡ false) → tally f p n ≡ 0
   unfolding tally
   tally-zero p zero h = refl
@@ -90,7 +78,7 @@ module _ (f : ℕ → Bool) where
   unfolding every
   every-at p zero h q a b = absurd (omega arith)
   every-at p (suc n) h q a b =
-      let s = both-true (every f p n) (f (p + n)) h in
+      let s = and-true (every f p n) (f (p + n)) h in
       let l : q ≤ p + n = omega arith in
       ⊎-elim (λ e. ap f e ∙ s .1) (λ u. every-at p n (s .0) q a u) (eq-or-lt-of-le l)
 

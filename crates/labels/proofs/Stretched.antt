@@ -1,5 +1,5 @@
 -- Two labels are the same multiset exactly if the actions of each occur in both their stretches equally often. Assumes nothing.
-use mathlib.Core.Path.{_≡_, refl, sym, ap, ap₂, _∙_}
+use mathlib.Core.Path.{_≡_, sym, ap, ap₂, _∙_}
 use mathlib.Core.Logic.{_⊎_, inl, inr}
 use mathlib.Core.Bool.{Bool, true, false, _&&_}
 use mathlib.Core.List.{List}
@@ -7,11 +7,12 @@ use Prim.Native.Nat.{ℕ, _+_, _-_, _≤_, _<_}
 use native.Mathlib.Omega.{arith}
 use lib.Dec.{eqb}
 use borrow.Author.Tests.{eq-eqb, ne-eqb, eqb-true}
-use Rattle.rules.specs.Lists.{one, tally, every}
+use Rattle.rules.specs.Lists.{one, every}
 use Rattle.rules.specs.Labels.{labelAt, actionAt, actionCount, times, sameLabel}
 use Rattle.labels.specs.Stretches.{timesIn, covered, Starts, Stretch}
-use Rattle.labels.proofs.Counts.{flags, both-true, tally-start, tally-more, tally-middle, tally-some, tally-cong, every-start, every-more, every-not, every-at, every-all}
+use Rattle.labels.proofs.Counts.{flags, tally-start, tally-more, tally-middle, tally-some, tally-cong, every-start, every-more, every-not, every-at, every-all}
 use Rattle.labels.proofs.Alike.{same-times, times-same}
+use Rattle.lists.proofs.Tests.{and-true}
 
 -- label 0 starts at place 0
 pub starts-first : (ls : List ℕ) → Starts ls 0 0
@@ -92,7 +93,7 @@ module _ (ls : List ℕ) where
     unfolding covered
     stretches-same =
         flags (covered ls a e a e b f && covered ls b f a e b f) (sameLabel ls l m)
-        (λ h. let s = both-true (covered ls a e a e b f) (covered ls b f a e b f) h in
+        (λ h. let s = and-true (covered ls a e a e b f) (covered ls b f a e b f) h in
         times-same ls l m (λ x. times-stretch l a e x sl ∙ in-stretches (s .0) (s .1) x ∙ sym (times-stretch m b f x sm)))
         (λ h. ap₂ _&&_ (all-of h a (e - a)) (all-of h b (f - b)))
       where

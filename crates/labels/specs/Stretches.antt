@@ -1,5 +1,4 @@
 -- Label numbers never fall, so the actions of a label stand side by side: in a stretch of places. Assumes nothing: these are definitions.
-use mathlib.Core.Path.{_≡_}
 use mathlib.Core.Bool.{Bool}
 use mathlib.Core.List.{List}
 use Prim.Native.Nat.{ℕ, _+_, _-_, _≤_, _<_}

@@ -3,13 +3,13 @@ use mathlib.Core.Path.{_≡_, refl, sym, ap, ap₂, _∙_, subst}
 use mathlib.Core.Bool.{Bool, true, false, cond}
 use mathlib.Core.List.{List, [], _∷_, _++_, map, append-nil, append-assoc}
 use mathlib.Core.Logic.{_⊎_, inl, inr, ⊎-elim, _↔_}
-use Prim.Native.Nat.{ℕ, suc, _+_, _≤_, _<_}
+use Prim.Native.Nat.{suc, _+_, _≤_}
 use native.Mathlib.Omega.{arith}
-use lib.ListN.{length, getD, take, drop, length-append, length-map}
-use lib.Seq.{take-suc, drop-append-seam, drop-length}
+use lib.ListN.{length, take, drop, length-append, length-map}
+use lib.Seq.{drop-append-seam, drop-length}
 use Rattle.rules.specs.Lists.{In, Distinct, has, place, insert, insertAll, once}
 use Rattle.lists.specs.Shapes.{Equality, Begins, added, places}
-use Rattle.lists.proofs.Members.{in-either, in-last, in-map, map-in, map-append, distinct-snoc, has-in, no-in, place-begins, place-out, place-none}
+use Rattle.lists.proofs.Members.{in-either, in-last, in-map, map-in, map-append, distinct-snoc, has-in, no-in, place-begins}
 use Rattle.lists.proofs.Shapes.{begins-refl, begins-trans, begins-in}
 
 module _ {A : Type 0} (same : A → A → Bool) where
@@ -29,10 +29,6 @@ module _ {A : Type 0} (same : A → A → Bool) where
   pub inserts-snoc : (xs ys : List A) (y : A) → insertAll same xs (ys ++ (y ∷ [])) ≡ insert same (insertAll same xs ys) y
   unfolding insertAll
   inserts-snoc xs ys y = inserts-append xs ys (y ∷ [])
-
-  -- one element more, by its place
-  pub inserts-take : (xs ys : List A) (i : ℕ) (d : A) → i < length ys → insertAll same xs (take (suc i) ys) ≡ insert same (insertAll same xs (take i ys)) (getD ys i d)
-  inserts-take xs ys i d h = ap (insertAll same xs) (take-suc ys i d h) ∙ inserts-snoc xs (take i ys) (getD ys i d)
 
 module _ {A : Type 0} {same : A → A → Bool} (eq : Equality same) where
   -- the one way to take `insert` apart
@@ -68,13 +64,6 @@ module _ {A : Type 0} {same : A → A → Bool} (eq : Equality same) where
   pub insert-length : (xs : List A) (x : A) → length (insert same xs x) ≤ suc (length xs)
   insert-length xs x = insert-cases (λ l. length l ≤ suc (length xs)) xs x (λ m. omega arith) (λ n. omega (arith, length-append xs (x ∷ [])))
 
-  -- the place it gets: its own if it had one, else the next
-  pub insert-place : (xs : List A) (x : A) → place same x (insert same xs x) ≡ place same x xs
-  insert-place xs x = insert-cases (λ l. place same x l ≡ place same x xs) xs x (λ m. refl) (λ n. place-out eq x xs [] n ∙ sym (out n))
-    where
-      out : (¬ In x xs) → place same x xs ≡ length xs
-      out n = place-none eq x xs n
-
   -- ---- all of a list
 
   pub inserts-begins : (xs ys : List A) → Begins xs (insertAll same xs ys)
@@ -101,12 +90,6 @@ module _ {A : Type 0} {same : A → A → Bool} (eq : Equality same) where
   unfolding insertAll
   inserts-distinct xs [] d = d
   inserts-distinct xs (y ∷ ys) d = inserts-distinct (insert same xs y) ys (insert-distinct xs y d)
-
-  -- nothing changes if all are there
-  pub inserts-old : (xs ys : List A) → ((y : A) → In y ys → In y xs) → insertAll same xs ys ≡ xs
-  unfolding insertAll
-  inserts-old xs [] f = refl
-  inserts-old xs (y ∷ ys) f = ap (λ (l : List A). insertAll same l ys) (insert-old xs y (f y (inl refl))) ∙ inserts-old xs ys (λ z m. f z (inr m))
 
   -- and all are put at the end if none is there and no two are alike
   pub inserts-new : (xs ys : List A) → Distinct ys → ((y : A) → In y ys → ¬ In y xs) → insertAll same xs ys ≡ xs ++ ys
@@ -136,19 +119,9 @@ module _ {A : Type 0} {same : A → A → Bool} (eq : Equality same) where
   unfolding once
   once-length ys = omega (arith, inserts-length [] ys)
 
-  -- where no two are alike nothing changes
-  pub once-same : (ys : List A) → Distinct ys → once same ys ≡ ys
-  unfolding once
-  once-same ys d = inserts-new [] ys d (λ y m z. z)
-
   pub once-append : (xs ys : List A) → once same (xs ++ ys) ≡ insertAll same (once same xs) ys
   unfolding once
   once-append xs ys = inserts-append same [] xs ys
-
-  -- a member of a beginning has its place by the beginning alone
-  pub once-place : (xs ys : List A) (x : A) → In x xs → place same x (once same (xs ++ ys)) ≡ place same x (once same xs)
-  once-place xs ys x m =
-      ap (place same x) (once-append xs ys) ∙ place-begins eq x (once same xs) (insertAll same (once same xs) ys) (once-in xs x .1 m) (inserts-begins (once same xs) ys)
 
   -- ---- what a list adds to another
 

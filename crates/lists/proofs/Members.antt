@@ -1,6 +1,6 @@
 -- Membership, places, and lists in which no two elements are alike. Assumes nothing; where a test of two elements is used, that it is equality is a parameter.
 use mathlib.Core.Path.{_≡_, refl, sym, ap, _∙_, subst}
-use mathlib.Core.Bool.{Bool, true, false, cond, _||_, false≢true, true≢false}
+use mathlib.Core.Bool.{Bool, true, false, cond, false≢true, true≢false}
 use mathlib.Core.List.{List, [], _∷_, _++_, map}
 use mathlib.Core.Logic.{_⊎_, inl, inr, ⊎-elim}
 use Prim.Native.Nat.{ℕ, zero, suc, _≤_, _<_}
@@ -9,6 +9,7 @@ use native.Mathlib.Omega.{arith}
 use lib.ListN.{length, getD}
 use Rattle.rules.specs.Lists.{In, Distinct, has, place}
 use Rattle.lists.specs.Shapes.{Equality, Begins}
+use Rattle.lists.proofs.Tests.{or-right, or-true}
 
 -- ---- membership
 
@@ -121,24 +122,7 @@ module _ {A : Type 0} where
       (λ y i. without-in x ys m y (λ e. d .0 (subst (λ (z : A). In z xs) e i)) (f y (inr i))) in
       omega (arith, ih, without-length x ys m)
 
-module _ {A B : Type 0} (f : A → B) where
-  -- different elements have different images
-  pub distinct-map : (xs : List A) → ((x y : A) → In x xs → In y xs → f x ≡ f y → x ≡ y) → Distinct xs → Distinct (map f xs)
-  distinct-map [] alike d = tt
-  distinct-map (x ∷ xs) alike d = (fresh, distinct-map xs (λ y z m n e. alike y z (inr m) (inr n) e) (d .1))
-    where
-      fresh : ¬ In (f x) (map f xs)
-      fresh m = let r = in-map f (f x) xs m in d .0 (subst (λ (y : A). In y xs) (sym (alike x (r .0) (inl refl) (inr (r .1)) (r .2))) (r .1))
-
 -- ---- by a test that is equality
-
-or-true : (a b : Bool) → (a || b) ≡ true → (a ≡ true) ⊎ (b ≡ true)
-or-true true b e = inl refl
-or-true false b e = inr e
-
-or-right : (a : Bool) → (a || true) ≡ true
-or-right true = refl
-or-right false = refl
 
 module _ {A : Type 0} {same : A → A → Bool} (eq : Equality same) where
   pub same-of : (a b : A) → a ≡ b → same a b ≡ true
@@ -146,13 +130,6 @@ module _ {A : Type 0} {same : A → A → Bool} (eq : Equality same) where
 
   pub same-not : (a b : A) → same a b ≡ false → ¬ (a ≡ b)
   same-not a b f e = true≢false (sym (same-of a b e) ∙ f)
-
-  pub not-same : (a b : A) → (¬ (a ≡ b)) → same a b ≡ false
-  not-same a b n = go (same a b) refl
-    where
-      go : (t : Bool) → same a b ≡ t → t ≡ false
-      go true e = absurd (n (eq .sound a b e))
-      go false e = refl
 
   pub has-in : (x : A) (xs : List A) → has same x xs ≡ true → In x xs
   unfolding has
@@ -163,7 +140,7 @@ module _ {A : Type 0} {same : A → A → Bool} (eq : Equality same) where
   unfolding has
   in-has x [] m = absurd m
   in-has x (y ∷ xs) (inl e) = rw (same-of x y e) refl
-  in-has x (y ∷ xs) (inr m) = rw (in-has x xs m) (or-right (same x y))
+  in-has x (y ∷ xs) (inr m) = rw (in-has x xs m) (or-right (same x y) refl)
 
   pub no-in : (x : A) (xs : List A) → has same x xs ≡ false → ¬ In x xs
   no-in x xs e m = true≢false (sym (in-has x xs m) ∙ e)
@@ -213,12 +190,6 @@ module _ {A : Type 0} {same : A → A → Bool} (eq : Equality same) where
   place-at x (y ∷ xs) d (inr m) =
       let ih = place-at x xs d m in
       place-cases x y xs (λ n. getD (y ∷ xs) n d ≡ x) (λ p. sym p) (λ n. ih)
-
-  -- a place below the length is that of a member
-  pub place-in : (x : A) (xs : List A) → place same x xs < length xs → In x xs
-  unfolding place
-  place-in x [] h = absurd (omega arith)
-  place-in x (y ∷ xs) h = place-cases x y xs (λ n. n < suc (length xs) → In x (y ∷ xs)) (λ p l. inl p) (λ n l. inr (place-in x xs (omega arith))) h
 
   -- what is not there has the length for its place
   pub place-none : (x : A) (xs : List A) → (¬ In x xs) → place same x xs ≡ length xs

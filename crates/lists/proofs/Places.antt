@@ -6,18 +6,9 @@ use native.Mathlib.Decide.{decLt, ℕ-discrete}
 use native.Mathlib.Omega.{arith}
 use Rattle.rules.specs.Lists.{seek}
 
--- it is found at once, or among the later places
-pub seek-stop : (f : ℕ → Bool) (p n : ℕ) → f p ≡ true → seek f p (suc n) ≡ p
-unfolding seek
-seek-stop f p n e = rw e refl
-
 pub seek-on : (f : ℕ → Bool) (p n : ℕ) → f p ≡ false → seek f p (suc n) ≡ seek f (suc p) n
 unfolding seek
 seek-on f p n e = rw e refl
-
-pub seek-none : (f : ℕ → Bool) (p : ℕ) → seek f p 0 ≡ p
-unfolding seek
-seek-none f p = refl
 
 -- the one way to take `seek` apart
 seek-cases : (f : ℕ → Bool) (p n : ℕ) (P : ℕ → Type 0) → (f p ≡ true → P p) → (f p ≡ false → P (seek f (suc p) n)) → P (seek f p (suc n))

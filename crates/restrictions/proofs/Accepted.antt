@@ -1,6 +1,5 @@
 -- A game that is not refused is good, and what its offsets and targets are then. Assumes nothing.
-use mathlib.Core.Path.{_≡_, refl, sym, ap, _∙_, subst}
-use mathlib.Core.Bool.{false}
+use mathlib.Core.Path.{_≡_, refl, sym, _∙_, subst}
 use mathlib.Core.List.{List}
 use mathlib.Core.Logic.{_⊎_, ⊎-elim}
 use Prim.Native.Nat.{ℕ, zero, suc, _+_, _-_, _*_, _≤_, _<_}
@@ -8,7 +7,7 @@ use native.Mathlib.Omega.{arith}
 use lib.ListN.{length}
 use lib.Seq.{slice, slice-empty, slice-cons, length-slice}
 use lib.Dec.{eqb, ltb}
-use borrow.Author.Tests.{ltb-false, leb-false, eqb-false, eq-eqb}
+use borrow.Author.Tests.{ltb-false, leb-false, eqb-false}
 use Rattle.rules.specs.declared.Check.the-variants.{Passed}
 use Rattle.rules.specs.Lists.{word, In}
 use Rattle.rules.specs.Words.{mostVertices, mostEdges}
@@ -17,19 +16,21 @@ use Rattle.rules.specs.Refusal.{differ, tooLarge}
 use Rattle.rules.specs.GameRefusal.{refusal51, falls, refusal52, refusal53, gameRefusal}
 use Rattle.rules.specs.Restrict.{restrictionRefusal}
 use Rattle.tables.proofs.Faults.{if-passed, if-false, from-passed, first-passed, lower-both, then-both, then-passed}
-use Rattle.tables.proofs.Accepted.{neither, alike}
 use Rattle.restrictions.specs.GoodGame.{GoodGame}
+use Rattle.lists.proofs.Tests.{or-false}
+use Rattle.tables.proofs.Choices.{differ-no, differ-false}
+use Rattle.games.proofs.Offsets.{offset-within}
 
 module _ (g : List ℕ) (r51 : refusal51 g ≡ Passed) (r52 : refusal52 g ≡ Passed) (r53 : refusal53 g ≡ Passed) where
   sizes : (length g ≡ 4 + 3 * vertexCount g + edgesIn g) × (1 ≤ vertexCount g) × (vertexCount g ≤ 1_048_576) × (edgesIn g ≤ 4_194_304)
   unfolding refusal51 mostVertices mostEdges
   sizes =
-      let (short, a) = neither (ltb (length g) 3) _ (if-passed 51 0 _ r51) in
-      let (other, b) = neither (differ (length g) (4 + 3 * vertexCount g + edgesIn g)) _ a in
-      let (empty, c) = neither (eqb (vertexCount g) 0) _ b in
-      let (many, most) = neither (ltb mostVertices (vertexCount g)) (ltb mostEdges (edgesIn g)) c in
+      let (short, a) = or-false (ltb (length g) 3) _ (if-passed 51 0 _ r51) in
+      let (other, b) = or-false (differ (length g) (4 + 3 * vertexCount g + edgesIn g)) _ a in
+      let (empty, c) = or-false (eqb (vertexCount g) 0) _ b in
+      let (many, most) = or-false (ltb mostVertices (vertexCount g)) (ltb mostEdges (edgesIn g)) c in
       let some : ¬ (vertexCount g ≡ 0) = eqb-false (vertexCount g) 0 empty in
-      (alike (length g) (4 + 3 * vertexCount g + edgesIn g) other, go some, ltb-false 1_048_576 (vertexCount g) many, ltb-false 4_194_304 (edgesIn g) most)
+      (differ-false (length g) (4 + 3 * vertexCount g + edgesIn g) other, go some, ltb-false 1_048_576 (vertexCount g) many, ltb-false 4_194_304 (edgesIn g) most)
     where
       go : (¬ (vertexCount g ≡ 0)) → 1 ≤ vertexCount g
       go n = omega arith
@@ -42,11 +43,11 @@ module _ (g : List ℕ) (r51 : refusal51 g ≡ Passed) (r52 : refusal52 g ≡ Pa
 
   first-offset : offsetIn g 0 ≡ 0
   unfolding refusal52
-  first-offset = alike (offsetIn g 0) 0 (if-passed 52 (3 + 2 * vertexCount g) _ (lower-both _ _ r52 .0))
+  first-offset = differ-false (offsetIn g 0) 0 (if-passed 52 (3 + 2 * vertexCount g) _ (lower-both _ _ r52 .0))
 
   last-offset : offsetIn g (vertexCount g) ≡ edgesIn g
   unfolding refusal52
-  last-offset = alike (offsetIn g (vertexCount g)) (edgesIn g) (if-passed 52 (3 + 3 * vertexCount g) _ (lower-both _ _ (lower-both _ _ r52 .1) .1))
+  last-offset = differ-false (offsetIn g (vertexCount g)) (edgesIn g) (if-passed 52 (3 + 3 * vertexCount g) _ (lower-both _ _ (lower-both _ _ r52 .1) .1))
 
   initial-small : initialIn g < vertexCount g
   unfolding refusal53
@@ -90,32 +91,24 @@ pub accepted-slices : (g : List ℕ) (out numbers work : ℕ) → restrictionRef
 unfolding restrictionRefusal
 accepted-slices g out numbers work e =
     let (a, b) = then-both (gameRefusal g) _ e in
-    let (c, d) = neither (differ out (length g)) _ (if-passed 2 0 _ b) in
-    let (m, n) = neither (differ numbers (vertexCount g)) (differ work (vertexCount g)) d in
-    (a, alike out (length g) c, alike numbers (vertexCount g) m, alike work (vertexCount g) n)
-
-same-number : (m n : ℕ) → m ≡ n → differ m n ≡ false
-unfolding differ
-same-number m n e = rw (eq-eqb m n e) refl
+    let (c, d) = or-false (differ out (length g)) _ (if-passed 2 0 _ b) in
+    let (m, n) = or-false (differ numbers (vertexCount g)) (differ work (vertexCount g)) d in
+    (a, differ-false out (length g) c, differ-false numbers (vertexCount g) m, differ-false work (vertexCount g) n)
 
 -- and slices of these lengths are accepted with a game that is
 pub slices-accepted : (g : List ℕ) (out numbers work : ℕ) → gameRefusal g ≡ Passed → out ≡ length g → numbers ≡ vertexCount g → work ≡ vertexCount g
     → restrictionRefusal g out numbers work ≡ Passed
 unfolding restrictionRefusal
 slices-accepted g out numbers work e a b c =
-    then-passed _ e ∙ if-false 2 0 (rw (same-number out (length g) a, same-number numbers (vertexCount g) b, same-number work (vertexCount g) c) refl)
+    then-passed _ e ∙ if-false 2 0 (rw (differ-no a, differ-no b, differ-no c) refl)
 
 module _ (g : List ℕ) (good : GoodGame g) where
   -- no offset is above the edge count
-  offset-most : (d v : ℕ) → v + d ≡ vertexCount g → offsetIn g v ≤ edgesIn g
-  offset-most zero v e = let z : v ≡ vertexCount g = omega arith in omega (arith, good .ends, ap (λ (u : ℕ). offsetIn g u) z)
-  offset-most (suc d) v e = omega (arith, good .rises v (omega arith), offset-most d (suc v) (omega arith))
-
-  pub offset-within : (v : ℕ) → v ≤ vertexCount g → offsetIn g v ≤ edgesIn g
-  offset-within v h = offset-most (vertexCount g - v) v (omega arith)
+  pub most-offset : (v : ℕ) → v ≤ vertexCount g → offsetIn g v ≤ edgesIn g
+  most-offset = offset-within g (good .rises) (good .ends)
 
   targets-end : (v : ℕ) → v < vertexCount g → targetsAt g + offsetIn g (suc v) ≤ length g
-  targets-end v h = omega (arith, good .sized, offset-within (suc v) h)
+  targets-end v h = omega (arith, good .sized, most-offset (suc v) h)
 
   pub degree : (v : ℕ) → v < vertexCount g → offsetIn g (suc v) ≡ offsetIn g v + length (targetsIn g v)
   degree v h =
@@ -132,7 +125,7 @@ module _ (g : List ℕ) (good : GoodGame g) where
   pub target-below : (v : ℕ) → v < vertexCount g → (t : ℕ) → In t (targetsIn g v) → t < vertexCount g
   target-below v h =
       let more = good .rises v h in
-      let last = offset-within (suc v) h in
+      let last = most-offset (suc v) h in
       in-slice (λ t. t < vertexCount g) (offsetIn g (suc v) - offsetIn g v) (targetsAt g + offsetIn g v) (targetsAt g + offsetIn g (suc v)) (targets-end v h) (omega arith)
       (λ p a b.
       let e : p ≡ targetsAt g + (p - targetsAt g) = omega arith in

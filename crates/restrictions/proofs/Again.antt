@@ -16,8 +16,7 @@ use Rattle.lists.specs.Shapes.{Begins}
 use Rattle.lists.proofs.Members.{in-at, in-map, place-below, place-at, distinct-places}
 use Rattle.lists.proofs.Shapes.{begins-refl, begins-trans, begins-at, begins-length}
 use Rattle.lists.proofs.Equalities.{number-equality}
-use Rattle.arena.proofs.Ranges.{from-length, from-in, in-from, from-snoc}
-use Rattle.theorems.proofs.Vertices.{from-at}
+use Rattle.lists.proofs.Ranges.{from-length, from-in, in-from, from-snoc, from-at}
 use Rattle.restrictions.proofs.Searching.{numbers-begins, searched-begins, met-exactly, met-distinct}
 
 from-word : (n v : ℕ) → v < n → word (from 0 n) v ≡ v

@@ -24,7 +24,7 @@ use Rattle.rules.specs.Demands.{Stands, Lead, CutTheorem, pairsOf}
 use Rattle.rules.specs.Restrict.{reachedVertices, restrictionRefusal, Restricted, restrictedTo, restriction}
 use Rattle.rules.specs.Restricts.{Restricts}
 use Rattle.lists.proofs.Members.{in-at, in-left, distinct-places, no-more}
-use Rattle.arena.proofs.Ranges.{from-length, in-from}
+use Rattle.lists.proofs.Ranges.{from-length, in-from}
 use Rattle.walks.proofs.Reached.{reachable-inside}
 use Rattle.games.proofs.Reading.{count-read, targets-read}
 use Rattle.theorems.proofs.Runs.{run-refused, run-exceeds, run-fits}

@@ -10,8 +10,7 @@ use Rattle.rules.specs.Game.{Vertex, edgeCount, gameOf, vertexCount, edgesIn, o
 use Rattle.rules.specs.Restrict.{newNumber, keptVertex, keptVertices, vertexMap}
 use Rattle.lists.proofs.Members.{in-at, in-has, not-in, map-at, place-below, place-of}
 use Rattle.lists.proofs.Equalities.{number-equality}
-use Rattle.arena.proofs.Ranges.{from-length, from-in, in-from}
-use Rattle.theorems.proofs.Vertices.{from-at}
+use Rattle.lists.proofs.Ranges.{from-length, from-in, in-from, from-at}
 use Rattle.games.proofs.Reading.{length-read}
 use Rattle.restrictions.specs.GoodGame.{GoodGame}
 use Rattle.restrictions.proofs.Accepted.{degree}

@@ -10,11 +10,9 @@ use native.Mathlib.Decide.{ℕ-discrete}
 use lib.ListN.{length, getD}
 use lib.Dec.{eqb, ltb}
 use borrow.Author.Tests.{ltb-true, ltb-false}
-use Rattle.rules.specs.declared.Check.the-variants.{Passed}
 use Rattle.rules.specs.Lists.{In, Distinct, from, place, insertAll}
 use Rattle.rules.specs.Reach.{Reachable, atRoot, onward}
 use Rattle.rules.specs.Game.{vertexCount, initialIn, targetsIn}
-use Rattle.rules.specs.GameRefusal.{gameRefusal}
 use Rattle.rules.specs.Demands.{Numbers}
 use Rattle.rules.specs.Restrict.{searchFrom, reachedVertices}
 use Rattle.rules.specs.Restricts.{Searched, begun, gone}
@@ -23,12 +21,12 @@ use Rattle.lists.proofs.Members.{in-at, place-below, place-at, no-more}
 use Rattle.lists.proofs.Shapes.{begins-refl, begins-trans, begins-in, begins-at, begins-length}
 use Rattle.lists.proofs.Inserts.{inserts-begins, inserts-holds, inserts-distinct}
 use Rattle.lists.proofs.Equalities.{number-equality}
-use Rattle.arena.proofs.Ranges.{from-length, from-in}
+use Rattle.lists.proofs.Ranges.{from-length, from-in}
 use Rattle.walks.proofs.Only.{numbers-only, numbers-in}
 use Rattle.walks.proofs.After.{numbers}
 use Rattle.walks.proofs.Reached.{reachable-inside}
 use Rattle.restrictions.specs.GoodGame.{GoodGame}
-use Rattle.restrictions.proofs.Accepted.{good-game, target-below}
+use Rattle.restrictions.proofs.Accepted.{target-below}
 
 -- ---- the relation `Searched`
 
@@ -163,13 +161,6 @@ module _ (g : List ℕ) where
         let ih = search-all turns (suc i) (insertAll eqb met ts) (omega arith) in
         turn-cases (λ l. Searched g (length l) l) turns i met (all-gone i met s) (λ l. ih (gone s l (numbers number-equality met ts)))
 
-    -- so it does not matter how many they are
-    pub search-enough : (turns : ℕ) → vertexCount g ≤ turns → searchFrom g turns 0 (initialIn g ∷ []) ≡ reachedVertices g
-    unfolding reachedVertices
-    search-enough turns h =
-        met-once g (searchFrom g turns 0 (initialIn g ∷ [])) (searchFrom g (vertexCount g) 0 (initialIn g ∷ []))
-        (search-all turns 0 (initialIn g ∷ []) (omega arith) begun) (search-all (vertexCount g) 0 (initialIn g ∷ []) (omega arith) begun)
-
     pub reached-searched : Searched g (length (reachedVertices g)) (reachedVertices g)
     unfolding reachedVertices
     reached-searched = search-all (vertexCount g) 0 (initialIn g ∷ []) (omega arith) begun
@@ -179,8 +170,3 @@ module _ (g : List ℕ) where
 
     pub reached-few : length (reachedVertices g) ≤ vertexCount g
     reached-few = met-few (length (reachedVertices g)) (reachedVertices g) reached-searched
-
--- in a game that is not refused, all vertices met are gone through within as many turns as there are vertices: the search is complete
-pub reached-all : (g : List ℕ) → gameRefusal g ≡ Passed
-    → Searched g (length (reachedVertices g)) (reachedVertices g) × ((v : ℕ) → In v (reachedVertices g) ↔ Reachable (targetsIn g) (initialIn g) v)
-reached-all g e = let s = reached-searched g (good-game g e) in (s, met-exactly g (reachedVertices g) s)

@@ -3,7 +3,7 @@ use Prim.Native.Nat.{ℕ, zero, suc, _+_, _*_, _-_, _≤_, _<_}
 use native.Mathlib.Omega.{arith}
 use native.Mathlib.Decide.{decLt, ℕ-discrete}
 use mathlib.Core.Path.{_≡_, refl, sym, ap, _∙_}
-use mathlib.Core.Bool.{Bool, true, false, not, _&&_, _||_, true≢false, false≢true}
+use mathlib.Core.Bool.{true, false, not, _&&_}
 use mathlib.Core.List.{List}
 use mathlib.Core.Option.{Option, none, some}
 use lib.ListN.{length}
@@ -26,44 +26,26 @@ use Rattle.tables.proofs.Ends.{end-bounds}
 use Rattle.tables.proofs.Decode.{action-children-two, action-children-one, formula-children-two, formula-children-one}
 use Rattle.tables.proofs.Operands.{action-label, action-right, formula-right, formula-action, reference-test}
 use Rattle.tables.proofs.Finished.{row-inside, tree-inside, only-child, two-children}
-
--- ---- tests that fail
-
-pub neither : (a b : Bool) → (a || b) ≡ false → (a ≡ false) × (b ≡ false)
-neither true b e = absurd (true≢false e)
-neither false b e = (refl, e)
-
-pub both : (a b : Bool) → (a && b) ≡ true → (a ≡ true) × (b ≡ true)
-both true b e = (refl, e)
-both false b e = absurd (false≢true e)
-
-pub alike : (m n : ℕ) → differ m n ≡ false → m ≡ n
-unfolding differ
-alike m n e = eqb-true m n (not-false (eqb m n) e)
-
-pub within : (a b n : ℕ) → outside a b n ≡ false → (a ≤ n) × (n ≤ b)
-unfolding outside
-within a b n e =
-    let (p, q) = neither (ltb n a) (ltb b n) e in
-    (ltb-false n a p, ltb-false b n q)
+use Rattle.lists.proofs.Tests.{or-false, and-true}
+use Rattle.tables.proofs.Choices.{differ-false, outside-false}
 
 -- ---- labels
 
 module _ (ls : List ℕ) (r11 : refusal11 ls ≡ Passed) (r12 : refusal12 ls ≡ Passed) (r13 : refusal13 ls ≡ Passed) where
   label-sized : length ls ≡ 2 + 2 * actionCount ls
   unfolding refusal11
-  label-sized = alike (length ls) (2 + 2 * actionCount ls) (neither (ltb (length ls) 2) (differ (length ls) (2 + 2 * actionCount ls)) (if-passed 11 0 _ r11) .1)
+  label-sized = differ-false (length ls) (2 + 2 * actionCount ls) (or-false (ltb (length ls) 2) (differ (length ls) (2 + 2 * actionCount ls)) (if-passed 11 0 _ r11) .1)
 
   label-limits : (labelCount ls ≤ 4_096) × (actionCount ls ≤ 16_384)
   unfolding refusal12 mostLabels mostActions
   label-limits =
-      let (a, b) = neither (ltb mostLabels (labelCount ls)) (ltb mostActions (actionCount ls)) (if-passed 12 0 _ r12) in
+      let (a, b) = or-false (ltb mostLabels (labelCount ls)) (ltb mostActions (actionCount ls)) (if-passed 12 0 _ r12) in
       (ltb-false 4_096 (labelCount ls) a, ltb-false 16_384 (actionCount ls) b)
 
   label-word : (w : ℕ) → 2 ≤ w → w < 2 + actionCount ls → (word ls w < labelCount ls) × (2 < w → word ls (w - 1) ≤ word ls w)
   unfolding refusal13 badLabel
   label-word w a b =
-      let (p, q) = neither (leb (labelCount ls) (word ls w)) (ltb 2 w && ltb (word ls w) (word ls (w - 1))) (from-passed 13 2 (2 + actionCount ls) (badLabel ls) r13 w a b) in
+      let (p, q) = or-false (leb (labelCount ls) (word ls w)) (ltb 2 w && ltb (word ls w) (word ls (w - 1))) (from-passed 13 2 (2 + actionCount ls) (badLabel ls) r13 w a b) in
       (leb-false (labelCount ls) (word ls w) p, λ l. ltb-false (word ls w) (word ls (w - 1)) (sym (ap (λ t. t && ltb (word ls w) (word ls (w - 1))) (lt-ltb 2 w l)) ∙ q))
 
   label-step : (p : ℕ) → suc p < actionCount ls → labelAt ls p ≤ labelAt ls (suc p)
@@ -99,16 +81,16 @@ pub good-system : (ls ss : List ℕ) → refusal21 ss ≡ Passed → refusal22 s
     → GoodSystem (labelCount ls) ss
 unfolding refusal21 refusal22 refusal23 refusal24 refusal25 refusal26 mostStates mostTransitions tooLarge
 good-system ls ss r21 r22 r23 r24 r25 r26 =
-    let (a, b) = neither (outside 1 65_535 (stateCount ss)) (ltb 262_144 (transitionCount ss)) (if-passed 22 0 _ r22) in
-    let (c, d) = within 1 65_535 (stateCount ss) a in
+    let (a, b) = or-false (outside 1 65_535 (stateCount ss)) (ltb 262_144 (transitionCount ss)) (if-passed 22 0 _ r22) in
+    let (c, d) = outside-false 1 65_535 (stateCount ss) a in
     record {
-      sized = alike (length ss) (3 + stateCount ss + 2 * transitionCount ss)
-          (neither (ltb (length ss) 3) (differ (length ss) (3 + stateCount ss + 2 * transitionCount ss)) (if-passed 21 0 _ r21) .1);
+      sized = differ-false (length ss) (3 + stateCount ss + 2 * transitionCount ss)
+          (or-false (ltb (length ss) 3) (differ (length ss) (3 + stateCount ss + 2 * transitionCount ss)) (if-passed 21 0 _ r21) .1);
       some = c;
       states = d;
       moves = ltb-false 262_144 (transitionCount ss) b;
       initial = leb-false (stateCount ss) (initialState ss) (if-passed 23 2 _ r23);
-      total = alike (sumWords ss 3 (stateCount ss)) (transitionCount ss) (if-passed 24 1 _ r24);
+      total = differ-false (sumWords ss 3 (stateCount ss)) (transitionCount ss) (if-passed 24 1 _ r24);
       labels = λ t l.
           leb-false (labelCount ls) (transitionLabel ss t)
           (from-passed 25 (3 + stateCount ss) (3 + stateCount ss + transitionCount ss) (tooLarge ss (labelCount ls)) r25 (3 + stateCount ss + t) (omega arith) (omega arith));
@@ -181,7 +163,7 @@ module _ (ls acts : List ℕ) (r33 : refusal33 acts ≡ Passed) (r34 : refusal34
   unfolding refusal31 refusal32 mostNodes
   good-actions r31 r32 =
       record {
-        sized = alike (length acts) (1 + 2 * size acts) (neither (eqb (length acts) 0) (differ (length acts) (1 + 2 * size acts)) (if-passed 31 0 _ r31) .1);
+        sized = differ-false (length acts) (1 + 2 * size acts) (or-false (eqb (length acts) 0) (differ (length acts) (1 + 2 * size acts)) (if-passed 31 0 _ r31) .1);
         few = ltb-false 1_024 (size acts) (if-passed 32 0 _ r32);
         nodes = good-action-node;
       }
@@ -243,7 +225,7 @@ module _ (acts f : List ℕ) (r43 : refusal43 f ≡ Passed) (r44 : refusal44 act
       → (operand f v < size acts) × (onRow (actionChildren acts) (size acts) (operand f v) ≡ true)
   unfolding namesNoTree
   formula-names v h a b =
-      let (p, q) = neither (leb (size acts) (operand f v)) (not (onRow (actionChildren acts) (size acts) (operand f v))) (sym (formula-action acts f v h a b) ∙ formula-operand v h) in
+      let (p, q) = or-false (leb (size acts) (operand f v)) (not (onRow (actionChildren acts) (size acts) (operand f v))) (sym (formula-action acts f v h a b) ∙ formula-operand v h) in
       (leb-false (size acts) (operand f v) p, not-false (onRow (actionChildren acts) (size acts) (operand f v)) q)
 
   module _ (r45 : refusal45 f ≡ Passed) where
@@ -254,9 +236,9 @@ module _ (acts f : List ℕ) (r43 : refusal43 f ≡ Passed) (r44 : refusal44 act
     formula-refers v h a =
         let k = formula-known v h in
         let t = from-passed 45 0 (size f) (λ u. wrongReference f u (formulaNode f u)) r45 v (omega arith) h in
-        let (p, q) = both (isFixpoint (formulaNode f (operand f v))) (encloses f (operand f v) v)
+        let (p, q) = and-true (isFixpoint (formulaNode f (operand f v))) (encloses f (operand f v) v)
         (not-false (isFixpoint (formulaNode f (operand f v)) && encloses f (operand f v) v) (sym (reference-test f v h (omega arith)) ∙ t)) in
-        let (i, j) = both (ltb (operand f v) v) (isBeforeEnd v (treeEnd (formulaChildren f) (size f) (operand f v))) q in
+        let (i, j) = and-true (ltb (operand f v) v) (isBeforeEnd v (treeEnd (formulaChildren f) (size f) (operand f v))) q in
         (p, ltb-true (operand f v) v i, j)
 
     pub good-formula-node : (v : ℕ) → v < size f → GoodFormulaNode (size acts) f v
@@ -272,9 +254,9 @@ module _ (acts f : List ℕ) (r43 : refusal43 f ≡ Passed) (r44 : refusal44 act
     pub good-formula : refusal41 f ≡ Passed → refusal42 f ≡ Passed → GoodFormula (size acts) f
     unfolding refusal41 refusal42 mostNodes
     good-formula r41 r42 =
-        let (a, b) = within 1 1_024 (size f) (if-passed 42 0 _ r42) in
+        let (a, b) = outside-false 1 1_024 (size f) (if-passed 42 0 _ r42) in
         record {
-          sized = alike (length f) (1 + 2 * size f) (neither (eqb (length f) 0) (differ (length f) (1 + 2 * size f)) (if-passed 41 0 _ r41) .1);
+          sized = differ-false (length f) (1 + 2 * size f) (or-false (eqb (length f) 0) (differ (length f) (1 + 2 * size f)) (if-passed 41 0 _ r41) .1);
           some = a;
           few = b;
           nodes = good-formula-node;
@@ -303,13 +285,13 @@ module _ (x : Input) (r : Room) (game work : ℕ) (h : refusal x r game work ≡
   pub accepted-room : (1 ≤ r .vertices) × (r .vertices ≤ 1_048_576) × (1 ≤ r .edges) × (r .edges ≤ 4_194_304)
   unfolding refusal refusal1 mostVertices mostEdges
   accepted-room =
-      let (a, b) = neither (outside 1 1_048_576 (r .vertices)) (outside 1 4_194_304 (r .edges)) (if-passed 1 0 _ (first-passed _ h 0)) in
-      let (p, q) = within 1 1_048_576 (r .vertices) a in
-      let (s, t) = within 1 4_194_304 (r .edges) b in
+      let (a, b) = or-false (outside 1 1_048_576 (r .vertices)) (outside 1 4_194_304 (r .edges)) (if-passed 1 0 _ (first-passed _ h 0)) in
+      let (p, q) = outside-false 1 1_048_576 (r .vertices) a in
+      let (s, t) = outside-false 1 4_194_304 (r .edges) b in
       (p, q, s, t)
 
   pub accepted-lengths : (game ≡ gameLength r) × (work ≡ workLength r)
   unfolding refusal refusal2
   accepted-lengths =
-      let (a, b) = neither (differ game (gameLength r)) (differ work (workLength r)) (if-passed 2 0 _ (first-passed _ h 1)) in
-      (alike game (gameLength r) a, alike work (workLength r) b)
+      let (a, b) = or-false (differ game (gameLength r)) (differ work (workLength r)) (if-passed 2 0 _ (first-passed _ h 1)) in
+      (differ-false game (gameLength r) a, differ-false work (workLength r) b)

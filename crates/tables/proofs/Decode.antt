@@ -9,30 +9,11 @@ use mathlib.Core.Logic.{_⊎_, inl, inr}
 use lib.ListN.{getD}
 use borrow.Author.Tests.{lt-ltb, le-ltb}
 use Rattle.rules.specs.Table.{size, kind, operand}
-use Rattle.rules.specs.Table.{ActionNode, trueNode, falseNode, multiActionNode, unionNode, intersectionNode, negationNode, noActionNode, decodeAction, actionNode, actionArity, actionChildren}
+use Rattle.rules.specs.Table.{trueNode, falseNode, multiActionNode, unionNode, intersectionNode, negationNode, noActionNode, decodeAction, actionNode, actionArity, actionChildren}
 use Rattle.rules.specs.Table.{FormulaNode, truthNode, falsityNode, andNode, orNode, boxNode, diamondNode, leastNode, greatestNode, referenceNode, noFormulaNode, decodeFormula, formulaNode, formulaArity, formulaChildren}
 use Rattle.rules.specs.Formula.{isFixpoint}
 
 -- ---- action formulas
-
--- the kind and the operand that a node is written with; 6 for none
-actionKind : ActionNode → ℕ
-actionKind trueNode = 0
-actionKind falseNode = 1
-actionKind (multiActionNode l) = 2
-actionKind (unionNode r) = 3
-actionKind (intersectionNode r) = 4
-actionKind negationNode = 5
-actionKind noActionNode = 6
-
-actionOperand : ActionNode → ℕ
-actionOperand trueNode = 0
-actionOperand falseNode = 0
-actionOperand (multiActionNode l) = l
-actionOperand (unionNode r) = r
-actionOperand (intersectionNode r) = r
-actionOperand negationNode = 0
-actionOperand noActionNode = 0
 
 none-left : {A : Type 0} (k : ℕ) (d : A) → getD [] k d ≡ d
 none-left zero d = refl
@@ -41,16 +22,6 @@ none-left (suc k) d = refl
 action-unknown : (k o : ℕ) → decodeAction (suc (suc (suc (suc (suc (suc k)))))) o ≡ noActionNode
 unfolding decodeAction
 action-unknown k o = none-left k noActionNode
-
-action-kind : (k o : ℕ) → (k ≡ actionKind (decodeAction k o)) ⊎ ((6 ≤ k) × (decodeAction k o ≡ noActionNode))
-unfolding decodeAction actionKind
-action-kind zero o = inl refl
-action-kind (suc zero) o = inl refl
-action-kind (suc (suc zero)) o = inl refl
-action-kind (suc (suc (suc zero))) o = inl refl
-action-kind (suc (suc (suc (suc zero)))) o = inl refl
-action-kind (suc (suc (suc (suc (suc zero))))) o = inl refl
-action-kind (suc (suc (suc (suc (suc (suc k)))))) o = inr (omega arith, action-unknown k o)
 
 module _ (acts : List ℕ) (v : ℕ) where
   pub action-at : v < size acts → actionNode acts v ≡ decodeAction (kind acts v) (operand acts v)
@@ -119,58 +90,6 @@ module _ (acts : List ℕ) (v : ℕ) where
     pub action-children-unknown : 6 ≤ kind acts v → actionChildren acts v ≡ 0
     unfolding actionArity
     action-children-unknown l = ap actionArity (action-none l)
-
-  pub action-children-past : size acts ≤ v → actionChildren acts v ≡ 0
-  unfolding actionArity
-  action-children-past h = ap actionArity (action-past h)
-
-  -- a node is of the kind that it is written with, and stands in the table
-  action-inside : (x : ActionNode) → actionNode acts v ≡ x → actionKind x < 6 → (v < size acts) × (kind acts v ≡ actionKind x)
-  unfolding actionKind
-  action-inside x e l = go (decLt v (size acts))
-    where
-      by : v < size acts → (kind acts v ≡ actionKind (decodeAction (kind acts v) (operand acts v))) ⊎ ((6 ≤ kind acts v) × (decodeAction (kind acts v) (operand acts v) ≡ noActionNode))
-          → (v < size acts) × (kind acts v ≡ actionKind x)
-      by h (inl i) = (h, i ∙ ap actionKind (sym (action-at h) ∙ e))
-      by h (inr (a, i)) =
-          let z : 6 ≡ actionKind x = ap actionKind (sym i ∙ sym (action-at h) ∙ e) in
-          absurd (omega arith)
-
-      go : Dec (v < size acts) → (v < size acts) × (kind acts v ≡ actionKind x)
-      go (yes h) = by h (action-kind (kind acts v) (operand acts v))
-      go (no h) =
-          let z : 6 ≡ actionKind x = ap actionKind (sym (action-past (omega arith)) ∙ e) in
-          absurd (omega arith)
-
-  pub true-kind : actionNode acts v ≡ trueNode → (v < size acts) × (kind acts v ≡ 0)
-  unfolding actionKind
-  true-kind e = action-inside trueNode e (omega arith)
-
-  pub false-kind : actionNode acts v ≡ falseNode → (v < size acts) × (kind acts v ≡ 1)
-  unfolding actionKind
-  false-kind e = action-inside falseNode e (omega arith)
-
-  pub multi-kind : (l : ℕ) → actionNode acts v ≡ multiActionNode l → (v < size acts) × (kind acts v ≡ 2) × (l ≡ operand acts v)
-  unfolding actionKind actionOperand
-  multi-kind l e =
-      let (h, k) = action-inside (multiActionNode l) e (omega arith) in
-      (h, k, ap actionOperand (sym e ∙ action-multi h k))
-
-  pub union-kind : (r : ℕ) → actionNode acts v ≡ unionNode r → (v < size acts) × (kind acts v ≡ 3) × (r ≡ operand acts v)
-  unfolding actionKind actionOperand
-  union-kind r e =
-      let (h, k) = action-inside (unionNode r) e (omega arith) in
-      (h, k, ap actionOperand (sym e ∙ action-union h k))
-
-  pub intersection-kind : (r : ℕ) → actionNode acts v ≡ intersectionNode r → (v < size acts) × (kind acts v ≡ 4) × (r ≡ operand acts v)
-  unfolding actionKind actionOperand
-  intersection-kind r e =
-      let (h, k) = action-inside (intersectionNode r) e (omega arith) in
-      (h, k, ap actionOperand (sym e ∙ action-intersection h k))
-
-  pub negation-kind : actionNode acts v ≡ negationNode → (v < size acts) × (kind acts v ≡ 5)
-  unfolding actionKind
-  negation-kind e = action-inside negationNode e (omega arith)
 
 -- ---- the formula
 
@@ -334,10 +253,6 @@ module _ (f : List ℕ) (v : ℕ) where
         go (yes e) = ap isFixpoint (formula-reference e)
         go (no n) = ap isFixpoint (formula-none (omega arith))
 
-  pub formula-children-past : size f ≤ v → formulaChildren f v ≡ 0
-  unfolding formulaArity
-  formula-children-past h = ap formulaArity (formula-past h)
-
   pub fixpoint-past : size f ≤ v → isFixpoint (formulaNode f v) ≡ false
   unfolding isFixpoint
   fixpoint-past h = ap isFixpoint (formula-past h)
@@ -368,46 +283,6 @@ module _ (f : List ℕ) (v : ℕ) where
       go (no h) =
           let z : 9 ≡ formulaKind x = ap formulaKind (sym (formula-past (omega arith)) ∙ e) in
           absurd (omega arith)
-
-  pub truth-kind : formulaNode f v ≡ truthNode → (v < size f) × (kind f v ≡ 0)
-  unfolding formulaKind
-  truth-kind e = formula-inside truthNode e (omega arith)
-
-  pub falsity-kind : formulaNode f v ≡ falsityNode → (v < size f) × (kind f v ≡ 1)
-  unfolding formulaKind
-  falsity-kind e = formula-inside falsityNode e (omega arith)
-
-  pub and-kind : (r : ℕ) → formulaNode f v ≡ andNode r → (v < size f) × (kind f v ≡ 2) × (r ≡ operand f v)
-  unfolding formulaKind formulaOperand
-  and-kind r e =
-      let (h, k) = formula-inside (andNode r) e (omega arith) in
-      (h, k, ap formulaOperand (sym e ∙ formula-and h k))
-
-  pub or-kind : (r : ℕ) → formulaNode f v ≡ orNode r → (v < size f) × (kind f v ≡ 3) × (r ≡ operand f v)
-  unfolding formulaKind formulaOperand
-  or-kind r e =
-      let (h, k) = formula-inside (orNode r) e (omega arith) in
-      (h, k, ap formulaOperand (sym e ∙ formula-or h k))
-
-  pub box-kind : (a : ℕ) → formulaNode f v ≡ boxNode a → (v < size f) × (kind f v ≡ 4) × (a ≡ operand f v)
-  unfolding formulaKind formulaOperand
-  box-kind a e =
-      let (h, k) = formula-inside (boxNode a) e (omega arith) in
-      (h, k, ap formulaOperand (sym e ∙ formula-box h k))
-
-  pub diamond-kind : (a : ℕ) → formulaNode f v ≡ diamondNode a → (v < size f) × (kind f v ≡ 5) × (a ≡ operand f v)
-  unfolding formulaKind formulaOperand
-  diamond-kind a e =
-      let (h, k) = formula-inside (diamondNode a) e (omega arith) in
-      (h, k, ap formulaOperand (sym e ∙ formula-diamond h k))
-
-  pub least-kind : formulaNode f v ≡ leastNode → (v < size f) × (kind f v ≡ 6)
-  unfolding formulaKind
-  least-kind e = formula-inside leastNode e (omega arith)
-
-  pub greatest-kind : formulaNode f v ≡ greatestNode → (v < size f) × (kind f v ≡ 7)
-  unfolding formulaKind
-  greatest-kind e = formula-inside greatestNode e (omega arith)
 
   pub reference-kind : (u : ℕ) → formulaNode f v ≡ referenceNode u → (v < size f) × (kind f v ≡ 8) × (u ≡ operand f v)
   unfolding formulaKind formulaOperand

@@ -127,13 +127,6 @@ module _ (c : ℕ → ℕ) where
         go none h = unfinished h
         go (some e) h = let (a, b, d) = end-bounds v e h in ended e h a b d
 
-    -- a number up to n is an end
-    pub end-number-ends : (v : ℕ) → endOf c n v ≤ n → treeEnd c n v ≡ some (endOf c n v)
-    end-number-ends v = end-cases v (λ o e. e ≤ n → o ≡ some e) (λ e h a b d i. refl) (λ h i. absurd (omega arith))
-
-    pub end-number-unfinished : (v : ℕ) → n < endOf c n v → treeEnd c n v ≡ none
-    end-number-unfinished v = end-cases v (λ o e. n < e → o ≡ none) (λ e h a b d i. absurd (omega arith)) (λ h i. refl)
-
     pub end-number-leaf : (v : ℕ) → v < n → c v ≡ 0 → endOf c n v ≡ v + 1
     end-number-leaf v h e = end-number-some v (suc v) (end-leaf v h e) ∙ sym (add-one v)
 

@@ -5,7 +5,7 @@ use native.Mathlib.Numerals.{add-one}
 use native.Mathlib.Decide.{decLt, decLe, ℕ-discrete}
 use mathlib.Core.Path.{_≡_, refl, sym, ap, _∙_}
 use mathlib.Core.Bool.{Bool, true, false, _||_, true≢false}
-use mathlib.Core.List.{List, [], _∷_}
+use mathlib.Core.List.{List, [], _∷_, _++_}
 use lib.ListN.{getD}
 use lib.Dec.{eqb}
 use borrow.Author.Tests.{lt-ltb, le-ltb, eq-eqb, ne-eqb}
@@ -15,6 +15,7 @@ use Rattle.rules.specs.Lists.{seek}
 use Rattle.rules.specs.Answers.{faultIf, andThen, firstFault}
 use Rattle.rules.specs.Refusal.{faultFrom, lowerFault}
 use Rattle.lists.proofs.Places.{seek-from, seek-holds, seek-before}
+use Rattle.lists.proofs.Tests.{or-left, or-right, or-none}
 
 -- ---- what a check says
 
@@ -148,6 +149,9 @@ pub then-passed : {c : Check} (next : Check) → c ≡ Passed → andThen c next
 unfolding andThen
 then-passed next e = rw e
 
+pub then-same : {c d : Check} (next : Check) → c ≡ d → andThen c next ≡ andThen d next
+then-same next e = ap (λ x. andThen x next) e
+
 pub then-both : (c next : Check) → andThen c next ≡ Passed → (c ≡ Passed) × (next ≡ Passed)
 unfolding andThen
 then-both Passed next e = (refl, e)
@@ -163,6 +167,14 @@ unfolding andThen
 then-assoc Passed d next = refl
 then-assoc (Fault n p) d next = refl
 
+pub first-none : firstFault [] ≡ Passed
+unfolding firstFault
+first-none = refl
+
+pub first-one : (c : Check) → firstFault (c ∷ []) ≡ c
+unfolding firstFault
+first-one c = then-last c
+
 pub first-fault : {c : Check} {n p : ℕ} (cs : List Check) → c ≡ Fault n p → firstFault (c ∷ cs) ≡ Fault n p
 unfolding firstFault
 first-fault cs e = then-fault (firstFault cs) e
@@ -172,6 +184,19 @@ unfolding firstFault
 first-next cs e = then-passed (firstFault cs) e
 
 -- each of them passes
+-- where some of the checks stand in a function of their own
+pub first-fault-of : {n p : ℕ} (cs ds : List Check) → firstFault cs ≡ Fault n p → firstFault (cs ++ ds) ≡ Fault n p
+unfolding firstFault andThen
+first-fault-of [] ds e = absurd (passed-not-fault e)
+first-fault-of (Passed ∷ cs) ds e = first-fault-of cs ds e
+first-fault-of (Fault m q ∷ cs) ds e = e
+
+pub first-next-of : (cs ds : List Check) → firstFault cs ≡ Passed → firstFault (cs ++ ds) ≡ firstFault ds
+unfolding firstFault andThen
+first-next-of [] ds e = refl
+first-next-of (Passed ∷ cs) ds e = first-next-of cs ds e
+first-next-of (Fault m q ∷ cs) ds e = absurd (passed-not-fault (sym e))
+
 pub first-passed : (cs : List Check) → firstFault cs ≡ Passed → (i : ℕ) → getD cs i Passed ≡ Passed
 unfolding firstFault
 first-passed [] h i = refl
@@ -222,24 +247,14 @@ lower-place n p e q bad a l =
     (λ all. sym (here (λ v b c. all v b (omega arith))))
     (λ r b k s before. at r b k s before (decLe q r))
   where
-    or-true : (x : Bool) → (x || true) ≡ true
-    or-true true = refl
-    or-true false = refl
-
-    or-left : (x y : Bool) → x ≡ true → (x || y) ≡ true
-    or-left x y i = rw i
-
-    neither : (x y : Bool) → x ≡ false → y ≡ false → (x || y) ≡ false
-    neither x y i j = rw (i, j)
-
     here : ((v : ℕ) → p ≤ v → v < q → bad v ≡ false) → faultFrom n p e (λ v. bad v || eqb v q) ≡ Fault n q
     here before =
-        from-first n p e q (λ v. bad v || eqb v q) a l (ap (λ y. bad q || y) (eq-eqb q q refl) ∙ or-true (bad q))
-        (λ v b c. neither (bad v) (eqb v q) (before v b c) (ne-eqb v q (λ i. omega arith)))
+        from-first n p e q (λ v. bad v || eqb v q) a l (ap (λ y. bad q || y) (eq-eqb q q refl) ∙ or-right (bad q) refl)
+        (λ v b c. or-none (before v b c) (ne-eqb v q (λ i. omega arith)))
 
     at : (r : ℕ) → p ≤ r → r < e → bad r ≡ true → ((v : ℕ) → p ≤ v → v < r → bad v ≡ false) → Dec (q ≤ r)
         → lowerFault (Fault n r) (Fault n q) ≡ faultFrom n p e (λ v. bad v || eqb v q)
     at r b k s before (yes d) = lower-right n r q d ∙ sym (here (λ v c f. before v c (omega arith)))
     at r b k s before (no d) =
         lower-left n r n q (omega arith)
-        ∙ sym (from-first n p e r (λ v. bad v || eqb v q) b k (or-left (bad r) (eqb r q) s) (λ v c f. neither (bad v) (eqb v q) (before v c f) (ne-eqb v q (λ i. omega arith))))
+        ∙ sym (from-first n p e r (λ v. bad v || eqb v q) b k (or-left (eqb r q) s) (λ v c f. or-none (before v c f) (ne-eqb v q (λ i. omega arith))))

@@ -24,13 +24,13 @@ use Rattle.tables.specs.Rows.{Root}
 use Rattle.tables.specs.Faulty.{FaultyActions, noActionWords, wrongActionWords, manyActionNodes, actionKindTooLarge, actionNotZero, actionNoLabel, actionNotRight, actionUnfinished}
 use Rattle.tables.specs.Faulty.{EnclosingFixpoint, FaultyFormula, noFormulaWords, wrongFormulaWords, noFormulaNodes, manyFormulaNodes, formulaKindTooLarge, formulaNotZero, formulaNotRight}
 use Rattle.tables.specs.Faulty.{formulaNoAction, formulaNoRoot, formulaUnfinished, formulaLeftOver, wrongReference}
-use Rattle.tables.proofs.Accepted.{both}
 use Rattle.tables.proofs.Decode.{fixpoint-yes, fixpoint-kind}
 use Rattle.tables.proofs.Operands.{action-zero, action-label, action-right, action-negated, action-other}
 use Rattle.tables.proofs.Operands.{formula-zero, formula-right, formula-action, formula-fixpoint, formula-other, reference-other, reference-unknown, reference-test}
 use Rattle.tables.proofs.Order.{Numbered, Finds, Sound, Each, Some, if-numbered, from-numbered, if-finds, from-finds, lower-finds-left, lower-finds-right, if-sound, from-sound, lower-sound}
 use Rattle.tables.proofs.Rows.{root-row, row-stops, row-unfinished}
-use Rattle.tables.proofs.FaultyWords.{either, or-left, or-right, differ-true, differ-yes, outside-true, outside-low, outside-high}
+use Rattle.lists.proofs.Tests.{or-left, or-right, or-true, and-true}
+use Rattle.tables.proofs.Choices.{differ-true, differ-yes, outside-true, below-outside, above-outside}
 
 -- ---- tests against an end
 
@@ -67,7 +67,7 @@ module _ (ls acts : List ℕ) where
   F = FaultyActions (labelCount ls) acts
 
   action-length : (eqb (length acts) 0 || differ (length acts) (1 + 2 * size acts)) ≡ true → F 31 0
-  action-length e = go (either (eqb (length acts) 0) (differ (length acts) (1 + 2 * size acts)) e)
+  action-length e = go (or-true (eqb (length acts) 0) (differ (length acts) (1 + 2 * size acts)) e)
     where
       go : (eqb (length acts) 0 ≡ true) ⊎ (differ (length acts) (1 + 2 * size acts) ≡ true) → F 31 0
       go (inl i) = noActionWords (eqb-true (length acts) 0 i)
@@ -122,9 +122,9 @@ module _ (ls acts : List ℕ) where
   )
 
   zero-bad : (v : ℕ) → v < size acts → In (kind acts v) (0 ∷ 1 ∷ 5 ∷ []) → (¬ (operand acts v ≡ 0)) → badActionOperand ls acts v ≡ true
-  zero-bad v h (inl k) d = action-zero ls acts v h (omega arith) ∙ differ-yes (operand acts v) 0 d
-  zero-bad v h (inr (inl k)) d = action-zero ls acts v h (omega arith) ∙ differ-yes (operand acts v) 0 d
-  zero-bad v h (inr (inr (inl k))) d = action-negated ls acts v h k ∙ differ-yes (operand acts v) 0 d
+  zero-bad v h (inl k) d = action-zero ls acts v h (omega arith) ∙ differ-yes d
+  zero-bad v h (inr (inl k)) d = action-zero ls acts v h (omega arith) ∙ differ-yes d
+  zero-bad v h (inr (inr (inl k))) d = action-negated ls acts v h k ∙ differ-yes d
   zero-bad v h (inr (inr (inr z))) d = absurd z
 
   right-bad : (v e : ℕ) → v < size acts → In (kind acts v) (3 ∷ 4 ∷ []) → treeEnd (actionChildren acts) (size acts) (suc v) ≡ some e → (¬ (operand acts v ≡ e))
@@ -151,9 +151,9 @@ module _ (ls acts : List ℕ) where
 
   pub action-finds : {n q : ℕ} → FaultyActions (labelCount ls) acts n q → Some (Finds n q) actionChecks
   unfolding refusal31 refusal32 refusal33
-  action-finds (noActionWords i) = inl (if-finds 31 0 _ (or-left (eqb (length acts) 0) (differ (length acts) (1 + 2 * size acts)) (eq-eqb (length acts) 0 i)))
+  action-finds (noActionWords i) = inl (if-finds 31 0 _ (or-left (differ (length acts) (1 + 2 * size acts)) (eq-eqb (length acts) 0 i)))
   action-finds (wrongActionWords d) =
-      inl (if-finds 31 0 _ (or-right (eqb (length acts) 0) (differ (length acts) (1 + 2 * size acts)) (differ-yes (length acts) (1 + 2 * size acts) d)))
+      inl (if-finds 31 0 _ (or-right (eqb (length acts) 0) (differ-yes d)))
   action-finds (manyActionNodes l) = inr (inl (if-finds 32 0 _ (lt-ltb mostNodes (size acts) l)))
   action-finds (actionKindTooLarge v h l) = inr (inr (inl (from-finds 33 0 (size acts) (λ u. ltb 5 (kind acts u)) v (omega arith) h (lt-ltb 5 (kind acts v) l))))
   action-finds (actionNotZero v h m d) = inr (inr (inr (inl (operand-finds v h (zero-bad v h m d)))))
@@ -171,7 +171,7 @@ module _ (acts f : List ℕ) where
   G = FaultyFormula acts f
 
   formula-length : (eqb (length f) 0 || differ (length f) (1 + 2 * size f)) ≡ true → G 41 0
-  formula-length e = go (either (eqb (length f) 0) (differ (length f) (1 + 2 * size f)) e)
+  formula-length e = go (or-true (eqb (length f) 0) (differ (length f) (1 + 2 * size f)) e)
     where
       go : (eqb (length f) 0 ≡ true) ⊎ (differ (length f) (1 + 2 * size f) ≡ true) → G 41 0
       go (inl i) = noFormulaWords (eqb-true (length f) 0 i)
@@ -202,7 +202,7 @@ module _ (acts f : List ℕ) where
 
       action : In (kind f v) (4 ∷ 5 ∷ []) → 4 ≤ kind f v → kind f v ≤ 5 → G 44 v
       action m a b =
-          which m (either (leb (size acts) (operand f v)) (not (onRow (actionChildren acts) (size acts) (operand f v))) (sym (formula-action acts f v h a b) ∙ e))
+          which m (or-true (leb (size acts) (operand f v)) (not (onRow (actionChildren acts) (size acts) (operand f v))) (sym (formula-action acts f v h a b) ∙ e))
 
       go : Dec (kind f v < 1) → Dec (kind f v < 2) → Dec (kind f v < 3) → Dec (kind f v < 4) → Dec (kind f v < 5) → Dec (kind f v < 6) → Dec (kind f v < 7) → Dec (kind f v < 8)
           → G 44 v
@@ -263,8 +263,8 @@ module _ (acts f : List ℕ) where
   yes-enclosing : (u v : ℕ) → (isFixpoint (formulaNode f u) && encloses f u v) ≡ true → EnclosingFixpoint f u v
   unfolding encloses
   yes-enclosing u v e =
-      let (a, b) = both (isFixpoint (formulaNode f u)) (encloses f u v) e in
-      let (c, d) = both (ltb u v) (isBeforeEnd v (treeEnd (formulaChildren f) (size f) u)) b in
+      let (a, b) = and-true (isFixpoint (formulaNode f u)) (encloses f u v) e in
+      let (c, d) = and-true (ltb u v) (isBeforeEnd v (treeEnd (formulaChildren f) (size f) u)) b in
       let (x, i, l) = before-end v (treeEnd (formulaChildren f) (size f) u) d in
       let (p, q, s) = fixpoint-kind f u a in
       record { fixpoint = fix q s (ℕ-discrete (kind f u) 6); before = ltb-true u v c; past = x; ends = i; inside = l }
@@ -305,10 +305,10 @@ module _ (acts f : List ℕ) where
   )
 
   not-zero-bad : (v : ℕ) → v < size f → In (kind f v) (0 ∷ 1 ∷ 6 ∷ 7 ∷ []) → (¬ (operand f v ≡ 0)) → badFormulaOperand acts f v ≡ true
-  not-zero-bad v h (inl k) d = formula-zero acts f v h (omega arith) ∙ differ-yes (operand f v) 0 d
-  not-zero-bad v h (inr (inl k)) d = formula-zero acts f v h (omega arith) ∙ differ-yes (operand f v) 0 d
-  not-zero-bad v h (inr (inr (inl k))) d = formula-fixpoint acts f v h (omega arith) (omega arith) ∙ differ-yes (operand f v) 0 d
-  not-zero-bad v h (inr (inr (inr (inl k)))) d = formula-fixpoint acts f v h (omega arith) (omega arith) ∙ differ-yes (operand f v) 0 d
+  not-zero-bad v h (inl k) d = formula-zero acts f v h (omega arith) ∙ differ-yes d
+  not-zero-bad v h (inr (inl k)) d = formula-zero acts f v h (omega arith) ∙ differ-yes d
+  not-zero-bad v h (inr (inr (inl k))) d = formula-fixpoint acts f v h (omega arith) (omega arith) ∙ differ-yes d
+  not-zero-bad v h (inr (inr (inr (inl k)))) d = formula-fixpoint acts f v h (omega arith) (omega arith) ∙ differ-yes d
   not-zero-bad v h (inr (inr (inr (inr z)))) d = absurd z
 
   two-bounds : (a b k : ℕ) → b ≡ suc a → In k (a ∷ b ∷ []) → (a ≤ k) × (k ≤ b)
@@ -326,14 +326,14 @@ module _ (acts f : List ℕ) where
   no-action-bad v h m l =
       let (a, b) = two-bounds 4 5 (kind f v) refl m in
       formula-action acts f v h a b
-      ∙ or-left (leb (size acts) (operand f v)) (not (onRow (actionChildren acts) (size acts) (operand f v))) (le-leb (size acts) (operand f v) l)
+      ∙ or-left (not (onRow (actionChildren acts) (size acts) (operand f v))) (le-leb (size acts) (operand f v) l)
 
   no-root-bad : (v : ℕ) → v < size f → In (kind f v) (4 ∷ 5 ∷ []) → (¬ Root (actionChildren acts) (size acts) (operand f v)) → badFormulaOperand acts f v ≡ true
   unfolding namesNoTree
   no-root-bad v h m d =
       let (a, b) = two-bounds 4 5 (kind f v) refl m in
       formula-action acts f v h a b
-      ∙ or-right (leb (size acts) (operand f v)) (not (onRow (actionChildren acts) (size acts) (operand f v)))
+      ∙ or-right (leb (size acts) (operand f v))
       (not-so (onRow (actionChildren acts) (size acts) (operand f v)) (λ t. d (root-row (actionChildren acts) (size acts) (operand f v) .0 t)))
 
   operand-found : (v : ℕ) → v < size f → badFormulaOperand acts f v ≡ true → Finds 44 v (refusal44 acts f)
@@ -358,11 +358,11 @@ module _ (acts f : List ℕ) where
 
   pub formula-finds : {n q : ℕ} → FaultyFormula acts f n q → Some (Finds n q) formulaChecks
   unfolding refusal41 refusal42 refusal43 refusal45
-  formula-finds (noFormulaWords i) = inl (if-finds 41 0 _ (or-left (eqb (length f) 0) (differ (length f) (1 + 2 * size f)) (eq-eqb (length f) 0 i)))
+  formula-finds (noFormulaWords i) = inl (if-finds 41 0 _ (or-left (differ (length f) (1 + 2 * size f)) (eq-eqb (length f) 0 i)))
   formula-finds (wrongFormulaWords d) =
-      inl (if-finds 41 0 _ (or-right (eqb (length f) 0) (differ (length f) (1 + 2 * size f)) (differ-yes (length f) (1 + 2 * size f) d)))
-  formula-finds (noFormulaNodes l) = inr (inl (if-finds 42 0 _ (outside-low 1 mostNodes (size f) l)))
-  formula-finds (manyFormulaNodes l) = inr (inl (if-finds 42 0 _ (outside-high 1 mostNodes (size f) l)))
+      inl (if-finds 41 0 _ (or-right (eqb (length f) 0) (differ-yes d)))
+  formula-finds (noFormulaNodes l) = inr (inl (if-finds 42 0 _ (below-outside mostNodes l)))
+  formula-finds (manyFormulaNodes l) = inr (inl (if-finds 42 0 _ (above-outside 1 l)))
   formula-finds (formulaKindTooLarge v h l) = inr (inr (inl (from-finds 43 0 (size f) (λ u. ltb 8 (kind f u)) v (omega arith) h (lt-ltb 8 (kind f v) l))))
   formula-finds (formulaNotZero v h m d) = inr (inr (inr (inl (operand-found v h (not-zero-bad v h m d)))))
   formula-finds (formulaNotRight v e h m i d) = inr (inr (inr (inl (operand-found v h (not-right-bad v e h m i d)))))

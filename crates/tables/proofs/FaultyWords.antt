@@ -1,13 +1,13 @@
 -- The checks of room, labels and system find exactly the faults of document 01. Assumes nothing.
 use Prim.Native.Nat.{ℕ, zero, suc, _+_, _*_, _-_, _≤_, _<_}
 use native.Mathlib.Omega.{arith}
-use mathlib.Core.Path.{_≡_, refl, ap, subst}
-use mathlib.Core.Bool.{Bool, true, false, not, _&&_, _||_}
+use mathlib.Core.Path.{_≡_, subst}
+use mathlib.Core.Bool.{true, _&&_, _||_}
 use mathlib.Core.List.{List, [], _∷_}
 use mathlib.Core.Logic.{_⊎_, inl, inr}
 use lib.ListN.{length}
-use lib.Dec.{eqb, ltb, leb}
-use borrow.Author.Tests.{ltb-true, leb-true, eqb-false, not-true, lt-ltb, le-leb, ne-eqb}
+use lib.Dec.{ltb, leb}
+use borrow.Author.Tests.{ltb-true, leb-true, lt-ltb, le-leb}
 use Rattle.rules.specs.declared.Check.{Check}
 use Rattle.rules.specs.Lists.{word, sumWords}
 use Rattle.rules.specs.Words.{Room, mostLabels, mostActions, mostStates, mostTransitions, mostVertices, mostEdges, gameLength, workLength}
@@ -18,45 +18,9 @@ use Rattle.rules.specs.Refusal.{refusal1, refusal2, refusal11, refusal12, refus
 use Rattle.tables.specs.Faulty.{FaultyRoom, fewVertices, manyVertices, fewEdges, manyEdges, wrongGame, wrongWork}
 use Rattle.tables.specs.Faulty.{FaultyLabels, fewLabelWords, wrongLabelWords, manyLabels, manyActions, labelTooLarge, labelFalls}
 use Rattle.tables.specs.Faulty.{FaultySystem, fewSystemWords, wrongSystemWords, fewStates, manyStates, manyTransitions, wrongInitial, wrongDegrees, wrongLabel, wrongTarget}
-use Rattle.tables.proofs.Accepted.{both}
 use Rattle.tables.proofs.Order.{Finds, Sound, Each, Some, if-finds, from-finds, if-sound, from-sound}
-
--- ---- tests that hold
-
-pub either : (a b : Bool) → (a || b) ≡ true → (a ≡ true) ⊎ (b ≡ true)
-either true b e = inl refl
-either false b e = inr e
-
-pub or-left : (a b : Bool) → a ≡ true → (a || b) ≡ true
-or-left a b e = rw e
-
-pub or-right : (a b : Bool) → b ≡ true → (a || b) ≡ true
-or-right true b e = refl
-or-right false b e = e
-
-pub differ-true : (m n : ℕ) → differ m n ≡ true → ¬ (m ≡ n)
-unfolding differ
-differ-true m n e = eqb-false m n (not-true (eqb m n) e)
-
-pub differ-yes : (m n : ℕ) → (¬ (m ≡ n)) → differ m n ≡ true
-unfolding differ
-differ-yes m n d = ap not (ne-eqb m n d)
-
-pub outside-true : (a b n : ℕ) → outside a b n ≡ true → (n < a) ⊎ (b < n)
-unfolding outside
-outside-true a b n e = go (either (ltb n a) (ltb b n) e)
-  where
-    go : (ltb n a ≡ true) ⊎ (ltb b n ≡ true) → (n < a) ⊎ (b < n)
-    go (inl i) = inl (ltb-true n a i)
-    go (inr i) = inr (ltb-true b n i)
-
-pub outside-low : (a b n : ℕ) → n < a → outside a b n ≡ true
-unfolding outside
-outside-low a b n l = or-left (ltb n a) (ltb b n) (lt-ltb n a l)
-
-pub outside-high : (a b n : ℕ) → b < n → outside a b n ≡ true
-unfolding outside
-outside-high a b n l = or-right (ltb n a) (ltb b n) (lt-ltb b n l)
+use Rattle.lists.proofs.Tests.{or-left, or-right, or-true, and-true}
+use Rattle.tables.proofs.Choices.{differ-true, differ-yes, outside-true, below-outside, above-outside}
 
 -- ---- room
 
@@ -65,7 +29,7 @@ module _ (r : Room) (game work : ℕ) where
   roomChecks = refusal1 r ∷ refusal2 r game work ∷ []
 
   limits : (outside 1 mostVertices (r .vertices) || outside 1 mostEdges (r .edges)) ≡ true → FaultyRoom r game work 1 0
-  limits e = go (either (outside 1 mostVertices (r .vertices)) (outside 1 mostEdges (r .edges)) e)
+  limits e = go (or-true (outside 1 mostVertices (r .vertices)) (outside 1 mostEdges (r .edges)) e)
     where
       vertices : (r .vertices < 1) ⊎ (mostVertices < r .vertices) → FaultyRoom r game work 1 0
       vertices (inl l) = fewVertices l
@@ -80,7 +44,7 @@ module _ (r : Room) (game work : ℕ) where
       go (inr i) = edges (outside-true 1 mostEdges (r .edges) i)
 
   slices : (differ game (gameLength r) || differ work (workLength r)) ≡ true → FaultyRoom r game work 2 0
-  slices e = go (either (differ game (gameLength r)) (differ work (workLength r)) e)
+  slices e = go (or-true (differ game (gameLength r)) (differ work (workLength r)) e)
     where
       go : (differ game (gameLength r) ≡ true) ⊎ (differ work (workLength r) ≡ true) → FaultyRoom r game work 2 0
       go (inl i) = wrongGame (differ-true game (gameLength r) i)
@@ -93,13 +57,13 @@ module _ (r : Room) (game work : ℕ) where
   pub room-finds : {n q : ℕ} → FaultyRoom r game work n q → Some (Finds n q) roomChecks
   unfolding refusal1 refusal2
   room-finds (fewVertices l) =
-      inl (if-finds 1 0 _ (or-left (outside 1 mostVertices (r .vertices)) (outside 1 mostEdges (r .edges)) (outside-low 1 mostVertices (r .vertices) l)))
+      inl (if-finds 1 0 _ (or-left (outside 1 mostEdges (r .edges)) (below-outside mostVertices l)))
   room-finds (manyVertices l) =
-      inl (if-finds 1 0 _ (or-left (outside 1 mostVertices (r .vertices)) (outside 1 mostEdges (r .edges)) (outside-high 1 mostVertices (r .vertices) l)))
-  room-finds (fewEdges l) = inl (if-finds 1 0 _ (or-right (outside 1 mostVertices (r .vertices)) (outside 1 mostEdges (r .edges)) (outside-low 1 mostEdges (r .edges) l)))
-  room-finds (manyEdges l) = inl (if-finds 1 0 _ (or-right (outside 1 mostVertices (r .vertices)) (outside 1 mostEdges (r .edges)) (outside-high 1 mostEdges (r .edges) l)))
-  room-finds (wrongGame d) = inr (inl (if-finds 2 0 _ (or-left (differ game (gameLength r)) (differ work (workLength r)) (differ-yes game (gameLength r) d))))
-  room-finds (wrongWork d) = inr (inl (if-finds 2 0 _ (or-right (differ game (gameLength r)) (differ work (workLength r)) (differ-yes work (workLength r) d))))
+      inl (if-finds 1 0 _ (or-left (outside 1 mostEdges (r .edges)) (above-outside 1 l)))
+  room-finds (fewEdges l) = inl (if-finds 1 0 _ (or-right (outside 1 mostVertices (r .vertices)) (below-outside mostEdges l)))
+  room-finds (manyEdges l) = inl (if-finds 1 0 _ (or-right (outside 1 mostVertices (r .vertices)) (above-outside 1 l)))
+  room-finds (wrongGame d) = inr (inl (if-finds 2 0 _ (or-left (differ work (workLength r)) (differ-yes d))))
+  room-finds (wrongWork d) = inr (inl (if-finds 2 0 _ (or-right (differ game (gameLength r)) (differ-yes d))))
 
 -- ---- labels
 
@@ -108,14 +72,14 @@ module _ (ls : List ℕ) where
   labelChecks = refusal11 ls ∷ refusal12 ls ∷ refusal13 ls ∷ []
 
   label-length : (ltb (length ls) 2 || differ (length ls) (2 + 2 * actionCount ls)) ≡ true → FaultyLabels ls 11 0
-  label-length e = go (either (ltb (length ls) 2) (differ (length ls) (2 + 2 * actionCount ls)) e)
+  label-length e = go (or-true (ltb (length ls) 2) (differ (length ls) (2 + 2 * actionCount ls)) e)
     where
       go : (ltb (length ls) 2 ≡ true) ⊎ (differ (length ls) (2 + 2 * actionCount ls) ≡ true) → FaultyLabels ls 11 0
       go (inl i) = fewLabelWords (ltb-true (length ls) 2 i)
       go (inr i) = wrongLabelWords (differ-true (length ls) (2 + 2 * actionCount ls) i)
 
   label-counts : (ltb mostLabels (labelCount ls) || ltb mostActions (actionCount ls)) ≡ true → FaultyLabels ls 12 0
-  label-counts e = go (either (ltb mostLabels (labelCount ls)) (ltb mostActions (actionCount ls)) e)
+  label-counts e = go (or-true (ltb mostLabels (labelCount ls)) (ltb mostActions (actionCount ls)) e)
     where
       go : (ltb mostLabels (labelCount ls) ≡ true) ⊎ (ltb mostActions (actionCount ls) ≡ true) → FaultyLabels ls 12 0
       go (inl i) = manyLabels (ltb-true mostLabels (labelCount ls) i)
@@ -129,24 +93,24 @@ module _ (ls : List ℕ) where
 
   label-numbers : (w : ℕ) → 2 ≤ w → w < 2 + actionCount ls → badLabel ls w ≡ true → FaultyLabels ls 13 w
   unfolding badLabel
-  label-numbers w a b e = go (either (leb (labelCount ls) (word ls w)) (ltb 2 w && ltb (word ls w) (word ls (w - 1))) e)
+  label-numbers w a b e = go (or-true (leb (labelCount ls) (word ls w)) (ltb 2 w && ltb (word ls w) (word ls (w - 1))) e)
     where
       go : (leb (labelCount ls) (word ls w) ≡ true) ⊎ ((ltb 2 w && ltb (word ls w) (word ls (w - 1))) ≡ true) → FaultyLabels ls 13 w
       go (inl i) = labelTooLarge w a b (leb-true (labelCount ls) (word ls w) i)
       go (inr i) =
-          let (x, y) = both (ltb 2 w) (ltb (word ls w) (word ls (w - 1))) i in
+          let (x, y) = and-true (ltb 2 w) (ltb (word ls w) (word ls (w - 1))) i in
           label-falls w (ltb-true 2 w x) b (ltb-true (word ls w) (word ls (w - 1)) y)
 
   falls-bad : (w : ℕ) → 2 ≤ w → word ls (suc w) < word ls w → badLabel ls (suc w) ≡ true
   unfolding badLabel
   falls-bad w a l =
       let i : suc w - 1 ≡ w = omega arith in
-      or-right (leb (labelCount ls) (word ls (suc w))) (ltb 2 (suc w) && ltb (word ls (suc w)) (word ls (suc w - 1)))
+      or-right (leb (labelCount ls) (word ls (suc w)))
       (rw (i, lt-ltb 2 (suc w) (omega arith)) (lt-ltb (word ls (suc w)) (word ls w) l))
 
   large-bad : (w : ℕ) → labelCount ls ≤ word ls w → badLabel ls w ≡ true
   unfolding badLabel
-  large-bad w l = or-left (leb (labelCount ls) (word ls w)) (ltb 2 w && ltb (word ls w) (word ls (w - 1))) (le-leb (labelCount ls) (word ls w) l)
+  large-bad w l = or-left (ltb 2 w && ltb (word ls w) (word ls (w - 1))) (le-leb (labelCount ls) (word ls w) l)
 
   pub label-sound : Each (Sound (FaultyLabels ls)) labelChecks
   unfolding refusal11 refusal12 refusal13
@@ -157,13 +121,13 @@ module _ (ls : List ℕ) where
 
   pub label-finds : {n q : ℕ} → FaultyLabels ls n q → Some (Finds n q) labelChecks
   unfolding refusal11 refusal12 refusal13
-  label-finds (fewLabelWords l) = inl (if-finds 11 0 _ (or-left (ltb (length ls) 2) (differ (length ls) (2 + 2 * actionCount ls)) (lt-ltb (length ls) 2 l)))
+  label-finds (fewLabelWords l) = inl (if-finds 11 0 _ (or-left (differ (length ls) (2 + 2 * actionCount ls)) (lt-ltb (length ls) 2 l)))
   label-finds (wrongLabelWords d) =
-      inl (if-finds 11 0 _ (or-right (ltb (length ls) 2) (differ (length ls) (2 + 2 * actionCount ls)) (differ-yes (length ls) (2 + 2 * actionCount ls) d)))
+      inl (if-finds 11 0 _ (or-right (ltb (length ls) 2) (differ-yes d)))
   label-finds (manyLabels l) =
-      inr (inl (if-finds 12 0 _ (or-left (ltb mostLabels (labelCount ls)) (ltb mostActions (actionCount ls)) (lt-ltb mostLabels (labelCount ls) l))))
+      inr (inl (if-finds 12 0 _ (or-left (ltb mostActions (actionCount ls)) (lt-ltb mostLabels (labelCount ls) l))))
   label-finds (manyActions l) =
-      inr (inl (if-finds 12 0 _ (or-right (ltb mostLabels (labelCount ls)) (ltb mostActions (actionCount ls)) (lt-ltb mostActions (actionCount ls) l))))
+      inr (inl (if-finds 12 0 _ (or-right (ltb mostLabels (labelCount ls)) (lt-ltb mostActions (actionCount ls) l))))
   label-finds (labelTooLarge w a b l) = inr (inr (inl (from-finds 13 2 (2 + actionCount ls) (badLabel ls) w a b (large-bad w l))))
   label-finds (labelFalls w a b l) = inr (inr (inl (from-finds 13 2 (2 + actionCount ls) (badLabel ls) (suc w) (omega arith) b (falls-bad w a l))))
 
@@ -177,14 +141,14 @@ module _ (ls ss : List ℕ) where
   F = FaultySystem (labelCount ls) ss
 
   system-length : (ltb (length ss) 3 || differ (length ss) (3 + stateCount ss + 2 * transitionCount ss)) ≡ true → F 21 0
-  system-length e = go (either (ltb (length ss) 3) (differ (length ss) (3 + stateCount ss + 2 * transitionCount ss)) e)
+  system-length e = go (or-true (ltb (length ss) 3) (differ (length ss) (3 + stateCount ss + 2 * transitionCount ss)) e)
     where
       go : (ltb (length ss) 3 ≡ true) ⊎ (differ (length ss) (3 + stateCount ss + 2 * transitionCount ss) ≡ true) → F 21 0
       go (inl i) = fewSystemWords (ltb-true (length ss) 3 i)
       go (inr i) = wrongSystemWords (differ-true (length ss) (3 + stateCount ss + 2 * transitionCount ss) i)
 
   system-counts : (outside 1 mostStates (stateCount ss) || ltb mostTransitions (transitionCount ss)) ≡ true → F 22 0
-  system-counts e = go (either (outside 1 mostStates (stateCount ss)) (ltb mostTransitions (transitionCount ss)) e)
+  system-counts e = go (or-true (outside 1 mostStates (stateCount ss)) (ltb mostTransitions (transitionCount ss)) e)
     where
       states : (stateCount ss < 1) ⊎ (mostStates < stateCount ss) → F 22 0
       states (inl l) = fewStates l
@@ -228,17 +192,17 @@ module _ (ls ss : List ℕ) where
   pub system-finds : {n q : ℕ} → FaultySystem (labelCount ls) ss n q → Some (Finds n q) systemChecks
   unfolding refusal21 refusal22 refusal23 refusal24 refusal25 refusal26 tooLarge
   system-finds (fewSystemWords l) =
-      inl (if-finds 21 0 _ (or-left (ltb (length ss) 3) (differ (length ss) (3 + stateCount ss + 2 * transitionCount ss)) (lt-ltb (length ss) 3 l)))
+      inl (if-finds 21 0 _ (or-left (differ (length ss) (3 + stateCount ss + 2 * transitionCount ss)) (lt-ltb (length ss) 3 l)))
   system-finds (wrongSystemWords d) =
-      inl (if-finds 21 0 _ (or-right (ltb (length ss) 3) (differ (length ss) (3 + stateCount ss + 2 * transitionCount ss)) (differ-yes (length ss) (3 + stateCount ss + 2 * transitionCount ss) d)))
+      inl (if-finds 21 0 _ (or-right (ltb (length ss) 3) (differ-yes d)))
   system-finds (fewStates l) =
-      inr (inl (if-finds 22 0 _ (or-left (outside 1 mostStates (stateCount ss)) (ltb mostTransitions (transitionCount ss)) (outside-low 1 mostStates (stateCount ss) l))))
+      inr (inl (if-finds 22 0 _ (or-left (ltb mostTransitions (transitionCount ss)) (below-outside mostStates l))))
   system-finds (manyStates l) =
-      inr (inl (if-finds 22 0 _ (or-left (outside 1 mostStates (stateCount ss)) (ltb mostTransitions (transitionCount ss)) (outside-high 1 mostStates (stateCount ss) l))))
+      inr (inl (if-finds 22 0 _ (or-left (ltb mostTransitions (transitionCount ss)) (above-outside 1 l))))
   system-finds (manyTransitions l) =
-      inr (inl (if-finds 22 0 _ (or-right (outside 1 mostStates (stateCount ss)) (ltb mostTransitions (transitionCount ss)) (lt-ltb mostTransitions (transitionCount ss) l))))
+      inr (inl (if-finds 22 0 _ (or-right (outside 1 mostStates (stateCount ss)) (lt-ltb mostTransitions (transitionCount ss) l))))
   system-finds (wrongInitial l) = inr (inr (inl (if-finds 23 2 _ (le-leb (stateCount ss) (initialState ss) l))))
-  system-finds (wrongDegrees d) = inr (inr (inr (inl (if-finds 24 1 _ (differ-yes (sumWords ss 3 (stateCount ss)) (transitionCount ss) d)))))
+  system-finds (wrongDegrees d) = inr (inr (inr (inl (if-finds 24 1 _ (differ-yes d)))))
   system-finds (wrongLabel t a l) =
       inr (inr (inr (inr (inl
       (from-finds 25 (3 + stateCount ss) (3 + stateCount ss + transitionCount ss) (tooLarge ss (labelCount ls)) (3 + stateCount ss + t) (omega arith) (omega arith)

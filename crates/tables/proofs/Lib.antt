@@ -1,3 +1,4 @@
+pub mod Choices
 pub mod Faults
 pub mod Decode
 pub mod Ends

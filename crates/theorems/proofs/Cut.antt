@@ -1,34 +1,32 @@
 -- The cut theorem of the rules: what a run that is not refused leaves satisfies `CutTheorem`, for every ranking, limit and room. Assumes nothing.
 use mathlib.Core.Path.{_≡_, refl, sym, ap, _∙_, subst}
-use mathlib.Core.Bool.{Bool, true, false, cond}
+use mathlib.Core.Bool.{cond}
 use mathlib.Core.List.{List, [], _∷_, _++_, map, append-nil}
 use mathlib.Core.Logic.{_⊎_, inl, inr, ⊎-elim, _↔_}
-use Prim.Native.Nat.{ℕ, zero, suc, _+_, _-_, _*_, _≤_, _<_, min, max}
+use Prim.Native.Nat.{ℕ, suc, _+_, _-_, _≤_, _<_}
 use native.Mathlib.Omega.{arith}
 use native.Mathlib.Decide.{decLt}
 use lib.ListN.{length, getD}
 use lib.Dec.{ltb}
 use borrow.Author.Tests.{lt-ltb, le-ltb}
-use Rattle.player.specs.Player.{playerIndex}
 use Rattle.player.specs.declared.Player.{Player}
-use Rattle.rules.specs.Lists.{word, In, Distinct, place}
+use Rattle.rules.specs.Lists.{word, In, place}
 use Rattle.rules.specs.Words.{Input}
 use Rattle.rules.specs.Depth.{Ranking}
 use Rattle.rules.specs.Pairs.{Pair, samePair, initialPair, owner, priority, targets}
-use Rattle.rules.specs.Walk.{State, walk}
+use Rattle.rules.specs.Walk.{State}
 use Rattle.rules.specs.Reach.{Reachable, pairCount, reachablePairs, N}
-use Rattle.rules.specs.Game.{Vertex, waitingVertex, stuckPriority, settledVertex, edgeCount, gameOf, padded, vertexCount, edgesIn, initialIn, ownerIn, priorityIn, targetsIn}
+use Rattle.rules.specs.Game.{Vertex, waitingVertex, settledVertex, gameOf, padded, vertexCount, edgesIn, initialIn, ownerIn, priorityIn, targetsIn}
 use Rattle.rules.specs.Run.{walkOf, verticesOf, doneOrCut, finished}
 use Rattle.rules.specs.Demands.{After, Stands, Lead, Totalised, SettledRow, CutTheorem, pairsOf, settledBelow}
-use Rattle.lists.specs.Shapes.{Falling, Begins}
+use Rattle.lists.specs.Shapes.{Falling}
 use Rattle.lists.proofs.Members.{place-below, place-at}
-use Rattle.lists.proofs.Shapes.{falling-below, falling-length}
 use Rattle.lists.proofs.Equalities.{pair-equality}
 use Rattle.walks.specs.Sums.{settled, Settled, sumSettled}
 use Rattle.walks.specs.Facts.{WalkFacts}
 use Rattle.games.proofs.Rewriting.{Whole}
-use Rattle.theorems.proofs.Vertices.{length-vertices, numbersAt, pairAt}
-use Rattle.theorems.proofs.Read.{whole-game, count-word, Row, row-waits, row-settled, owner-waits, owner-settled, settled-below, below-settled, settled-count}
+use Rattle.theorems.proofs.Vertices.{length-vertices, numbersAt}
+use Rattle.theorems.proofs.Read.{whole-game, count-word, row-waits, row-settled, owner-settled, settled-below, below-settled, settled-count}
 
 -- the vertices that do not wait, in the order in which 01's steps settle them
 pub record Ordered (x : Input) (k : ℕ) (st : State Pair) : Type 0 where

@@ -1,10 +1,10 @@
 -- Demand 3 of the rules' run, and what it rests on: the reachable pairs of an accepted input are within states times items, so the facts of every walk hold of it.
 -- Assumes nothing.
-use mathlib.Core.Path.{_≡_, refl, sym, ap, _∙_, subst}
+use mathlib.Core.Path.{_≡_, refl, sym, subst}
 use mathlib.Core.Bool.{Bool, true, false}
-use mathlib.Core.List.{List, [], _∷_}
+use mathlib.Core.List.{List, []}
 use mathlib.Core.Logic.{_⊎_, inl, inr, ⊎-elim}
-use Prim.Native.Nat.{ℕ, zero, suc, _+_, _*_, _≤_, _<_}
+use Prim.Native.Nat.{ℕ, _≤_}
 use native.Mathlib.Omega.{arith}
 use lib.ListN.{length}
 use Rattle.rules.specs.declared.Check.{Check}
@@ -12,10 +12,9 @@ use Rattle.rules.specs.declared.Check.the-variants.{Passed, Fault}
 use Rattle.rules.specs.Lists.{word, In}
 use Rattle.rules.specs.Words.{Input, Room, gameLength}
 use Rattle.rules.specs.Depth.{Ranking}
-use Rattle.rules.specs.Pairs.{Pair, samePair, initialPair, owner, priority, targets}
+use Rattle.rules.specs.Pairs.{Pair, samePair, initialPair, targets}
 use Rattle.rules.specs.Reach.{Reachable, pairCount}
-use Rattle.rules.specs.Walk.{State}
-use Rattle.rules.specs.Game.{Vertex, edgeCount, gameOf}
+use Rattle.rules.specs.Game.{Vertex, gameOf}
 use Rattle.rules.specs.Refusal.{refusal}
 use Rattle.rules.specs.Run.{Outcome, walkOf, verticesOf, exceeds, finished, outOfRoom, run}
 use Rattle.rules.specs.Demands.{CutTheorem, Demand3, pairsOf}

@@ -1,9 +1,9 @@
 -- A finished game, handed over, passes the check of games; a cut one is refused 53 at the owner of its first waiting vertex. Assumes nothing.
-use mathlib.Core.Path.{_≡_, refl, sym, ap, _∙_, subst}
+use mathlib.Core.Path.{_≡_, sym, ap, _∙_, subst}
 use mathlib.Core.Bool.{false}
-use mathlib.Core.List.{List, [], _∷_, _++_, map}
+use mathlib.Core.List.{List, [], _∷_, map}
 use mathlib.Core.Logic.{_⊎_, inl, inr, ⊎-elim}
-use Prim.Native.Nat.{ℕ, zero, suc, _+_, _≤_, _<_}
+use Prim.Native.Nat.{ℕ, _+_, _≤_, _<_}
 use native.Mathlib.Omega.{arith}
 use lib.ListN.{length, getD}
 use Rattle.player.specs.Player.{playerIndex}
@@ -23,7 +23,7 @@ use Rattle.lists.proofs.Members.{in-map, in-or}
 use Rattle.lists.proofs.Equalities.{number-equality}
 use Rattle.tables.proofs.Accepted.{accepted-words, accepted-room}
 use Rattle.games.proofs.Handed.{owned-passes, first-unowned}
-use Rattle.theorems.proofs.Vertices.{length-vertices, vertex-at, vertex-waits, vertex-settled, numbersAt, pairAt}
+use Rattle.theorems.proofs.Vertices.{length-vertices, vertex-at, vertex-waits, vertex-settled}
 use Rattle.theorems.proofs.Read.{player-below, settled-owner}
 use Rattle.theorems.proofs.Runs.{fits}
 use Rattle.theorems.proofs.Demand3.{facts}

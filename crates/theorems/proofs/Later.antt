@@ -2,7 +2,7 @@
 -- edges after any more. Assumes nothing.
 use mathlib.Core.Path.{_≡_, refl, sym, ap, _∙_, subst}
 use mathlib.Core.Bool.{Bool}
-use mathlib.Core.List.{List, [], _∷_, _++_, map}
+use mathlib.Core.List.{List, [], _∷_, map}
 use mathlib.Core.Logic.{_⊎_, inl, inr, ⊎-elim}
 use Prim.Native.Nat.{ℕ, zero, suc, _+_, _-_, _≤_, _<_}
 use native.Mathlib.Omega.{arith}
@@ -11,20 +11,20 @@ use Rattle.player.specs.declared.Player.{Player}
 use Rattle.rules.specs.Lists.{In, place, insertAll}
 use Rattle.rules.specs.Words.{Input}
 use Rattle.rules.specs.Depth.{Ranking}
-use Rattle.rules.specs.Pairs.{Pair, samePair, initialPair, owner, priority, targets}
-use Rattle.rules.specs.Walk.{State, walk, settle, stepFrom, step, pushNew}
+use Rattle.rules.specs.Pairs.{samePair, initialPair, owner, priority, targets}
+use Rattle.rules.specs.Walk.{State, walk, settle, stepFrom, step}
 use Rattle.rules.specs.Game.{Vertex, settledVertex, vertexAt, gameOf, padded, vertexCount, ownerIn, priorityIn, targetsIn}
 use Rattle.rules.specs.Run.{walkOf, verticesOf}
 use Rattle.lists.specs.Shapes.{Begins, Equality}
-use Rattle.lists.proofs.Members.{place-begins, in-at}
+use Rattle.lists.proofs.Members.{place-begins}
 use Rattle.lists.proofs.Shapes.{begins-at, begins-length}
 use Rattle.lists.proofs.Equalities.{pair-equality}
 use Rattle.walks.specs.Sums.{Settled}
-use Rattle.walks.proofs.Steps.{Sound, sound, walk-step, begins-step, walk-later}
+use Rattle.walks.proofs.Steps.{sound, walk-step, begins-step, walk-later}
 use Rattle.walks.proofs.Facts.{walk-keeps}
 use Rattle.walks.proofs.Push.{push-only}
 use Rattle.theorems.proofs.Vertices.{vertex-settled}
-use Rattle.theorems.proofs.Read.{count-word, Row, row-settled, below-settled}
+use Rattle.theorems.proofs.Read.{count-word, row-settled, below-settled}
 
 module _ {A : Type 0} {same : A → A → Bool} (eq : Equality same) (next : A → List A) (root : A) where
   -- a step lets no settled vertex wait again

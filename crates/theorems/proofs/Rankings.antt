@@ -1,22 +1,22 @@
 -- Two rankings give the same answer, and games that differ at most in the priorities of equations' vertices. Assumes nothing.
 use mathlib.Core.Path.{_≡_, refl, sym, ap, ap₂, _∙_, subst}
 use mathlib.Core.Bool.{Bool, true, false, _||_}
-use mathlib.Core.List.{List, [], _∷_, _++_, map}
+use mathlib.Core.List.{List, [], _∷_, map}
 use mathlib.Core.Logic.{_⊎_, inl, inr, ⊎-elim}
-use Prim.Native.Nat.{ℕ, zero, suc, _+_, _-_, _≤_, _<_}
+use Prim.Native.Nat.{ℕ, _-_, _<_}
 use native.Mathlib.Omega.{arith}
 use lib.ListN.{length, getD}
 use lib.Dec.{ltb}
 use Rattle.player.specs.declared.Player.{Player}
 use Rattle.rules.specs.declared.Check.{Check}
 use Rattle.rules.specs.declared.Check.the-variants.{Passed, Fault}
-use Rattle.rules.specs.Lists.{word, In, place}
+use Rattle.rules.specs.Lists.{In, place}
 use Rattle.rules.specs.Words.{Input, Room}
 use Rattle.rules.specs.Formula.{equationCount}
 use Rattle.rules.specs.Depth.{Ranking}
 use Rattle.rules.specs.Pairs.{Pair, samePair, initialPair, owner, priority, targets}
 use Rattle.rules.specs.Walk.{State}
-use Rattle.rules.specs.Game.{Vertex, settledVertex, waitingVertex, edgeCount, gameOf, padded, vertexCount, edgesIn, ownerIn, priorityIn, targetsIn}
+use Rattle.rules.specs.Game.{Vertex, settledVertex, edgeCount, gameOf, padded, vertexCount, edgesIn, ownerIn, priorityIn, targetsIn}
 use Rattle.rules.specs.Refusal.{refusal}
 use Rattle.rules.specs.Run.{Outcome, walkOf, verticesOf, exceeds, finished, outOfRoom, run}
 use Rattle.rules.specs.Demands.{pairsOf}
@@ -24,7 +24,7 @@ use Rattle.lists.proofs.Members.{in-or}
 use Rattle.lists.proofs.Equalities.{number-equality}
 use native.Mathlib.Decide.{decLt}
 use Rattle.arena.proofs.Priorities.{other-priority}
-use Rattle.theorems.proofs.Read.{count-word, Row, row-waits, row-settled}
+use Rattle.theorems.proofs.Read.{count-word, row-waits, row-settled}
 use Rattle.theorems.proofs.Runs.{run-refused, run-exceeds, run-fits, vertices-many, edges-many}
 
 -- g and h show the same vertices, but for the priorities of equations

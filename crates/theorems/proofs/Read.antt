@@ -1,25 +1,24 @@
 -- What is read from the words of a run's game: of each vertex, by whether it waits; and that the words are a whole game. Assumes nothing.
 use mathlib.Core.Path.{_≡_, refl, sym, ap, _∙_, subst}
-use mathlib.Core.Bool.{Bool, true, false, cond}
-use mathlib.Core.List.{List, [], _∷_, _++_, map, append-nil}
-use mathlib.Core.Logic.{_⊎_, inl, inr, ⊎-elim}
-use Prim.Native.Nat.{ℕ, zero, suc, _+_, _-_, _*_, _≤_, _<_, max}
+use mathlib.Core.Bool.{Bool}
+use mathlib.Core.List.{List, [], _∷_, _++_}
+use mathlib.Core.Logic.{_⊎_, inl, inr}
+use Prim.Native.Nat.{ℕ, zero, suc, _+_, _-_, _≤_, _<_}
 use native.Mathlib.Omega.{arith}
 use native.Mathlib.Decide.{decLt}
-use lib.ListN.{length, getD, take, replicate, length-append, length-replicate, getD-replicate, length-map}
-use lib.Seq.{take-all, getD-append-add, take-suc}
-use lib.Dec.{eqb, ltb}
+use lib.ListN.{length, getD, take, replicate, length-append, length-replicate, getD-replicate}
+use lib.Seq.{take-all, getD-append-add}
 use borrow.Author.Tests.{lt-ltb, le-ltb}
 use Rattle.player.specs.Player.{playerIndex}
 use Rattle.player.specs.declared.Player.{Player}
 use Rattle.player.specs.declared.Player.the-variants.{Even, Odd}
-use Rattle.rules.specs.Lists.{word, sum, In, has, place}
+use Rattle.rules.specs.Lists.{word, sum, In}
 use Rattle.rules.specs.Walk.{State}
-use Rattle.rules.specs.Game.{Vertex, waitingVertex, settledVertex, vertices, edgeCount, gameOf, padded, vertexCount, edgesIn, initialIn, ownerIn, priorityIn, offsetIn, targetsAt, targetsIn, gameEnd}
+use Rattle.rules.specs.Game.{Vertex, waitingVertex, settledVertex, vertices, edgeCount, gameOf, padded, vertexCount, edgesIn, ownerIn, priorityIn, offsetIn, targetsIn, gameEnd}
 use Rattle.rules.specs.Demands.{settledBelow}
 use Rattle.lists.proofs.Members.{in-has, not-in, in-or}
 use Rattle.lists.proofs.Equalities.{number-equality}
-use Rattle.walks.specs.Sums.{sumBelow, sumSettled}
+use Rattle.walks.specs.Sums.{sumBelow}
 use Rattle.games.proofs.Reading.{count-read, owner-read, priority-read, offset-read, targets-read, length-read}
 use Rattle.games.proofs.Rewriting.{Whole}
 use Rattle.theorems.proofs.Vertices.{length-vertices, vertex-at, vertex-waits, vertex-settled, pairAt, numbersAt}

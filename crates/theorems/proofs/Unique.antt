@@ -2,8 +2,7 @@
 -- can satisfy it, whatever one thinks of the definition of a run. Assumes nothing.
 use mathlib.Core.Path.{_≡_, refl, sym, ap, _∙_, subst}
 use mathlib.Core.List.{List, [], _∷_, _++_}
-use mathlib.Core.Logic.{_⊎_, inl, inr, _↔_}
-use Prim.Native.Nat.{ℕ, zero, suc, _+_, _≤_, _<_}
+use Prim.Native.Nat.{ℕ, _+_, _<_}
 use native.Mathlib.Omega.{arith}
 use native.Mathlib.Decide.{decLt}
 use lib.ListN.{length, getD}
@@ -12,11 +11,11 @@ use Rattle.rules.specs.Lists.{word, In, Distinct}
 use Rattle.rules.specs.Words.{Input}
 use Rattle.rules.specs.Depth.{Ranking}
 use Rattle.rules.specs.Pairs.{Pair, initialPair, owner, priority, targets}
-use Rattle.rules.specs.Game.{vertexCount, edgesIn, initialIn, ownerIn, priorityIn, offsetIn, targetsIn}
+use Rattle.rules.specs.Game.{vertexCount, edgesIn, ownerIn, priorityIn, targetsIn}
 use Rattle.rules.specs.Demands.{Stands, Lead, Totalised, SettledRow, CutTheorem}
 use Rattle.lists.proofs.Members.{distinct-places}
 use Rattle.walks.proofs.Only.{after-only}
-use Rattle.games.proofs.Rewriting.{Whole, ReadAlike, words-alike}
+use Rattle.games.proofs.Rewriting.{words-alike}
 
 stands-once : (x : Input) (ps : List Pair) → Distinct ps → (u w : ℕ) (q : Pair) → Stands x ps u q → Stands x ps w q → u ≡ w
 stands-once x ps d u w q s t = distinct-places ps (initialPair x) d u w (s .0) (t .0) (s .1 ∙ sym (t .1))

@@ -1,38 +1,19 @@
 -- The vertices where a walk stands: how many they are, what each is, and how many edges they have. Assumes nothing.
-use mathlib.Core.Path.{_≡_, refl, sym, ap, _∙_, subst}
+use mathlib.Core.Path.{_≡_, refl, ap, _∙_}
 use mathlib.Core.Bool.{Bool, true, false, cond}
 use mathlib.Core.List.{List, [], _∷_, _++_, map}
-use Prim.Native.Nat.{ℕ, zero, suc, _+_, _≤_, _<_, max}
+use Prim.Native.Nat.{ℕ, zero, suc, _+_, _<_, max}
 use native.Mathlib.Omega.{arith}
 use lib.ListN.{length, getD, length-map}
 use lib.Dec.{eqb}
-use Rattle.player.specs.Player.{playerIndex}
 use Rattle.player.specs.declared.Player.{Player}
-use Rattle.player.specs.declared.Player.the-variants.{Even, Odd}
 use Rattle.rules.specs.Lists.{In, from, sum, has, place}
 use Rattle.rules.specs.Walk.{State}
-use Rattle.rules.specs.Game.{Vertex, waitingVertex, stuckPriority, settledVertex, vertexAt, vertices, edgeCount}
+use Rattle.rules.specs.Game.{Vertex, waitingVertex, settledVertex, vertexAt, vertices, edgeCount}
 use Rattle.lists.proofs.Members.{map-at, in-has, not-in}
 use Rattle.lists.proofs.Equalities.{number-equality}
 use Rattle.walks.specs.Sums.{sumBelow, sumSettled}
-
-pub length-from : (i n : ℕ) → length (from i n) ≡ n
-unfolding from
-length-from i zero = refl
-length-from i (suc n) = ap suc (length-from (suc i) n)
-
-pub from-at : (i n v d : ℕ) → v < n → getD (from i n) v d ≡ i + v
-unfolding from
-from-at i zero v d h = absurd (omega arith)
-from-at i (suc n) zero d h = omega arith
-from-at i (suc n) (suc v) d h = omega (arith, from-at (suc i) n v d (omega arith))
-
-from-snoc : (i n : ℕ) → from i (suc n) ≡ from i n ++ ((i + n) ∷ [])
-unfolding from
-from-snoc i zero = let e : i ≡ i + 0 = omega arith in ap (λ (k : ℕ). k ∷ []) e
-from-snoc i (suc n) =
-    let e : suc i + n ≡ i + suc n = omega arith in
-    ap (λ (l : List ℕ). i ∷ l) (from-snoc (suc i) n ∙ ap (λ (k : ℕ). from (suc i) n ++ (k ∷ [])) e)
+use Rattle.lists.proofs.Ranges.{from-length, from-at, from-snoc}
 
 sum-snoc : (xs : List ℕ) (x : ℕ) → sum (xs ++ (x ∷ [])) ≡ sum xs + x
 unfolding sum
@@ -55,13 +36,13 @@ module _ {A : Type 0} (same : A → A → Bool) (next : A → List A) (root : A)
 
   pub length-vertices : length (vertices same next root owner priority st) ≡ length (st .known)
   unfolding vertices
-  length-vertices = length-map (from 0 (length (st .known))) at ∙ length-from 0 (length (st .known))
+  length-vertices = length-map (from 0 (length (st .known))) at ∙ from-length 0 (length (st .known))
 
   pub vertex-at : (v : ℕ) (d : Vertex) → v < length (st .known) → getD (vertices same next root owner priority st) v d ≡ at v
   unfolding vertices
   vertex-at v d h =
       let e : getD (from 0 (length (st .known))) v 0 ≡ v = omega (arith, from-at 0 (length (st .known)) v 0 h) in
-      map-at at (from 0 (length (st .known))) v 0 d (omega (arith, length-from 0 (length (st .known)))) ∙ ap at e
+      map-at at (from 0 (length (st .known))) v 0 d (omega (arith, from-length 0 (length (st .known)))) ∙ ap at e
 
   pub vertex-waits : (v : ℕ) → In v (st .waiting) → at v ≡ waitingVertex
   unfolding vertexAt

@@ -1,12 +1,9 @@
 -- Which nodes are fixpoints, by their kind. Assumes nothing.
-use mathlib.Core.Path.{_≡_, _∙_}
-use mathlib.Core.Bool.{true, false, _&&_}
+use mathlib.Core.Path.{_≡_}
+use mathlib.Core.Bool.{true, false}
 use mathlib.Core.List.{List}
 use Prim.Native.Nat.{ℕ, _≤_, _<_}
-use native.Mathlib.Decide.{decLt}
 use native.Mathlib.Omega.{arith}
-use lib.Dec.{leb}
-use borrow.Author.Tests.{le-leb, lt-leb}
 use Rattle.rules.specs.Table.{size, kind, formulaNode}
 use Rattle.rules.specs.Formula.{isFixpoint}
 use Rattle.tables.proofs.Decode as decode
@@ -20,16 +17,6 @@ no-fixpoint-below f v h p = decode.fixpoint-low f v h (omega arith)
 
 pub no-fixpoint-above : (f : List ℕ) (v : ℕ) → v < size f → 8 ≤ kind f v → isFixpoint (formulaNode f v) ≡ false
 no-fixpoint-above f v h p = decode.fixpoint-high f v h p
-
--- the same as a test of the kind
-pub is-fixpoint : (f : List ℕ) (v : ℕ) → v < size f → isFixpoint (formulaNode f v) ≡ (leb 6 (kind f v) && leb (kind f v) 7)
-is-fixpoint f v h = go (decLt (kind f v) 6) (decLt 7 (kind f v))
-  where
-    go : Dec (kind f v < 6) → Dec (7 < kind f v) → isFixpoint (formulaNode f v) ≡ (leb 6 (kind f v) && leb (kind f v) 7)
-    go (yes l) b = decode.fixpoint-low f v h l ∙ rw (lt-leb 6 (kind f v) l)
-    go (no l) (yes b) = decode.fixpoint-high f v h b ∙ rw (le-leb 6 (kind f v) (omega arith), lt-leb (kind f v) 7 b)
-    go (no l) (no b) =
-        decode.fixpoint-yes f v h (omega arith) (omega arith) ∙ rw (le-leb 6 (kind f v) (omega arith), le-leb (kind f v) 7 (omega arith))
 
 -- a fixpoint is a node of the table
 pub fixpoint-inside : (f : List ℕ) (v : ℕ) → isFixpoint (formulaNode f v) ≡ true → v < size f

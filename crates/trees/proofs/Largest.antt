@@ -7,11 +7,6 @@ use native.Mathlib.Decide.{decLt}
 use native.Mathlib.Omega.{arith}
 use Rattle.rules.specs.Lists.{largest, In}
 
-pub largest-append : (xs ys : List ℕ) → largest (xs ++ ys) ≡ max (largest xs) (largest ys)
-unfolding largest
-largest-append [] ys = omega arith
-largest-append (a ∷ xs) ys = omega (arith, largest-append xs ys)
-
 pub largest-map-append : (g : ℕ → ℕ) (xs ys : List ℕ) → largest (map g (xs ++ ys)) ≡ max (largest (map g xs)) (largest (map g ys))
 unfolding largest
 largest-map-append g [] ys = omega arith

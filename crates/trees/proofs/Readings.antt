@@ -96,7 +96,7 @@ pub reading-most : (x : Input) (t i : ℕ) → reading x t i ≤ equationCount (
 unfolding reading
 reading-most x t i = reading-to-most (equationCount (x .formula)) x t i
 
-leastBit-most : (o : Operator) → leastBit o ≤ 1
+pub leastBit-most : (o : Operator) → leastBit o ≤ 1
 unfolding leastBit
 leastBit-most least = omega arith
 leastBit-most greatest = omega arith

@@ -13,7 +13,7 @@ use Rattle.rules.specs.Formula.{Formula, equationNumber, equationCount, equatio
 use Rattle.rules.specs.Depth.{references}
 use Rattle.rules.specs.Good.{GoodFormula}
 use Rattle.lists.proofs.Members.{in-either}
-use Rattle.trees.proofs.FormulaTrees.{formula-decoded, truth-tree, falsity-tree, conjunction-tree, disjunction-tree, box-tree, diamond-tree, fixpoint-tree, reference-tree}
+use Rattle.trees.proofs.FormulaTrees.{formula-decoded, truth-tree, falsity-tree, conjunction-tree, disjunction-tree, box-tree, diamond-tree}
 use Rattle.trees.proofs.Fixpoints.{fixpoint-at}
 use Rattle.trees.proofs.Equations.{number-below, referred-below, body-below}
 use Rattle.trees.proofs.Largest.{largest-map-append}
@@ -131,14 +131,3 @@ module _ (m : ℕ) (x : Input) (good : GoodFormula m (x .formula)) where
         go : Dec (kind (x .formula) v ≡ 4) → largest (map g (references (formulaTree x v))) ≡ largest (map g (references (formulaTree x (suc v))))
         go (yes e) = ap (λ (b : Formula). largest (map g (references b))) (box-tree m x good v h e)
         go (no d) = ap (λ (b : Formula). largest (map g (references b))) (diamond-tree m x good v h (omega arith))
-
-    pub fixpoint-largest : 6 ≤ kind (x .formula) v → kind (x .formula) v ≤ 7
-        → largest (map g (references (formulaTree x v))) ≡ g (equationNumber (x .formula) v)
-    unfolding references largest
-    fixpoint-largest p q = ap (λ (b : Formula). largest (map g (references b))) (fixpoint-tree m x good v h p q) ∙ omega arith
-
-    pub reference-largest : 8 ≤ kind (x .formula) v → largest (map g (references (formulaTree x v))) ≡ g (equationNumber (x .formula) (operand (x .formula) v))
-    unfolding references largest
-    reference-largest p =
-        let n = good .nodes v h .known in
-        ap (λ (b : Formula). largest (map g (references b))) (reference-tree m x good v h (omega arith)) ∙ omega arith

@@ -6,5 +6,5 @@ pub mod Reached
 pub mod Facts
 pub mod Only
 pub mod After
-pub mod Loops
+pub mod Pushes
 pub mod Rename

@@ -83,13 +83,6 @@ module _ {A : Type 0} {same : A → A → Bool} (eq : Equality same) (next : A �
       go f (inl i) = chain-longer next root k p (f p i)
       go f (inr i) = let r = in-targets (reachedIn same next root k) p i in more (f (r .0) (r .1)) (r .2)
 
-  chain-reached : (k : ℕ) (p : A) → ReachableIn next root k p → In p (reachedIn same next root k)
-  chain-reached k p none = reached-root k
-  chain-reached k p (more {k = j} {p = o} c m) = reached-next j o p (chain-reached j o c) m
-
-  pub reached-in : (k : ℕ) (p : A) → In p (reachedIn same next root k) ↔ ReachableIn next root k p
-  reached-in k p = (reached-chain k p, chain-reached k p)
-
   pub reached-reachable : (k : ℕ) (p : A) → In p (reachedIn same next root k) → Reachable next root p
   reached-reachable k p m = chain-reachable next root k p (reached-chain k p m)
 

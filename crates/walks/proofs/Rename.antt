@@ -71,9 +71,6 @@ module _ {A B : Type 0} {same : A → A → Bool} {same′ : B → B → Bool} (
       ∙ step-map (walk same next root k) (sound eq next root k)
       ∙ sym (ap (renamed f) (walk-step same next root k))
 
-  pub sum-map : (weight : B → ℕ) (k : ℕ) → sumSettled weight (f root) (walk same′ next′ (f root) k) ≡ sumSettled (λ p. weight (f p)) root (walk same next root k)
-  sum-map weight k = ap (sumSettled weight (f root)) (walk-map k) ∙ sum-renamed f weight root (walk same next root k)
-
   -- the places of reachable elements among reachable ones, so the edges, are the same
   pub places-map : (known ts : List A) → ((x : A) → In x known → Reachable next root x) → ((t : A) → In t ts → Reachable next root t)
       → places same′ (map f known) (map f ts) ≡ places same known ts
@@ -83,10 +80,6 @@ module _ {A B : Type 0} {same : A → A → Bool} {same′ : B → B → Bool} (
       ap₂ _∷_ (place-map eq eq′ f known t (λ x m e. alike t x (s t (inl refl)) (r x m) e)) (places-map known ts r (λ u m. s u (inr m)))
 
   -- ---- the reachable elements
-
-  pub reachable-map : (p : A) → Reachable next root p → Reachable next′ (f root) (f p)
-  reachable-map p atRoot = atRoot
-  reachable-map p (onward {p = o} r m) = onward (reachable-map o r) (subst (In (f p)) (sym (moved o r)) (map-in f p (next o) m))
 
   pub map-reachable : (b : B) → Reachable next′ (f root) b → (p : A) × Reachable next root p × (b ≡ f p)
   map-reachable b atRoot = (root, atRoot, refl)
@@ -114,10 +107,6 @@ module _ {A B : Type 0} {same : A → A → Bool} {same′ : B → B → Bool} (
       ∙ ap (insertAll same′ (map f found)) (targets-map found (reached-reachable eq next root k))
       ∙ inserts-map eq eq′ f (Reachable next root) alike found (allTargets same next root found) (reached-reachable eq next root k)
       (λ q m. let t = in-targets eq next root found q m in onward (reached-reachable eq next root k (t .0) (t .1)) (t .2))
-
-  -- as many are reachable
-  pub count-map : (k : ℕ) → length (reachedIn same′ next′ (f root) k) ≡ length (reachedIn same next root k)
-  count-map k = ap length (reached-map k) ∙ length-map (reachedIn same next root k) f
 
 -- ---- the relation `After`, which has no test
 

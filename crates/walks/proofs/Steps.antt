@@ -42,16 +42,6 @@ module _ {A : Type 0} (same : A → A → Bool) (next : A → List A) (root : A)
   unfolding step stepFrom
   step-none known = refl
 
-  pub step-settles : (known : List A) (v : ℕ) (rest : List ℕ) → step same next root (stateOf known (v ∷ rest)) ≡ settle same next root known v rest
-  unfolding step stepFrom
-  step-settles known v rest = refl
-
-  pub settle-is : (known : List A) (v : ℕ) (rest : List ℕ) → settle same next root known v rest
-      ≡ stateOf (insertAll same known (next (getD known v root)))
-      (pushNew (length known) (length (insertAll same known (next (getD known v root))) - length known) rest)
-  unfolding settle
-  settle-is known v rest = refl
-
   -- what holds at the start and is kept by a step holds of every walk
   pub walk-all : (P : State A → Type 0) → P (stateOf (root ∷ []) (0 ∷ [])) → ((st : State A) → P st → P (step same next root st)) → (k : ℕ) → P (walk same next root k)
   walk-all P start on zero = subst P (sym walk-start) start

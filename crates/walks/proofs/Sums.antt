@@ -1,7 +1,7 @@
 -- Sums over the settled vertices: a step adds the weight of the vertex that it settles, and no sum ever falls. Assumes nothing; that the test is equality is a parameter.
 use mathlib.Core.Path.{_≡_, refl, sym, ap, _∙_, subst}
 use mathlib.Core.Bool.{Bool, true, false, cond}
-use mathlib.Core.List.{List, [], _∷_, nil≢cons, head-eq-of-cons-eq}
+use mathlib.Core.List.{List, [], _∷_}
 use mathlib.Core.Logic.{inl, inr, ⊎-elim}
 use Prim.Native.Nat.{ℕ, zero, suc, _+_, _-_, _≤_, _<_}
 use native.Mathlib.Nat.{add-zero, add-suc, le-refl, le-trans}
@@ -135,21 +135,3 @@ module _ {A : Type 0} {same : A → A → Bool} (eq : Equality same) (next : A �
       rw (add-suc k j)
       (subst (λ (st : State A). sumSettled weight root (walk same next root k) ≤ sumSettled weight root st) (sym (walk-step same next root (k + j)))
       (le-trans (sum-walk k j) (sum-step (walk same next root (k + j)) (sound eq next root (k + j)))))
-
-  sum-from-suc : (known : List A) (waiting : List ℕ) (v : ℕ) (rest : List ℕ) → Sound next root known waiting → waiting ≡ v ∷ rest
-      → sumSettled weight root (stepFrom same next root known waiting) ≡ weight (getD known v root) + sumSettled weight root (stateOf known waiting)
-  unfolding stepFrom
-  sum-from-suc known [] v rest s e = absurd (nil≢cons e)
-  sum-from-suc known (u ∷ ws) v rest s e =
-      sum-settle known u ws s ∙ ap (λ (x : ℕ). weight (getD known x root) + sumSettled weight root (stateOf known (u ∷ ws))) (head-eq-of-cons-eq e)
-
-  -- a step adds the weight of the vertex that it settles
-  pub sum-step-suc : (st : State A) (v : ℕ) (rest : List ℕ) → Sound next root (st .known) (st .waiting) → st .waiting ≡ v ∷ rest
-      → sumSettled weight root (step same next root st) ≡ weight (getD (st .known) v root) + sumSettled weight root st
-  unfolding step
-  sum-step-suc st v rest s e = sum-from-suc (st .known) (st .waiting) v rest s e
-
-  pub sum-walk-suc : (k v : ℕ) (rest : List ℕ) → walk same next root k .waiting ≡ v ∷ rest
-      → sumSettled weight root (walk same next root (suc k)) ≡ weight (getD (walk same next root k .known) v root) + sumSettled weight root (walk same next root k)
-  sum-walk-suc k v rest e =
-      ap (sumSettled weight root) (walk-step same next root k) ∙ sum-step-suc (walk same next root k) v rest (sound eq next root k) e

@@ -1,28 +1,27 @@
 -- Where the nodes of an action formula stand in the words: its tree ends just past them, each of them passes 33 and 34, and the words read as the formula.
 -- Assumes nothing.
-use mathlib.Core.Path.{_≡_, refl, sym, ap, ap₂, _∙_, subst}
-use mathlib.Core.Bool.{Bool, true, false, not}
-use mathlib.Core.List.{List, [], _∷_, _++_}
-use mathlib.Core.Option.{Option, none, some}
-use Prim.Native.Nat.{ℕ, zero, suc, _+_, _-_, _≤_, _<_}
+use mathlib.Core.Path.{_≡_, refl, ap, ap₂, _∙_, subst}
+use mathlib.Core.Bool.{false, not}
+use mathlib.Core.List.{List, _++_}
+use mathlib.Core.Option.{Option, some}
+use Prim.Native.Nat.{ℕ, suc, _+_, _-_, _≤_, _<_}
 use native.Mathlib.Decide.{decLt, ℕ-discrete}
 use native.Mathlib.Omega.{arith}
 use lib.ListN.{length, length-append}
-use lib.Dec.{eqb, leb}
 use borrow.Author.Tests.{eq-eqb, lt-leb}
 use Rattle.rules.specs.Labels.{labelCount, multiset}
 use Rattle.rules.specs.Table.{size, kind, operand, actionChildren, treeEnd, isNotEnd}
-use Rattle.rules.specs.Actions.{Action, union, intersection, negation, multiAction, actionTree}
-use Rattle.rules.specs.Refusal.{differ, badActionOperand}
+use Rattle.rules.specs.Actions.{union, intersection, negation, multiAction, actionTree}
+use Rattle.rules.specs.Refusal.{badActionOperand}
 use Rattle.rules.specs.Good.{GoodActions}
 use Rattle.tables.specs.Ends.{treeAfter}
 use Rattle.tables.proofs.Ends.{end-leaf, end-one, end-two}
 use Rattle.tables.proofs.Decode.{action-children-none, action-children-one, action-children-two}
 use Rattle.tables.proofs.Operands.{action-zero, action-label, action-right, action-negated}
 use Rattle.trees.proofs.ActionTrees.{any-tree, never-tree, multi-tree, union-tree, intersection-tree, negation-tree}
-use Rattle.writing.specs.Nodes.{Node}
 use Rattle.writing.specs.ActionSyntax.{ActionSyntax, trueAction, falseAction, labelAction, unionAction, intersectionAction, negationAction, actionSize, writeAction, LabelsBelow, readAction}
 use Rattle.writing.proofs.Nodes.{Holds, holds-split}
+use Rattle.tables.proofs.Choices.{differ-no}
 
 -- as many nodes are written
 pub action-length : (t : ActionSyntax) (v : ℕ) → length (writeAction t v) ≡ actionSize t
@@ -49,11 +48,6 @@ action-some (negationAction a) = omega arith
 pub holds-two : (acts : List ℕ) (a b : ActionSyntax) (v : ℕ) → Holds (writeAction a (suc v) ++ writeAction b (suc v + actionSize a)) acts (suc v)
     → Holds (writeAction a (suc v)) acts (suc v) × Holds (writeAction b (suc v + actionSize a)) acts (suc v + actionSize a)
 holds-two acts a b v h = holds-split (writeAction a (suc v)) (writeAction b (suc v + actionSize a)) acts (suc v) (actionSize a) (action-length a (suc v)) h
-
--- a word that is as it should be
-pub same-not : (m n : ℕ) → m ≡ n → differ m n ≡ false
-unfolding differ
-same-not m n e = ap not (eq-eqb m n e)
 
 pub right-end : (r e : ℕ) (o : Option ℕ) → o ≡ some e → r ≡ e → isNotEnd r o ≡ false
 unfolding isNotEnd
@@ -112,7 +106,7 @@ module _ (acts : List ℕ) where
         go (no l) = right (omega arith) b
 
     fine-zero : (v : ℕ) → v < size acts → kind acts v ≤ 1 → operand acts v ≡ 0 → Fine ls v
-    fine-zero v h k o = (omega arith, action-zero ls acts v h k ∙ same-not (operand acts v) 0 o)
+    fine-zero v h k o = (omega arith, action-zero ls acts v h k ∙ differ-no o)
 
     fine-right : (a : ActionSyntax) (v : ℕ) → v < size acts → 3 ≤ kind acts v → kind acts v ≤ 4 → operand acts v ≡ suc v + actionSize a
         → Holds (writeAction a (suc v)) acts (suc v) → suc v + actionSize a ≤ size acts → Fine ls v
@@ -139,7 +133,7 @@ module _ (acts : List ℕ) where
         (λ i j. action-fine a (suc v) p (omega arith) (below .0) u i j)
         (λ i j. action-fine b (suc v + actionSize a) q (omega arith) (below .1) u i (omega arith)))
     action-fine (negationAction a) v (k, o, h) l below u =
-        fine-first v (v + suc (actionSize a)) u (omega arith, action-negated ls acts v (omega arith) k ∙ same-not (operand acts v) 0 o)
+        fine-first v (v + suc (actionSize a)) u (omega arith, action-negated ls acts v (omega arith) k ∙ differ-no o)
         (λ i j. action-fine a (suc v) h (omega arith) below u i (omega arith))
 
     -- ---- the words read as the formula

@@ -1,29 +1,28 @@
 -- Accepted words of action formulas are the writing of a row, and a row is written in its own way. Assumes nothing.
 use mathlib.Core.Path.{_≡_, refl, sym, ap, ap₂, _∙_, subst}
-use mathlib.Core.Bool.{Bool, true, false, not}
+use mathlib.Core.Bool.{true, false, not}
 use mathlib.Core.List.{List, [], _∷_, _++_}
-use mathlib.Core.Option.{Option, none, some, Option·some-injective}
+use mathlib.Core.Option.{some, Option·some-injective}
 use Prim.Native.Nat.{ℕ, zero, suc, _+_, _-_, _≤_, _<_}
 use native.Mathlib.Decide.{decLt, ℕ-discrete}
 use native.Mathlib.Omega.{arith}
-use lib.ListN.{length, getD}
-use lib.Dec.{eqb}
 use borrow.Author.Tests.{eqb-true}
 use Rattle.rules.specs.declared.Check.the-variants.{Passed}
 use Rattle.rules.specs.Labels.{labelCount}
 use Rattle.rules.specs.Answers.{faultIf}
 use Rattle.rules.specs.Table.{size, kind, operand, ActionNode, trueNode, falseNode, multiActionNode, unionNode, intersectionNode, negationNode, noActionNode, decodeAction}
 use Rattle.rules.specs.Table.{actionChildren, treeEnd, onRow}
-use Rattle.rules.specs.Refusal.{faultFrom, badActionOperand, refusal33, refusal34, differ}
-use Rattle.tables.specs.Ends.{endOf, onRowFrom}
+use Rattle.rules.specs.Refusal.{faultFrom, badActionOperand, refusal33, refusal34}
+use Rattle.tables.specs.Ends.{onRowFrom}
 use Rattle.tables.proofs.Ends.{end-bounds, end-leaf, end-one, end-number-some, row-done, row-step}
-use Rattle.tables.proofs.Decode.{action-children-none, action-children-one, action-children-two}
+use Rattle.tables.proofs.Decode.{action-children-none, action-children-one}
 use Rattle.tables.proofs.Operands.{action-zero, action-negated}
 use Rattle.tables.proofs.Faults.{from-passed, lower-both}
-use Rattle.tables.proofs.Accepted.{alike, actions-known, actions-row, actions-finished, actions-right, good-action-node}
+use Rattle.tables.proofs.Accepted.{actions-known, actions-finished, actions-right, good-action-node}
 use Rattle.writing.specs.ActionSyntax.{ActionSyntax, trueAction, falseAction, labelAction, unionAction, intersectionAction, negationAction, actionSize, writeAction, rowSize, writeRow, LabelsBelow, RowLabelsBelow}
 use Rattle.writing.proofs.Nodes.{Holds, holds-split, holds-join}
 use Rattle.writing.proofs.ActionNodes.{action-length, action-some, holds-two}
+use Rattle.tables.proofs.Choices.{differ-false}
 
 -- ---- accepted words
 
@@ -58,7 +57,7 @@ module _ (ls acts : List ℕ) (r33 : refusal33 acts ≡ Passed) (r34 : refusal34
         omega arith
 
     zero-operand : kind acts v ≤ 1 → operand acts v ≡ 0
-    zero-operand k = alike (operand acts v) 0 (sym (action-zero ls acts v inside k) ∙ right-operand v inside)
+    zero-operand k = differ-false (operand acts v) 0 (sym (action-zero ls acts v inside k) ∙ right-operand v inside)
 
     from-true : kind acts v ≡ 0 → ActionFrom (labelCount ls) acts v e
     unfolding writeAction actionSize
@@ -85,7 +84,7 @@ module _ (ls acts : List ℕ) (r33 : refusal33 acts ≡ Passed) (r34 : refusal34
           tree = negationAction (a .tree);
           below = a .below;
           ends = omega (arith, a .ends);
-          holds = (k, alike (operand acts v) 0 (sym (action-negated ls acts v inside k) ∙ right-operand v inside), a .holds);
+          holds = (k, differ-false (operand acts v) 0 (sym (action-negated ls acts v inside k) ∙ right-operand v inside), a .holds);
         }
 
     -- the nodes of the two operands of a union or an intersection

@@ -1,18 +1,17 @@
 -- A row of action formulas in the words: the first nodes of its trees, and all of its nodes. Assumes nothing.
 use mathlib.Core.Path.{_≡_, refl, sym, ap, ap₂, _∙_, subst}
-use mathlib.Core.Bool.{Bool, true, false}
-use mathlib.Core.List.{List, [], _∷_, _++_}
+use mathlib.Core.Bool.{true}
+use mathlib.Core.List.{List, [], _∷_}
 use Prim.Native.Nat.{ℕ, zero, suc, _+_, _-_, _≤_, _<_}
 use native.Mathlib.Decide.{decLt, ℕ-discrete}
 use native.Mathlib.Omega.{arith}
 use lib.ListN.{length, getD, length-append}
-use lib.Dec.{eqb}
 use borrow.Author.Tests.{eq-eqb, eqb-true}
 use Rattle.rules.specs.Labels.{labelCount}
-use Rattle.rules.specs.Table.{size, kind, operand, actionChildren, treeEnd, onRow}
-use Rattle.tables.specs.Ends.{endOf, onRowFrom}
+use Rattle.rules.specs.Table.{size, actionChildren}
+use Rattle.tables.specs.Ends.{onRowFrom}
 use Rattle.tables.proofs.Ends.{end-number-some, row-done, row-step}
-use Rattle.writing.specs.ActionSyntax.{ActionSyntax, trueAction, actionSize, writeAction, rowSize, writeRow, firstNode, LabelsBelow, RowLabelsBelow}
+use Rattle.writing.specs.ActionSyntax.{ActionSyntax, trueAction, actionSize, writeAction, rowSize, writeRow, firstNode, RowLabelsBelow}
 use Rattle.writing.proofs.Nodes.{Holds, holds-split}
 use Rattle.writing.proofs.ActionNodes.{action-length, action-some, action-ends, Fine, action-fine}
 

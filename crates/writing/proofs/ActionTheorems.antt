@@ -1,9 +1,9 @@
 -- Words are trees, for action formulas: the words of every row within the limits are accepted and read as the row; all accepted words are the words of a row,
 -- and of one only. Assumes nothing.
-use mathlib.Core.Path.{_≡_, refl, sym, ap, _∙_, subst}
-use mathlib.Core.Bool.{Bool, true, false, not, _||_}
-use mathlib.Core.List.{List, [], _∷_}
-use Prim.Native.Nat.{ℕ, zero, suc, _+_, _*_, _-_, _≤_, _<_}
+use mathlib.Core.Path.{_≡_, sym, ap, _∙_, subst}
+use mathlib.Core.Bool.{true, false, not, _||_}
+use mathlib.Core.List.{List}
+use Prim.Native.Nat.{ℕ, _+_, _*_, _-_, _≤_, _<_}
 use native.Mathlib.Omega.{arith}
 use lib.ListN.{length, getD}
 use lib.Dec.{eqb, ltb}
@@ -12,16 +12,15 @@ use Rattle.rules.specs.declared.Check.the-variants.{Passed}
 use Rattle.rules.specs.Words.{mostNodes}
 use Rattle.rules.specs.Labels.{labelCount}
 use Rattle.rules.specs.Answers.{faultIf}
-use Rattle.rules.specs.Table.{size, kind, operand, actionChildren, onRow}
+use Rattle.rules.specs.Table.{size, kind, actionChildren, onRow}
 use Rattle.rules.specs.Actions.{actionTree}
-use Rattle.rules.specs.Refusal.{differ, faultFrom, badActionOperand, refusal31, refusal32, refusal33, refusal34}
+use Rattle.rules.specs.Refusal.{differ, badActionOperand, refusal31, refusal32, refusal33, refusal34}
 use Rattle.rules.specs.Good.{GoodActions}
 use Rattle.tables.specs.Ends.{onRowFrom}
 use Rattle.tables.proofs.Ends.{row-start}
 use Rattle.tables.proofs.Faults.{if-false, from-none, lower-passed}
 use Rattle.tables.proofs.Accepted.{good-actions, actions-row}
-use Rattle.writing.specs.Nodes.{tableWords}
-use Rattle.writing.specs.ActionSyntax.{ActionSyntax, trueAction, actionSize, writeAction, rowSize, writeRow, rowWords, firstNode, RowFits, ActionsAccepted, readAction}
+use Rattle.writing.specs.ActionSyntax.{ActionSyntax, trueAction, writeAction, rowSize, writeRow, rowWords, firstNode, RowFits, ActionsAccepted, readAction}
 use Rattle.writing.proofs.Nodes.{Holds, table-size, table-length, table-holds, table-only}
 use Rattle.writing.proofs.ActionNodes.{action-reads}
 use Rattle.writing.proofs.ActionRows.{row-length, first-inside, first-below, row-tree, row-fine, row-end, row-first, row-only}

@@ -1,9 +1,8 @@
 -- Examples, computed: syntax trees as the words that document 01 hands over, and the equations of nested fixpoints. Assumes nothing.
 use mathlib.Core.Path.{_≡_, refl}
 use mathlib.Core.List.{List, [], _∷_}
-use Prim.Native.Nat.{ℕ}
 use Rattle.rules.specs.Actions.{anyAction}
-use Rattle.rules.specs.Formula.{Operator, least, greatest, Formula, conjunction, diamond, reference}
+use Rattle.rules.specs.Formula.{least, greatest, conjunction, diamond, reference}
 use Rattle.writing.specs.Nodes.{tableWords}
 use Rattle.writing.specs.ActionSyntax.{ActionSyntax, trueAction, labelAction, unionAction, negationAction, actionSize, writeAction, writeRow, rowWords, firstNode, readAction}
 use Rattle.writing.specs.FormulaSyntax.{FormulaSyntax, trueFormula, andFormula, boxFormula, diamondFormula, leastFormula, greatestFormula, referenceFormula}

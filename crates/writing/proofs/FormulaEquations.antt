@@ -1,24 +1,24 @@
 -- Where the nodes of a formula stand in the words, the words read as the formula: its bodies, and its equations in order. Assumes nothing.
-use mathlib.Core.Path.{_≡_, refl, sym, ap, ap₂, _∙_}
-use mathlib.Core.Bool.{Bool, true, false}
+use mathlib.Core.Path.{_≡_, sym, ap, ap₂, _∙_}
+use mathlib.Core.Bool.{false}
 use mathlib.Core.List.{List, [], _∷_, _++_, map, append-assoc, append-nil}
-use Prim.Native.Nat.{ℕ, zero, suc, _+_, _-_, _≤_, _<_}
+use Prim.Native.Nat.{ℕ, suc, _+_, _-_, _≤_, _<_}
 use native.Mathlib.Omega.{arith}
-use lib.ListN.{length, getD}
+use lib.ListN.{length}
 use Rattle.rules.specs.Words.{Input}
 use Rattle.rules.specs.Table.{size, kind, operand, formulaNode}
-use Rattle.rules.specs.Actions.{Action, actionTree}
+use Rattle.rules.specs.Actions.{actionTree}
 use Rattle.rules.specs.Formula.{Operator, least, greatest, Equation, isFixpoint, equationsBefore, equationNumber, Formula, conjunction, disjunction, box, diamond, reference, formulaTree, bodyTree}
 use Rattle.rules.specs.Good.{GoodFormula}
 use Rattle.lists.proofs.Members.{map-at, map-append}
 use Rattle.tables.proofs.Decode.{fixpoint-yes, fixpoint-low, fixpoint-high}
 use Rattle.trees.proofs.FormulaTrees.{truth-tree, falsity-tree, conjunction-tree, disjunction-tree, box-tree, diamond-tree, least-tree, greatest-tree, reference-tree}
 use Rattle.trees.proofs.Equations.{equations-same, equations-least, equations-greatest, number-same, number-more}
-use Rattle.writing.specs.ActionSyntax.{ActionSyntax, trueAction, firstNode, readAction}
+use Rattle.writing.specs.ActionSyntax.{ActionSyntax, firstNode}
 use Rattle.writing.specs.FormulaSyntax.{FormulaSyntax, trueFormula, falseFormula, andFormula, orFormula, boxFormula, diamondFormula, leastFormula, greatestFormula, referenceFormula}
 use Rattle.writing.specs.FormulaSyntax.{formulaSize, writeFormula, Names, fixpoints, beginsWithFixpoint, readTree, readFormula, readEquations}
 use Rattle.writing.proofs.Nodes.{Holds}
-use Rattle.writing.proofs.FormulaNodes.{formula-some, holds-both}
+use Rattle.writing.proofs.FormulaNodes.{holds-both}
 
 module _ (row : List ActionSyntax) where
   module _ (f : List ℕ) where

@@ -1,27 +1,26 @@
 -- Where the nodes of a formula stand in the words: its tree ends just past them, and each of them passes 43, 44 and 45. Assumes nothing.
-use mathlib.Core.Path.{_≡_, refl, sym, ap, ap₂, _∙_, subst}
-use mathlib.Core.Bool.{Bool, true, false, not, _&&_}
-use mathlib.Core.List.{List, [], _∷_, _++_}
-use mathlib.Core.Option.{Option, none, some}
+use mathlib.Core.Path.{_≡_, refl, ap, ap₂, _∙_, subst}
+use mathlib.Core.Bool.{true, false, not, _&&_}
+use mathlib.Core.List.{List, _∷_, _++_}
+use mathlib.Core.Option.{some}
 use Prim.Native.Nat.{ℕ, zero, suc, _+_, _-_, _≤_, _<_}
 use native.Mathlib.Decide.{decLt, ℕ-discrete}
 use native.Mathlib.Omega.{arith}
 use lib.ListN.{length, getD, length-append}
-use lib.Dec.{eqb, ltb}
-use borrow.Author.Tests.{eq-eqb, lt-ltb}
-use Rattle.rules.specs.Table.{size, kind, operand, formulaNode, formulaChildren, treeEnd, isNotEnd, isBeforeEnd}
+use borrow.Author.Tests.{lt-ltb}
+use Rattle.rules.specs.Table.{size, kind, operand, formulaNode, formulaChildren, treeEnd, isBeforeEnd}
 use Rattle.rules.specs.Formula.{isFixpoint}
-use Rattle.rules.specs.Refusal.{differ, namesNoTree, badFormulaOperand, encloses, wrongReference}
+use Rattle.rules.specs.Refusal.{namesNoTree, badFormulaOperand, encloses, wrongReference}
 use Rattle.tables.specs.Ends.{treeAfter}
 use Rattle.tables.proofs.Ends.{end-leaf, end-one, end-two}
 use Rattle.tables.proofs.Decode.{formula-children-none, formula-children-one, formula-children-two, formula-children-reference, fixpoint-yes}
 use Rattle.tables.proofs.Operands.{formula-zero, formula-right, formula-action, formula-fixpoint, formula-other, reference-other, reference-test}
-use Rattle.writing.specs.Nodes.{Node}
 use Rattle.writing.specs.ActionSyntax.{ActionSyntax, firstNode}
 use Rattle.writing.specs.FormulaSyntax.{FormulaSyntax, trueFormula, falseFormula, andFormula, orFormula, boxFormula, diamondFormula, leastFormula, greatestFormula, referenceFormula}
 use Rattle.writing.specs.FormulaSyntax.{formulaSize, writeFormula, Names}
 use Rattle.writing.proofs.Nodes.{Holds, holds-split}
-use Rattle.writing.proofs.ActionNodes.{same-not, right-end}
+use Rattle.writing.proofs.ActionNodes.{right-end}
+use Rattle.tables.proofs.Choices.{differ-no}
 
 pub formula-some : (t : FormulaSyntax) → 1 ≤ formulaSize t
 unfolding formulaSize
@@ -138,10 +137,10 @@ module _ (row : List ActionSyntax) where
           go (no l) = right (omega arith) b
 
       fine-zero : (v : ℕ) → v < size f → kind f v ≤ 1 → operand f v ≡ 0 → FineNode v
-      fine-zero v h k o = (omega arith, formula-zero acts f v h k ∙ same-not (operand f v) 0 o, reference-other f v h (omega arith))
+      fine-zero v h k o = (omega arith, formula-zero acts f v h k ∙ differ-no o, reference-other f v h (omega arith))
 
       fine-fixpoint : (v : ℕ) → v < size f → 6 ≤ kind f v → kind f v ≤ 7 → operand f v ≡ 0 → FineNode v
-      fine-fixpoint v h a b o = (omega arith, formula-fixpoint acts f v h a b ∙ same-not (operand f v) 0 o, reference-other f v h (omega arith))
+      fine-fixpoint v h a b o = (omega arith, formula-fixpoint acts f v h a b ∙ differ-no o, reference-other f v h (omega arith))
 
       fine-action : (i v : ℕ) → v < size f → 4 ≤ kind f v → kind f v ≤ 5 → i < length row → operand f v ≡ firstNode row i → FineNode v
       fine-action i v h a b l o = (omega arith, formula-action acts f v h a b ∙ ap (namesNoTree acts) o ∙ named i l, reference-other f v h (omega arith))

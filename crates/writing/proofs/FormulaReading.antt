@@ -1,7 +1,7 @@
 -- Accepted words of a formula are the writing of a closed formula, and a formula is written in its own way. Assumes nothing.
 use mathlib.Core.Path.{_≡_, refl, sym, ap, ap₂, _∙_, subst}
-use mathlib.Core.Bool.{Bool, true, false, cond, true≢false, false≢true}
-use mathlib.Core.Logic.{_⊎_, inl, inr}
+use mathlib.Core.Bool.{true, false, cond, true≢false, false≢true}
+use mathlib.Core.Logic.{inl, inr}
 use mathlib.Core.List.{List, [], _∷_, _++_}
 use mathlib.Core.Option.{Option, none, some, Option·some-injective}
 use Prim.Native.Nat.{ℕ, zero, suc, _+_, _-_, _≤_, _<_}
@@ -22,10 +22,10 @@ use Rattle.lists.proofs.Shapes.{falling-above, falling-distinct}
 use Rattle.lists.proofs.Equalities.{number-equality}
 use Rattle.tables.proofs.Ends.{end-bounds, end-leaf, end-one}
 use Rattle.tables.proofs.Finished.{tree-inside}
-use Rattle.tables.proofs.Decode.{formula-children-none, formula-children-one, formula-children-reference, fixpoint-low, fixpoint-yes}
+use Rattle.tables.proofs.Decode.{formula-children-none, formula-children-one, formula-children-reference, fixpoint-low}
 use Rattle.tables.proofs.Operands.{formula-zero, formula-fixpoint}
 use Rattle.tables.proofs.Faults.{from-passed, lower-both}
-use Rattle.tables.proofs.Accepted.{alike, formula-known, formula-right-child, formula-names, formula-refers}
+use Rattle.tables.proofs.Accepted.{formula-known, formula-right-child, formula-names, formula-refers}
 use Rattle.writing.specs.ActionSyntax.{ActionSyntax, actionSize, rowWords, firstNode}
 use Rattle.writing.specs.FormulaSyntax.{FormulaSyntax, trueFormula, falseFormula, andFormula, orFormula, boxFormula, diamondFormula, leastFormula, greatestFormula, referenceFormula}
 use Rattle.writing.specs.FormulaSyntax.{formulaSize, writeFormula, Names}
@@ -33,6 +33,7 @@ use Rattle.writing.proofs.Nodes.{Holds, holds-join}
 use Rattle.writing.proofs.ActionNodes.{action-some}
 use Rattle.writing.proofs.ActionTheorems.{only-first-nodes}
 use Rattle.writing.proofs.FormulaNodes.{formula-some, formula-length, holds-both}
+use Rattle.tables.proofs.Choices.{differ-false}
 
 -- ---- accepted words
 
@@ -102,10 +103,10 @@ module _ (row : List ActionSyntax) (f : List ℕ) (r43 : refusal43 f ≡ Passed)
         omega arith
 
     zero-operand : kind f v ≤ 1 → operand f v ≡ 0
-    zero-operand k = alike (operand f v) 0 (sym (formula-zero (rowWords row) f v inside k) ∙ right-operand v inside)
+    zero-operand k = differ-false (operand f v) 0 (sym (formula-zero (rowWords row) f v inside k) ∙ right-operand v inside)
 
     zero-fixpoint : 6 ≤ kind f v → kind f v ≤ 7 → operand f v ≡ 0
-    zero-fixpoint a b = alike (operand f v) 0 (sym (formula-fixpoint (rowWords row) f v inside a b) ∙ right-operand v inside)
+    zero-fixpoint a b = differ-false (operand f v) 0 (sym (formula-fixpoint (rowWords row) f v inside a b) ∙ right-operand v inside)
 
     from-true : kind f v ≡ 0 → FormulaFrom row f around v e
     unfolding writeFormula formulaSize

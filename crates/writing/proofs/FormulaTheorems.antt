@@ -1,24 +1,24 @@
 -- Words are trees, for formulas: the words of every closed formula within the limits are accepted, and their equations are the formula's; all accepted words
 -- are the words of a formula, and of one only. Assumes nothing.
 use mathlib.Core.Path.{_≡_, refl, sym, ap, ap₂, _∙_, subst}
-use mathlib.Core.Bool.{Bool, true, false, cond, not, _||_}
+use mathlib.Core.Bool.{Bool, true, false, cond, not}
 use mathlib.Core.List.{List, [], _∷_, _++_, map}
-use Prim.Native.Nat.{ℕ, zero, suc, _+_, _*_, _-_, _≤_, _<_}
+use Prim.Native.Nat.{ℕ, _+_, _*_, _-_, _≤_, _<_}
 use native.Mathlib.Omega.{arith}
-use lib.ListN.{length, getD}
-use lib.Dec.{eqb, ltb, leb}
+use lib.ListN.{length}
+use lib.Dec.{ltb}
 use borrow.Author.Tests.{le-ltb, lt-leb}
 use Rattle.rules.specs.declared.Check.{Check}
 use Rattle.rules.specs.declared.Check.the-variants.{Passed}
 use Rattle.rules.specs.Words.{Input, inputOf, mostNodes}
 use Rattle.rules.specs.Answers.{firstFault}
 use Rattle.rules.specs.Labels.{labelCount}
-use Rattle.rules.specs.Table.{size, kind, operand, actionChildren, formulaNode, formulaChildren, treeEnd, onRow}
-use Rattle.rules.specs.Formula.{Operator, least, Equation, Formula, isFixpoint, equations, equationsBefore, equationNumber, formulaTree, bodyTree}
+use Rattle.rules.specs.Table.{size, kind, formulaNode, formulaChildren, treeEnd}
+use Rattle.rules.specs.Formula.{least, Equation, Formula, isFixpoint, equations, equationsBefore, equationNumber, formulaTree, bodyTree}
 use Rattle.rules.specs.Refusal.{refusal31, refusal32, refusal33, refusal34}
-use Rattle.rules.specs.Refusal.{outside, faultFrom, namesNoTree, badFormulaOperand, wrongEnd, wrongReference, refusal41, refusal42, refusal43, refusal44, refusal45, inputRefusal}
+use Rattle.rules.specs.Refusal.{outside, namesNoTree, badFormulaOperand, wrongEnd, wrongReference, refusal41, refusal42, refusal43, refusal44, refusal45, inputRefusal}
 use Rattle.rules.specs.Good.{GoodFormula}
-use Rattle.tables.proofs.Faults.{if-false, from-none, lower-passed, first-passed, first-next, then-passed, then-both}
+use Rattle.tables.proofs.Faults.{if-false, from-none, lower-passed, first-passed, first-next, then-passed, then-both, first-none}
 use Rattle.tables.proofs.Accepted.{good-formula, formula-whole}
 use Rattle.trees.proofs.Equations.{start-fixpoint, start-placeholder, number-start, number-start-placeholder}
 use Rattle.writing.specs.ActionSyntax.{ActionSyntax, rowWords, firstNode, RowFits, ActionsAccepted}
@@ -170,10 +170,6 @@ both-pass (c ∷ cs) ds p q =
     let (a, b) = then-both c (firstFault cs) p in
     then-passed (firstFault (cs ++ ds)) a ∙ both-pass cs ds b q
 
-none-fails : firstFault [] ≡ Passed
-unfolding firstFault
-none-fails = refl
-
 pass-more : (c : Check) (cs : List Check) → c ≡ Passed → firstFault cs ≡ Passed → firstFault (c ∷ cs) ≡ Passed
 pass-more c cs p q = first-next cs p ∙ q
 
@@ -191,7 +187,7 @@ written-input-accepted x h w =
     ∷ refusal41 (x .formula) ∷ refusal42 (x .formula) ∷ refusal43 (x .formula) ∷ refusal44 (x .actions) (x .formula) ∷ refusal45 (x .formula) ∷ [])
     h
     (pass-more _ _ (a .long) (pass-more _ _ (a .few) (pass-more _ _ (a .kinds) (pass-more _ _ (a .operands)
-    (pass-more _ _ (f .long) (pass-more _ _ (f .few) (pass-more _ _ (f .kinds) (pass-more _ _ (f .operands) (pass-more _ _ (f .references) none-fails)))))))))
+    (pass-more _ _ (f .long) (pass-more _ _ (f .few) (pass-more _ _ (f .kinds) (pass-more _ _ (f .operands) (pass-more _ _ (f .references) first-none)))))))))
 
 -- every input that is not refused is written: its words are those of a row and a closed formula, and the run goes by their equations
 pub accepted-input-is-written : (x : Input) → inputRefusal x ≡ Passed → Written x

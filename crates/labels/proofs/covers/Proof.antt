@@ -1,7 +1,7 @@
 -- `covers` meets its contract. At the places that the loop passed the counts are equal. Assumes nothing.
 use mathlib.Core.Path.{_≡_, sym}
 use mathlib.Core.Bool.{true}
-use Prim.Native.Nat.{ℕ, _+_, _-_, _≤_, _<_}
+use Prim.Native.Nat.{_-_, _≤_}
 use native.Mathlib.Omega.{arith}
 use Rattle.labels.specs.Stretches.{covered}
 use Rattle.labels.proofs.Stretched.{covered-none, covered-more, covered-not}

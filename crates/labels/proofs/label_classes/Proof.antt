@@ -1,12 +1,11 @@
 -- `label_classes` meets its contract. The entries of the labels that the loop passed are written, and label l starts at b. Assumes nothing.
 use mathlib.Core.Path.{_≡_, refl, _∙_}
-use Prim.Native.Nat.{ℕ, _+_, _-_, _≤_, _<_}
+use Prim.Native.Nat.{ℕ, _-_, _≤_, _<_}
 use native.Mathlib.Omega.{arith}
 use lib.ListN.{length, length-set}
 use Rattle.rules.specs.Lists.{word}
 use Rattle.rules.specs.Labels.{labelCount, multiset}
 use Rattle.labels.specs.Stretches.{Starts}
-use Rattle.labels.specs.Classes.{Classes}
 use Rattle.labels.proofs.Stretched.{starts-first}
 use Rattle.labels.proofs.Tables.{entry-more}
 use borrow.Author.Needs.{needs}

@@ -4,8 +4,6 @@ use Prim.Native.Nat.{ℕ, _+_, _-_, _≤_, _<_}
 use native.Mathlib.Omega.{arith}
 use borrow.Author.Count.{below-more}
 use Rattle.rules.specs.Labels.{labelAt, actionCount}
-use Rattle.rules.specs.Good.{GoodLabels}
-use Rattle.labels.specs.Stretches.{Starts, Stretch}
 use borrow.Author.Needs.{needs}
 use Rattle.labels.proofs.stretch_end.Statement.{statement}
 use Rattle.labels.proofs.stretch_end.Tie as tie

@@ -1,7 +1,7 @@
 -- `times_in` meets its contract. The loop has counted the places that it passed. Assumes nothing.
 use mathlib.Core.Path.{_≡_, sym, _∙_}
 use mathlib.Core.Logic.{⊎-elim}
-use Prim.Native.Nat.{ℕ, _+_, _-_, _≤_, _<_}
+use Prim.Native.Nat.{_-_, _≤_}
 use native.Mathlib.Omega.{arith}
 use Rattle.labels.specs.Stretches.{timesIn}
 use Rattle.labels.proofs.Stretched.{times-none, times-hit, times-miss}

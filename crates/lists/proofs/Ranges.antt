@@ -1,4 +1,4 @@
--- The numbers i, i + 1, .. : which they are, how many, one more, and a search among them. Assumes nothing.
+-- The numbers i, i + 1, .. : which they are, how many, which stands where, one more, and a search among them. Assumes nothing.
 use mathlib.Core.Path.{_≡_, refl, ap, ap₂, _∙_}
 use mathlib.Core.Logic.{inl, inr}
 use mathlib.Core.List.{List, [], _∷_, _++_}
@@ -6,13 +6,19 @@ use mathlib.Core.Bool.{Bool, cond}
 use Prim.Native.Nat.{ℕ, zero, suc, _+_, _≤_, _<_}
 use native.Mathlib.Decide.{ℕ-discrete}
 use native.Mathlib.Omega.{arith}
-use lib.ListN.{length}
+use lib.ListN.{length, getD}
 use Rattle.rules.specs.Lists.{In, from, seek}
 
 pub from-length : (i n : ℕ) → length (from i n) ≡ n
 unfolding from
 from-length i zero = refl
 from-length i (suc n) = ap suc (from-length (suc i) n)
+
+pub from-at : (i n v d : ℕ) → v < n → getD (from i n) v d ≡ i + v
+unfolding from
+from-at i zero v d h = absurd (omega arith)
+from-at i (suc n) zero d h = omega arith
+from-at i (suc n) (suc v) d h = omega (arith, from-at (suc i) n v d (omega arith))
 
 pub from-in : (v i n : ℕ) → i ≤ v → v < i + n → In v (from i n)
 unfolding from
