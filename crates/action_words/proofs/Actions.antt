@@ -17,7 +17,8 @@ use Rattle.rules.specs.Table.{size, kind, operand, actionNode, actionChildren, 
 use Rattle.rules.specs.Refusal.{faultFrom, differ, wrongActionOperand, badActionOperand, refusal31, refusal32, refusal33, refusal34}
 use Rattle.tables.proofs.Faults.{if-true, if-false, if-passed, first-passed}
 use Rattle.tables.proofs.Decode.{action-true, action-false, action-multi, action-union, action-intersection, action-negation, action-none}
-use Rattle.faults.proofs.Choices.{or-left, or-right, or-none, or-false, differ-yes, differ-no, differ-false}
+use Rattle.lists.proofs.Tests.{or-left, or-right, or-none, or-false}
+use Rattle.tables.proofs.Choices.{differ-yes, differ-no, differ-false}
 use Rattle.table_words.specs.Tables.{Sized, Firsts}
 
 module _ (acts : List ℕ) where

@@ -15,8 +15,8 @@ fn bad_operand(labels: &[u32], acts: &[u32], ends: &[usize; 1026], v: usize) -> 
     requires { ⌜ Ends (actionChildren (now acts)) (size (now acts)) (now ends) ⌝ }
     ensures { λ r. ⌜ r ≡ badActionOperand (now (labels .entry)) (now (acts .entry)) v ⌝ }
 {
-    let kind = table_words::kind_at(acts, v);
-    let operand = table_words::operand_at(acts, v);
+    let kind = words::kind_at(acts, v);
+    let operand = words::operand_at(acts, v);
     if kind < 2 {
         return operand != 0;
     }

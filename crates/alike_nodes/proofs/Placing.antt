@@ -11,9 +11,9 @@ use lib.ListN.{length, set, length-set}
 use lib.Seq.{getD-set-same, getD-set-other}
 use borrow.Author.Tests.{eq-eqb, ne-eqb, eqb-true, lt-ltb, le-ltb}
 use Rattle.rules.specs.Lists.{word, seek}
-use Rattle.lists.proofs.Places.{seek-from, seek-within, seek-holds, seek-before, seek-at, seek-nowhere}
-use Rattle.arena.proofs.Alike.{and-true}
+use Rattle.lists.proofs.Places.{seek-from, seek-holds, seek-before, seek-at, seek-nowhere}
 use Rattle.alike_nodes.specs.Nodes.{Last, Numbered, shownBy, numberOf}
+use Rattle.lists.proofs.Tests.{and-true}
 
 -- ---- the test of the words
 

@@ -2,12 +2,12 @@
 // first, so that a node's children have their numbers already and two nodes are compared by three words each.
 use words::at;
 ghost use mathlib.Core.Path.{_≡_};
-ghost use Prim.Native.Nat.{_+_, _*_, _-_, _≤_, _<_};
+ghost use Prim.Native.Nat.{_+_, _-_, _≤_, _<_};
 ghost use lib.ListN.{length, set};
 ghost use Rattle.rules.specs.Lists.{seek};
 ghost use Rattle.rules.specs.Words.{inputOf};
 ghost use Rattle.rules.specs.Labels.{labelCount};
-ghost use Rattle.rules.specs.Table.{size, kind, operand};
+ghost use Rattle.rules.specs.Table.{size};
 ghost use Rattle.rules.specs.Actions.{actionTree};
 ghost use Rattle.rules.specs.Formula.{formulaTree};
 ghost use Rattle.rules.specs.Good.{GoodActions, GoodInput};
@@ -19,25 +19,6 @@ pub struct Shape {
     pub kind: u32,
     pub left: u32,
     pub right: u32,
-}
-
-// The kind of a node.
-fn kind_at(table: &[u32], node: usize) -> u32
-    requires { ⌜ length (now table) ≡ 1 + 2 * size (now table) ⌝ }
-    requires { ⌜ node < size (now table) ⌝ }
-    ensures { λ r. ⌜ r ≡ kind (now (table .entry)) node ⌝ }
-{
-    table[1 + node]
-}
-
-// The operand of a node.
-fn operand_at(table: &[u32], node: usize) -> usize
-    requires { ⌜ length (now table) ≡ 1 + 2 * size (now table) ⌝ }
-    requires { ⌜ node < size (now table) ⌝ }
-    ensures { λ r. ⌜ r ≡ operand (now (table .entry)) node ⌝ }
-{
-    let n = at(table, 0);
-    at(table, 1 + n + node)
 }
 
 // The shape of a node of the action formulas, where `numbers` has the later nodes.
@@ -54,7 +35,7 @@ fn action_shape(
     requires { ⌜ Numbered (actionTree (now labels) (now actions)) (size (now actions)) (node + 1) (now numbers) ⌝ }
     ensures { λ r. ⌜ ActionShown (Last (actionTree (now (labels .entry)) (now (actions .entry))) (size (now (actions .entry)))) (actionTree (now (labels .entry)) (now (actions .entry)) node) (r .kind) (r .left) (r .right) ⌝ }
 {
-    let k = kind_at(actions, node);
+    let k = words::kind_at(actions, node) as u32;
     if k <= 1 {
         return Shape {
             kind: k,
@@ -62,7 +43,7 @@ fn action_shape(
             right: 0,
         };
     }
-    let o = operand_at(actions, node);
+    let o = words::operand_at(actions, node);
     if k == 2 {
         return Shape {
             kind: k,
@@ -102,7 +83,7 @@ pub fn formula_shape(
     requires { ⌜ (node < size (now formula)) × (size (now formula) ≤ length (now numbers)) ⌝ }
     ensures { λ r. ⌜ FormulaShown (Later (formulaTree (inputOf (now (labels .entry)) (now (system .entry)) (now (actions .entry)) (now (formula .entry)))) (size (now (formula .entry))) node (now (numbers .entry))) (Last (actionTree (now (labels .entry)) (now (actions .entry))) (size (now (actions .entry)))) (formulaTree (inputOf (now (labels .entry)) (now (system .entry)) (now (actions .entry)) (now (formula .entry))) node) (r .kind) (r .left) (r .right) ⌝ }
 {
-    let k = kind_at(formula, node);
+    let k = formula_reader::kind_at(formula, node) as u32;
     if k <= 1 {
         return Shape {
             kind: k,
@@ -118,7 +99,7 @@ pub fn formula_shape(
                 right: 0,
             };
         }
-        let fixpoint = operand_at(formula, node);
+        let fixpoint = formula_reader::operand_at(formula, node);
         return Shape {
             kind: 8,
             left: equations[fixpoint],
@@ -126,7 +107,7 @@ pub fn formula_shape(
         };
     }
     let left = numbers[node + 1];
-    let o = operand_at(formula, node);
+    let o = formula_reader::operand_at(formula, node);
     if k <= 3 {
         return Shape {
             kind: k,

@@ -44,7 +44,7 @@ use denote.Triple.Clauses.{Clauses, closing, ensured, lasts}
 use Rattle.formula_reader.specs.declared.FormulaReader.{FormulaReader}
 use Rattle.formula_reader.proofs.FormulaReader as T
 use Rattle.formula_reader.proofs.FormulaReader.Laws as T′
-use Rattle.formula_reader.proofs.kind_of as of
+use Rattle.words.proofs.kind_at as of
 use Rattle.formula_reader.proofs.kind as on
 
 -- the struct's type, over the signature's lifetimes

@@ -17,7 +17,8 @@ use Rattle.rules.specs.Refusal.{faultFrom, differ, namesNoTree, wrongFormulaOpe
 use Rattle.tables.specs.Ends.{endOf}
 use Rattle.tables.proofs.Faults.{if-true, if-false}
 use Rattle.tables.proofs.Decode.{formula-truth, formula-falsity, formula-and, formula-or, formula-box, formula-diamond, formula-least, formula-greatest, formula-reference, formula-none}
-use Rattle.faults.proofs.Choices.{or-left, or-right, or-none, differ-yes, differ-no, below-outside, above-outside, inside}
+use Rattle.lists.proofs.Tests.{or-left, or-right, or-none}
+use Rattle.tables.proofs.Choices.{differ-yes, differ-no, below-outside, above-outside, inside}
 use Rattle.table_words.specs.Tables.{Firsts}
 
 module _ (f : List ℕ) where

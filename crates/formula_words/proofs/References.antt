@@ -14,6 +14,7 @@ use Rattle.rules.specs.Refusal.{encloses, wrongReference, refusal45, faultFrom}
 use Rattle.tables.specs.Ends.{endOf}
 use Rattle.tables.proofs.Decode.{formula-reference, reference-kind, fixpoint-yes, fixpoint-low, fixpoint-high}
 use Rattle.tables.proofs.Ends.{before-end-finished, before-end-unfinished}
+use Rattle.lists.proofs.Tests.{and-false}
 
 pub references-45 : (f : List ℕ) → refusal45 f ≡ faultFrom 45 0 (size f) (λ v. wrongReference f v (formulaNode f v))
 unfolding refusal45
@@ -43,13 +44,9 @@ module _ (f : List ℕ) (v k : ℕ) (h : v < size f) (q : k ≡ kind f v) where
     unfolding wrongReference
     refers = rw (formula-reference f v h (omega arith), o)
 
-    and-no : (x : Bool) {y : Bool} → y ≡ false → true ≡ not (x && y)
-    and-no true e = rw e
-    and-no false e = refl
-
     pub later : v ≤ u → true ≡ wrongReference f v (formulaNode f v)
     unfolding encloses
-    later l = and-no (isFixpoint (formulaNode f u)) (rw (le-ltb u v l) refl) ∙ sym refers
+    later l = ap not (sym (and-false (isFixpoint (formulaNode f u)) (rw (le-ltb u v l) refl))) ∙ sym refers
 
     module _ (l : u < v) (j : ℕ) (i : j ≡ kind f u) where
       pub low : j < 6 → true ≡ wrongReference f v (formulaNode f v)
@@ -63,7 +60,7 @@ module _ (f : List ℕ) (v k : ℕ) (h : v < size f) (q : k ≡ kind f v) where
         pub broken : n < e → true ≡ wrongReference f v (formulaNode f v)
         unfolding encloses
         broken c =
-            and-no (isFixpoint (formulaNode f u)) (rw (lt-ltb u v l) (before-end-unfinished (formulaChildren f) (size f) v u (omega arith))) ∙ sym refers
+            ap not (sym (and-false (isFixpoint (formulaNode f u)) (rw (lt-ltb u v l) (before-end-unfinished (formulaChildren f) (size f) v u (omega arith))))) ∙ sym refers
 
         pub whole : e ≤ n → leb e v ≡ wrongReference f v (formulaNode f v)
         unfolding encloses

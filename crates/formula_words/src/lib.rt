@@ -3,7 +3,6 @@ use rules::Check;
 ghost use mathlib.Core.Path.{_≡_};
 ghost use mathlib.Core.List.{[], _∷_};
 ghost use Prim.Native.Nat.{_<_};
-ghost use lib.ListN.{length};
 ghost use Rattle.rules.specs.Answers.{firstFault};
 ghost use Rattle.rules.specs.Table.{size, actionChildren, formulaChildren, formulaNode};
 ghost use Rattle.rules.specs.Refusal.{namesNoTree, badFormulaOperand, wrongReference, refusal41, refusal42, refusal43, refusal44, refusal45};
@@ -32,8 +31,8 @@ fn bad_operand(
     requires { ⌜ Sized (now f) × (v < size (now f)) × Ends (formulaChildren (now f)) (size (now f)) (now ends) ⌝ }
     ensures { λ r. ⌜ r ≡ badFormulaOperand (now (acts .entry)) (now (f .entry)) v ⌝ }
 {
-    let kind = table_words::kind_at(f, v);
-    let operand = table_words::operand_at(f, v);
+    let kind = formula_reader::kind_at(f, v);
+    let operand = formula_reader::operand_at(f, v);
     if kind < 2 {
         return operand != 0;
     }
@@ -78,14 +77,14 @@ fn bad_reference(f: &[u32], ends: &[usize; 1026], v: usize) -> bool
     requires { ⌜ Sized (now f) × (v < size (now f)) × Ends (formulaChildren (now f)) (size (now f)) (now ends) ⌝ }
     ensures { λ r. ⌜ r ≡ wrongReference (now (f .entry)) v (formulaNode (now (f .entry)) v) ⌝ }
 {
-    if table_words::kind_at(f, v) != 8 {
+    if formula_reader::kind_at(f, v) != 8 {
         return false;
     }
-    let u = table_words::operand_at(f, v);
+    let u = formula_reader::operand_at(f, v);
     if v <= u {
         return true;
     }
-    let kind = table_words::kind_at(f, u);
+    let kind = formula_reader::kind_at(f, u);
     if kind < 6 {
         return true;
     }

@@ -1,19 +1,20 @@
 -- The offsets and the targets of the shown vertices, one vertex at a time. They are the same whatever the item table says. Assumes nothing.
 use mathlib.Core.Path.{_≡_, refl, sym, ap, _∙_}
 use mathlib.Core.List.{List, [], _∷_, _++_, map}
-use Prim.Native.Nat.{ℕ, zero, suc, _+_, _-_, _*_, _≤_, _<_}
+use Prim.Native.Nat.{ℕ, zero, suc, _+_, _-_, _≤_, _<_}
 use native.Mathlib.Numerals.{add-one}
 use native.Mathlib.Omega.{arith}
-use lib.ListN.{length, set, length-append, length-map}
+use lib.ListN.{length, set, length-map}
 use Rattle.rules.specs.Lists.{word, from, sum, sumWords}
 use Rattle.rules.specs.Game.{Vertex, edgeCount, offsets, edgeTargets}
 use Rattle.words.specs.Regions.{region}
 use Rattle.words.specs.Stretches.{Wrote}
 use Rattle.words.proofs.Stretches.{Writing, start, turn, put, called, done}
 use Rattle.games.proofs.Reading.{length-offsets, length-targets}
-use Rattle.game_writer.specs.Shown.{startIn, countIn, shownEdges, shownVertex, shownVertices, EdgesWithin}
+use Rattle.game_writer.specs.Shown.{countIn, shownEdges, shownVertex, shownVertices, EdgesWithin}
 use Rattle.game_writer.proofs.Vertices.{edges-length}
-use Rattle.game_writer.proofs.Rows.{from-all, from-more, from-none, from-length}
+use Rattle.game_writer.proofs.Rows.{from-all, from-more, from-none}
+use Rattle.lists.proofs.Ranges.{from-length}
 
 -- the sum of the counts of the vertices below u
 abbrev pub below : List ℕ → ℕ → ℕ → ℕ

@@ -1,13 +1,14 @@
 -- A word for each of the first n vertices, written from left to right. Assumes nothing.
 use mathlib.Core.Path.{_≡_, refl, sym, ap, _∙_}
 use mathlib.Core.List.{List, [], _∷_, map}
-use Prim.Native.Nat.{ℕ, zero, suc, _+_, _-_, _≤_, _<_}
+use Prim.Native.Nat.{ℕ, suc, _+_, _-_, _≤_, _<_}
 use native.Mathlib.Numerals.{add-one}
 use native.Mathlib.Omega.{arith}
 use lib.ListN.{length, set, length-map}
 use Rattle.rules.specs.Lists.{from}
 use Rattle.words.specs.Stretches.{Wrote}
 use Rattle.words.proofs.Stretches.{Writing, start, turn, put, done}
+use Rattle.lists.proofs.Ranges.{from-length}
 
 -- ---- the numbers from u up to n
 
@@ -25,11 +26,6 @@ from-more n u h =
 pub from-none : (n u : ℕ) → n ≤ u → from u (n - u) ≡ []
 unfolding from
 from-none n u h = let e : n - u ≡ 0 = omega arith in ap (from u) e
-
-pub from-length : (u n : ℕ) → length (from u n) ≡ n
-unfolding from
-from-length u zero = refl
-from-length u (suc n) = ap suc (from-length (suc u) n)
 
 -- ---- a word for each of them
 

@@ -1,20 +1,20 @@
 -- What is shown of one vertex: its owner, priority and edges, by its count of edges and its first edge; and that this is the waiting or the settled vertex of the
 -- rules. Assumes nothing.
 use mathlib.Core.Path.{_≡_, refl, sym, ap, _∙_, subst}
-use mathlib.Core.List.{List, [], _∷_, append-nil}
+use mathlib.Core.List.{List, [], append-nil}
 use Prim.Native.Nat.{ℕ, zero, suc, _+_, _-_, _*_, _≤_, _<_}
 use native.Mathlib.Omega.{arith}
 use lib.ListN.{length, take, drop, length-drop}
-use lib.Seq.{slice, take-add, take-take, drop-drop, drop-at, getD-take, getD-drop, length-take-le}
+use lib.Seq.{slice, take-add, drop-at, length-take-le}
 use borrow.Author.Tests.{eq-eqb, ne-eqb}
 use Rattle.player.specs.Player.{playerIndex}
 use Rattle.player.specs.declared.Player.{Player}
-use Rattle.player.specs.declared.Player.the-variants.{Even, Odd}
+use Rattle.player.specs.declared.Player.the-variants.{Odd}
 use Rattle.rules.specs.Lists.{word}
-use Rattle.rules.specs.Game.{Vertex, waitingVertex, stuckPriority, settledVertex}
+use Rattle.rules.specs.Game.{stuckPriority}
 use Rattle.words.specs.Stretches.{Wrote}
 use Rattle.item_table.specs.Entries.{kindOwner}
-use Rattle.game_writer.specs.Shown.{itemIn, startIn, countIn, shownPlayer, shownOwner, shownPriority, shownEdges, shownVertex}
+use Rattle.game_writer.specs.Shown.{itemIn, startIn, countIn, shownPlayer, shownOwner, shownPriority, shownEdges}
 
 -- no item has a kind past 8
 pub kind-past : (k : ℕ) → 8 < k → kindOwner k ≡ Odd
@@ -106,53 +106,3 @@ module _ (w : List ℕ) (v u : ℕ) where
       go zero k = refl
       go (suc c) k =
           length-take-le (suc c) (drop (8 * v + startIn w v u) w) (omega (arith, k (omega arith), length-drop (8 * v + startIn w v u) w))
-
-  -- the same in the first m words of the buffer
-  pub shown-row : (m : ℕ) → 8 * v + m ≤ length w → startIn w v u + countIn w v u ≤ m
-      → take (countIn w v u) (drop (startIn w v u) (take m (drop (8 * v) w))) ≡ shownEdges w v u
-  unfolding shownEdges
-  shown-row m h k =
-      let s : ℕ = startIn w v u in
-      let c : ℕ = countIn w v u in
-      let buffer : List ℕ = drop (8 * v) w in
-      let e : m ≡ s + (m - s) = omega arith in
-      let l : s ≤ length buffer = omega (arith, length-drop (8 * v) w) in
-      ap (λ (n : ℕ). take c (drop s (take n buffer))) e
-      ∙ ap (λ (r : List ℕ). take c (drop s r)) (take-add s (m - s) buffer)
-      ∙ ap (take c) (drop-at (take s buffer) (take (m - s) (drop s buffer)) s (length-take-le s buffer l))
-      ∙ take-take c (m - s) (drop s buffer) (omega arith)
-      ∙ ap (take c) (drop-drop s (8 * v) w)
-
-  -- the first of them
-  some-edge : (t : ℕ) (ts : List ℕ) → shownEdges w v u ≡ t ∷ ts → (¬ (countIn w v u ≡ 0)) × (word w (8 * v + startIn w v u) ≡ t)
-  unfolding shownEdges
-  some-edge t ts e = (λ z. omega (arith, ap length (sym (edges-none z) ∙ e)), go (countIn w v u) e)
-    where
-      go : (c : ℕ) → take c (drop (8 * v + startIn w v u) w) ≡ t ∷ ts → word w (8 * v + startIn w v u) ≡ t
-      go zero f = absurd (omega (arith, ap length f))
-      go (suc c) f =
-          let z : 8 * v + startIn w v u + 0 ≡ 8 * v + startIn w v u = omega arith in
-          sym (getD-take (suc c) (drop (8 * v + startIn w v u) w) 0 0 (omega arith) ∙ getD-drop (8 * v + startIn w v u) w 0 0 ∙ ap (word w) z)
-          ∙ ap (λ (l : List ℕ). word l 0) f
-
--- ---- the vertex as the rules have it
-
-module _ (kinds priorities w : List ℕ) (v u : ℕ) where
-  pub shown-waiting : countIn w v u ≡ 0 → shownVertex kinds priorities w v u ≡ waitingVertex
-  unfolding shownVertex waitingVertex
-  shown-waiting e = rw (owner-waits kinds w v u e, priority-waits kinds priorities w v u e, edges-none w v u e) refl
-
-  -- an edge to itself stands for no targets
-  pub shown-stuck : shownEdges w v u ≡ u ∷ [] → shownVertex kinds priorities w v u ≡ settledVertex u (shownPlayer kinds w v u) (word priorities (itemIn w v u)) []
-  unfolding shownVertex settledVertex
-  shown-stuck e =
-      let s = some-edge w v u u [] e in
-      rw (owner-settled kinds w v u (s .0), priority-stuck kinds priorities w v u (s .0) (s .1), e) refl
-
-  -- other edges stand as they are
-  pub shown-moves : (t : ℕ) (ts : List ℕ) → shownEdges w v u ≡ t ∷ ts → (¬ (t ≡ u))
-      → shownVertex kinds priorities w v u ≡ settledVertex u (shownPlayer kinds w v u) (word priorities (itemIn w v u)) (t ∷ ts)
-  unfolding shownVertex settledVertex
-  shown-moves t ts e d =
-      let s = some-edge w v u t ts e in
-      rw (owner-settled kinds w v u (s .0), priority-ranked kinds priorities w v u (s .0) (λ f. d (sym (s .1) ∙ f)), e) refl

@@ -1,7 +1,7 @@
 -- The whole game: what it asks for, and its stretches one after the other. Assumes nothing.
 use mathlib.Core.Path.{_≡_, refl, sym, ap, _∙_}
 use mathlib.Core.List.{List, [], _∷_, _++_, map}
-use Prim.Native.Nat.{ℕ, _+_, _*_, _≤_, _<_}
+use Prim.Native.Nat.{ℕ, _+_}
 use native.Mathlib.Omega.{arith}
 use lib.ListN.{length, length-map}
 use Rattle.rules.specs.Lists.{from, sumWords}
@@ -9,8 +9,8 @@ use Rattle.rules.specs.Game.{Vertex, offsets, edgeTargets, gameOf}
 use Rattle.words.specs.Regions.{region}
 use Rattle.parity_game.proofs.Stretches.{game-stretches}
 use Rattle.game_writer.specs.Shown.{shownOwner, shownPriority, shownVertex, shownVertices, Placed, ItemsWithin, EdgesWithin, Showable}
-use Rattle.game_writer.proofs.Rows.{from-length}
 use Rattle.game_writer.proofs.Edges.{total}
+use Rattle.lists.proofs.Ranges.{from-length}
 
 -- ---- what the parts ask for
 

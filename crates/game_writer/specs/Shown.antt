@@ -13,12 +13,13 @@ use Rattle.rules.specs.Lists.{word, from, sumWords}
 use Rattle.rules.specs.Game.{Vertex, stuckPriority}
 use Rattle.words.specs.Regions.{region}
 use Rattle.item_table.specs.Entries.{kindOwner}
+use Rattle.pairs.specs.Table.{itemAt}
 
 -- ---- one vertex. The regions have v words each, and the edge buffer stands behind the eight of them
 
 -- the item of vertex u, where its edges begin in the buffer, and how many they are
 abbrev pub itemIn : List ℕ → ℕ → ℕ → ℕ
-itemIn w v u = word (region 3 v w) u
+itemIn w v u = itemAt w v u
 
 abbrev pub startIn : List ℕ → ℕ → ℕ → ℕ
 startIn w v u = word (region 5 v w) u

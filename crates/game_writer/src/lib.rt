@@ -1,5 +1,6 @@
 // A game's words, written from left to right out of the work words in which a walk stands and the item table. A function that appends a stretch answers the
 // place past it.
+use pairs::item_of;
 use parity_game::write_header;
 use player::Player;
 use player::Priority;
@@ -54,7 +55,7 @@ fn owner_word(work: &[u32], kinds: &[u32], v: u32, u: VertexIndex) -> u32
     if count == 0 {
         return 2;
     }
-    let item = region_word(work, v, 3, u.0);
+    let item = item_of(work, v, u.0);
     to_index(owner_of(kinds[item as usize]))
 }
 
@@ -77,7 +78,7 @@ fn shown_priority(
         return Priority(0);
     }
     let start = region_word(work, v, 5, u.0);
-    let item = region_word(work, v, 3, u.0);
+    let item = item_of(work, v, u.0);
     if work[8 * (v as usize) + (start as usize)] == u.0 {
         return stuck_priority(owner_of(kinds[item as usize]));
     }

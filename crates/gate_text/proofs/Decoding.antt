@@ -1,21 +1,21 @@
 -- Words are read from bytes one after the other, and the bytes that the program refuses are those whose words disagree or are not whole. Assumes nothing.
 use mathlib.Core.Path.{_≡_, refl, sym, ap, _∙_}
-use mathlib.Core.Bool.{Bool, true, false, cond, not, _||_}
+use mathlib.Core.Bool.{Bool, true, false, cond, not}
 use mathlib.Core.List.{List, [], _∷_, _++_, append-nil}
 use mathlib.Core.Option.{Option, none, some}
-use Prim.Native.Nat.{ℕ, zero, suc, _+_, _*_, _%_, _≤_, _<_}
+use Prim.Native.Nat.{ℕ, suc, _+_, _*_, _%_, _≤_, _<_}
 use native.Mathlib.Numerals.{add-one}
 use native.Mathlib.Omega.{arith}
 use lib.ListN.{length, take, drop, set, drop-of-length-le}
 use lib.Seq.{drop-cons, append-snoc, take-suc-set, take-take, length-take-le}
-use lib.Dec.{eqb, ltb}
+use lib.Dec.{eqb}
 use borrow.Author.Tests.{lt-ltb, le-ltb}
 use Rattle.rules.specs.Lists.{word, sum}
 use Rattle.rules.specs.Refusal.{differ}
 use Rattle.rules.specs.Program.{wordOf, joined, wordsOf, disagree}
-use Rattle.gate_text.specs.declared.Decoded.{Decoded}
 use Rattle.gate_text.specs.declared.Decoded.the-variants.{Read, Unreadable}
-use Rattle.gate_text.specs.Reading.{wordAt, agreeing, accepted, decoded}
+use Rattle.gate_text.specs.Reading.{agreeing, accepted, decoded}
+use Rattle.words.specs.Bytes.{wordAt}
 
 -- ---- one word after the other
 

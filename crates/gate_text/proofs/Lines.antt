@@ -1,13 +1,11 @@
 -- Lines are written from left to right: what is left to write, after each call. Assumes nothing.
 use mathlib.Core.Path.{_≡_, refl, sym, ap, _∙_, subst}
-use mathlib.Core.Bool.{true, false, cond}
 use mathlib.Core.List.{List, [], _∷_, _++_, append-assoc, append-nil}
 use Prim.Native.Nat.{ℕ, zero, suc, _+_, _*_, _-_, _/_, _%_, _≤_, _<_}
 use native.Mathlib.Numerals.{add-one}
 use native.Mathlib.Omega.{arith}
 use lib.ListN.{length, take, length-take, length-append, drop-of-length-le}
 use lib.Seq.{slice, slice-cons, take-length}
-use lib.Dec.{ltb}
 use borrow.Author.Tests.{lt-ltb, le-ltb}
 use Rattle.rules.specs.Lists.{word}
 use Rattle.rules.specs.Game.{vertexCount, ownerIn, priorityIn, offsetIn, targetsAt, targetsIn}

@@ -1,13 +1,12 @@
 -- The program's parts make the program: the words that are read are run, and what is printed of that run is what the rules print. Assumes nothing.
 use mathlib.Core.Path.{_≡_, refl, sym, ap, _∙_, subst}
-use mathlib.Core.Bool.{Bool, true, false, cond, _||_, true≢false}
-use mathlib.Core.List.{List, [], _∷_, _++_}
+use mathlib.Core.Bool.{Bool, true, false, cond, _||_}
+use mathlib.Core.List.{List, [], _∷_}
 use mathlib.Core.Option.{Option, none, some}
-use Prim.Native.Nat.{ℕ, _+_, _-_, _≤_, _<_}
+use Prim.Native.Nat.{ℕ, _+_, _-_, _≤_}
 use native.Mathlib.Omega.{arith}
-use native.Mathlib.Decide.{decLt}
 use lib.ListN.{length, take, drop, length-take, length-drop}
-use lib.Seq.{drop-drop, take-all, length-take-le}
+use lib.Seq.{drop-drop, take-all}
 use lib.Dec.{eqb, ltb}
 use borrow.Author.Tests.{ltb-false, eqb-true, not-false}
 use Rattle.rules.specs.declared.Answer.{Answer}
@@ -22,22 +21,19 @@ use Rattle.gate_text.specs.declared.Decoded.{Decoded}
 use Rattle.gate_text.specs.declared.Decoded.the-variants.{Read, Unreadable}
 use Rattle.gate_text.specs.Reading.{agreeing, accepted, decoded, wordCount}
 use Rattle.gate_text.specs.Shown.{Shown}
-use Rattle.gate_text.proofs.Decoding.{sum-four, refused-long}
+use Rattle.gate_text.proofs.Decoding.{sum-four}
 use Rattle.gate_text.proofs.NeverCut.{gate-shown}
+use Rattle.lists.proofs.Tests.{or-false}
 
 -- ---- what is read
-
-neither : (s t : Bool) → (s || t) ≡ false → (s ≡ false) × (t ≡ false)
-neither true t e = absurd (true≢false e)
-neither false t e = (refl, e)
 
 -- the words of an input that agrees: the four lengths, and the slices behind them
 module _ (ws : List ℕ) (agrees : disagree ws ≡ false) where
   lengths : (length ws ≤ 2_048) × (4 ≤ length ws) × (length ws ≡ 4 + sum (take 4 ws))
   unfolding disagree differ
   lengths =
-      let (a, r) = neither (ltb 2_048 (length ws)) (ltb (length ws) 4 || differ (length ws) (4 + sum (take 4 ws))) agrees in
-      let (b, c) = neither (ltb (length ws) 4) (differ (length ws) (4 + sum (take 4 ws))) r in
+      let (a, r) = or-false (ltb 2_048 (length ws)) (ltb (length ws) 4 || differ (length ws) (4 + sum (take 4 ws))) agrees in
+      let (b, c) = or-false (ltb (length ws) 4) (differ (length ws) (4 + sum (take 4 ws))) r in
       (ltb-false 2_048 (length ws) a, ltb-false (length ws) 4 b, eqb-true (length ws) (4 + sum (take 4 ws)) (not-false (eqb (length ws) (4 + sum (take 4 ws))) c))
 
   pub four-words : 4 ≤ length ws
@@ -134,15 +130,3 @@ module _ (x : Input) (a : Answer) (game work : List ℕ) (same : _≡_ {A = Outc
 -- all that is written
 pub wrote-all : (bytes : List ℕ) {s text text′ : List ℕ} {r : ℕ} → Wrote 0 s text text′ r → s ≡ bytes → (take r text′ ≡ bytes) × (r ≤ length text′)
 wrote-all bytes {s} {text} {text′} {r} w e = (w .words ∙ e, omega (arith, w .past, ap length (w .words), length-take r text′))
-
--- ---- a longer input need not be read whole: one byte more than the largest input tells that it is refused
-
-long-printed : (bytes : List ℕ) → 8_192 < length bytes → line refusedText (2 ∷ 0 ∷ []) ≡ printed bytes
-long-printed bytes h = accepted-none bytes (refused-long bytes h)
-
-pub read-enough : (bytes : List ℕ) → printed (take 8_193 bytes) ≡ printed bytes
-read-enough bytes = go (decLt 8_193 (length bytes))
-  where
-    go : Dec (8_193 < length bytes) → printed (take 8_193 bytes) ≡ printed bytes
-    go (yes l) = sym (long-printed (take 8_193 bytes) (omega (arith, length-take-le 8_193 bytes (omega arith)))) ∙ long-printed bytes (omega arith)
-    go (no l) = ap printed (take-all 8_193 bytes (omega arith))

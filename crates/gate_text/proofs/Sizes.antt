@@ -1,16 +1,16 @@
 -- How long the text is that is printed: at most 11 bytes a number, and 32,768 bytes in all for a game in the program's room. Assumes nothing.
-use mathlib.Core.Path.{_≡_, refl, sym, ap, _∙_}
+use mathlib.Core.Path.{_≡_, ap, _∙_}
 use mathlib.Core.Bool.{Bool, true, false, cond}
 use mathlib.Core.List.{List, [], _∷_, _++_}
 use Prim.Native.Nat.{ℕ, zero, suc, _+_, _-_, _*_, _/_, _%_, _≤_, _<_}
 use native.Mathlib.Numerals.{add-one}
 use native.Mathlib.Omega.{arith}
 use lib.ListN.{length, length-append}
-use lib.Seq.{length-slice}
 use lib.Dec.{ltb}
 use Rattle.rules.specs.Game.{vertexCount, edgesIn, ownerIn, priorityIn, offsetIn, targetsAt, targetsIn}
 use Rattle.rules.specs.Program.{digitsTo, decimal, spaced, line, vertexLine, vertexLines}
 use Rattle.gate_text.specs.Shown.{Shown}
+use Rattle.games.proofs.Offsets.{offset-within}
 
 digits-length : (places n : ℕ) → length (digitsTo places n) ≤ places
 unfolding digitsTo
@@ -58,15 +58,6 @@ module _ (g : List ℕ) (shown : Shown g) where
   game-length = omega (arith, lines-length (vertexCount g) 0 (omega arith), shown .few, shown .fewEdges)
 
   -- a vertex's targets begin no later than they end, and end in the game
-  offset-most : (n v : ℕ) → v + n ≡ vertexCount g → offsetIn g v ≤ edgesIn g
-  offset-most zero v e =
-      let h : v ≡ vertexCount g = omega arith in
-      let o : offsetIn g v ≡ edgesIn g = ap (offsetIn g) h ∙ shown .ends in
-      omega arith
-  offset-most (suc n) v e =
-      let h : v < vertexCount g = omega arith in
-      omega (arith, offset-most n (suc v) (omega arith), shown .follows v h)
-
   module _ (v first last : ℕ) (below : v < vertexCount g) (begins : first ≡ targetsAt g + offsetIn g v) (ends : last ≡ targetsAt g + offsetIn g (v + 1)) where
     pub targets-rise : first ≤ last
     targets-rise =
@@ -75,5 +66,4 @@ module _ (g : List ℕ) (shown : Shown g) where
 
     pub targets-within : last ≤ length g
     targets-within =
-        let n : v + 1 + (vertexCount g - (v + 1)) ≡ vertexCount g = omega arith in
-        omega (arith, offset-most (vertexCount g - (v + 1)) (v + 1) n, shown .inside)
+        omega (arith, offset-within g (λ u b. omega (arith, shown .follows u b)) (shown .ends) (v + 1) (omega arith), shown .inside)

@@ -1,18 +1,14 @@
 -- Which words the thin program runs (document 01, "with more than 2,048 words in all, a broken last word or lengths that disagree it prints `refused 2 0`").
 -- Assumes nothing: these are definitions.
-use Prim.Native.Nat.{ℕ, _+_}
-use mathlib.Core.Bool.{Bool, true, false, cond}
+use Prim.Native.Nat.{ℕ}
+use mathlib.Core.Bool.{cond}
 use mathlib.Core.List.{List}
 use mathlib.Core.Option.{Option, none, some}
 use lib.ListN.{take}
 use Rattle.gate_text.specs.declared.Decoded.{Decoded}
 use Rattle.gate_text.specs.declared.Decoded.the-variants.{Read, Unreadable}
 use Rattle.rules.specs.Lists.{word}
-use Rattle.rules.specs.Program.{wordOf, wordsOf, disagree}
-
--- the word whose first byte stands at p
-unfoldable pub wordAt : List ℕ → ℕ → ℕ
-wordAt bytes p = wordOf (word bytes p) (word bytes (p + 1)) (word bytes (p + 2)) (word bytes (p + 3))
+use Rattle.rules.specs.Program.{wordsOf, disagree}
 
 unfoldable pub agreeing : Option (List ℕ) → Option (List ℕ)
 agreeing none = none

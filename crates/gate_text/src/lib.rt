@@ -14,7 +14,7 @@ ghost use Rattle.rules.specs.Game.{vertexCount, ownerIn, priorityIn, offsetIn, 
 ghost use Rattle.rules.specs.Program.{wordsOf, disagree, slicesOf, gateRun, digitsTo, decimal, spaced, line, vertexLine, vertexLines, report, reported, printed};
 ghost use Rattle.rules.specs.Words.{inputOf};
 ghost use Rattle.words.specs.Stretches.{Wrote};
-ghost use Rattle.gate_text.specs.Reading.{wordAt, accepted, decoded, wordCount};
+ghost use Rattle.gate_text.specs.Reading.{accepted, decoded, wordCount};
 ghost use Rattle.gate_text.specs.Shown.{Shown};
 
 // What the bytes are: so many words, or nothing that can be run.
@@ -25,24 +25,6 @@ pub enum Decoded {
 
 // ---- reading
 
-fn wide(byte: u8) -> u32
-    ensures { λ r. ⌜ (r ≡ byte) × (r < 256) ⌝ }
-{
-    byte as u32
-}
-
-// The word whose first byte stands at p, the lowest byte first.
-fn word_at(bytes: &[u8], p: usize) -> u32
-    requires { ⌜ p + 4 ≤ length (now bytes) ⌝ }
-    ensures { λ r. ⌜ r ≡ wordAt (now (bytes .entry)) p ⌝ }
-{
-    let a = wide(bytes[p]);
-    let b = wide(bytes[p + 1]);
-    let c = wide(bytes[p + 2]);
-    let d = wide(bytes[p + 3]);
-    a + 256 * (b + 256 * (c + 256 * d))
-}
-
 // The words of the bytes go to the front of `words`. Answers how many.
 fn read_words(bytes: &[u8], words: &mut [u32]) -> usize
     requires { ⌜ (length (now bytes) % 4 ≡ 0) × (length (now bytes) ≤ 4 * length (now words)) ⌝ }
@@ -51,7 +33,7 @@ fn read_words(bytes: &[u8], words: &mut [u32]) -> usize
     let n = bytes.len() / 4;
     let mut i = 0;
     while i < n {
-        words[i] = word_at(bytes, 4 * i);
+        words[i] = words::word_at(bytes, 4 * i);
         i += 1;
     }
     n

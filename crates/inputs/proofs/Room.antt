@@ -5,7 +5,8 @@ use Rattle.rules.specs.declared.Check.the-variants.{Passed, Fault}
 use Rattle.rules.specs.Words.{roomOf, mostVertices, mostEdges, gameLength, workLength}
 use Rattle.rules.specs.Refusal.{outside, differ, refusal1, refusal2}
 use Rattle.tables.proofs.Faults.{if-true, if-false}
-use Rattle.faults.proofs.Choices.{or-left, or-right, or-none, differ-yes, differ-no, below-outside, above-outside, inside}
+use Rattle.lists.proofs.Tests.{or-left, or-right, or-none}
+use Rattle.tables.proofs.Choices.{differ-yes, differ-no, below-outside, above-outside, inside}
 
 module _ (v e : ℕ) where
   pub no-vertex : v < 1 → refusal1 (roomOf v e) ≡ Fault 1 0

@@ -6,26 +6,26 @@ use mathlib.Core.List.{List}
 use Prim.Native.Nat.{ℕ, suc, _+_, _-_, _≤_, _<_}
 use native.Mathlib.Decide.{decLt, ℕ-discrete}
 use native.Mathlib.Omega.{arith}
-use lib.ListN.{length, set, length-set}
+use lib.ListN.{length, set}
 use lib.Seq.{getD-set-same, getD-set-other}
 use Rattle.rules.specs.Lists.{word, zeros}
 use Rattle.rules.specs.Words.{Input}
 use Rattle.rules.specs.Table.{size, formulaNode}
-use Rattle.rules.specs.Actions.{Action, actionTree}
-use Rattle.rules.specs.Formula.{Operator, least, greatest, isFixpoint, equationCount, equationOf, equationNumber, Formula, formulaTree, bodyTree, firstBodyNode}
+use Rattle.rules.specs.Actions.{actionTree}
+use Rattle.rules.specs.Formula.{Operator, least, greatest, isFixpoint, equationCount, equationOf, equationNumber, formulaTree, bodyTree, firstBodyNode}
 use Rattle.rules.specs.Depth.{leastBit, byDepth}
-use Rattle.rules.specs.Items.{Item, equation, subformula, items, itemNumber}
+use Rattle.rules.specs.Items.{Item, equation, items, itemNumber}
 use Rattle.rules.specs.Pairs.{itemAt, priority}
 use Rattle.rules.specs.Good.{GoodInput}
 use Rattle.trees.proofs.Equations.{equation-node, body-below, fixpoint-body}
-use Rattle.trees.proofs.Readings.{byDepth-words}
-use Rattle.arena.specs.Arena.{BodyNode, Carried}
-use Rattle.arena.proofs.ItemNumbers.{items-count, items-few, item-equation, item-subformula, item-below, item-past, item-carried, first-body}
+use Rattle.trees.proofs.Readings.{byDepth-words, leastBit-most}
+use Rattle.arena.specs.Arena.{BodyNode}
+use Rattle.arena.proofs.ItemNumbers.{items-few, item-equation, item-subformula, item-below, item-past, item-carried, first-body}
 use Rattle.arena.proofs.Priorities.{equation-priority, other-priority}
 use Rattle.modal_equation_system.specs.System.{formulaOnly, Listed, Ranked}
-use Rattle.alike_nodes.specs.Nodes.{Last, Numbered, Later, EquationNumbers, FormulaShown}
+use Rattle.alike_nodes.specs.Nodes.{Last, Later, EquationNumbers, FormulaShown}
 use Rattle.alike_nodes.proofs.Showing.{formula-shown-map}
-use Rattle.item_table.specs.Entries.{operatorKind, ActionAt, ItemShown, Entry, ItemTable, ItemNumbers, ShownAt, FirstShown}
+use Rattle.item_table.specs.Entries.{operatorKind, ActionAt, ItemShown, ItemTable, ItemNumbers, ShownAt, FirstShown}
 use Rattle.item_table.proofs.Numbers.{zeros-word, first-most}
 
 -- ---- one entry is written
@@ -53,11 +53,6 @@ unfolding leastBit
 operator-word least w e = rw e refl
 operator-word greatest w e = rw e refl
 
-bit-most : (o : Operator) → leastBit o ≤ 1
-unfolding leastBit
-bit-most least = omega arith
-bit-most greatest = omega arith
-
 module _ (x : Input) (good : GoodInput x) where
   pub first-none : (kinds lefts rights : List ℕ) → FirstShown x 0 kinds lefts rights
   first-none kinds lefts rights = record { shown = λ q h. absurd (omega arith) }
@@ -79,7 +74,7 @@ module _ (x : Input) (good : GoodInput x) where
     body-room w e = let (p, q) = body-node in omega (arith, listed .body i h, known .room)
 
     pub operator-bit : word operators i ≤ 1
-    operator-bit = omega (arith, bit-most (equationOf (x .formula) i .operator), listed .operator i h)
+    operator-bit = omega (arith, leastBit-most (equationOf (x .formula) i .operator), listed .operator i h)
 
     equation-shown : (w o : ℕ) → w ≡ word bodies i → o ≡ word operators i → ItemShown x (itemAt x i) (7 - o) (word numbers w) 0
     unfolding bodyTree

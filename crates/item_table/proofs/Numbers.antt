@@ -2,21 +2,20 @@
 use mathlib.Core.Path.{_≡_, refl, sym, ap, subst, _∙_}
 use mathlib.Core.Logic.{_⊎_, inl, inr}
 use mathlib.Core.Bool.{Bool, true, false}
-use mathlib.Core.List.{List, [], _∷_, _++_}
+use mathlib.Core.List.{List, [], _∷_}
 use Prim.Native.Nat.{ℕ, zero, suc, _+_, _-_, _≤_, _<_}
-use native.Mathlib.Decide.{decLt, ℕ-discrete}
+use native.Mathlib.Decide.{ℕ-discrete}
 use native.Mathlib.Omega.{arith}
-use lib.ListN.{length, getD, set, replicate, length-set, length-replicate}
+use lib.ListN.{length, getD, set, replicate, length-set}
 use lib.Seq.{getD-set-same, getD-set-other}
 use Rattle.rules.specs.Lists.{In, word, one, zeros}
 use Rattle.rules.specs.Words.{Input}
-use Rattle.rules.specs.Table.{size, kind, formulaNode}
+use Rattle.rules.specs.Table.{size, formulaNode}
 use Rattle.rules.specs.Formula.{isFixpoint, equationCount, Formula, formulaTree, firstBodyNode}
 use Rattle.rules.specs.Items.{items, itemNumber}
-use Rattle.rules.specs.Good.{GoodFormula, GoodInput}
+use Rattle.rules.specs.Good.{GoodInput}
 use Rattle.lists.proofs.Members.{in-left, in-either}
 use Rattle.lists.proofs.Shapes.{begins-length}
-use Rattle.trees.proofs.Fixpoints.{fixpoint-at, no-fixpoint-below, no-fixpoint-above}
 use Rattle.trees.proofs.Equations.{good-some-equation}
 use Rattle.arena.specs.Arena.{BodyNode, subformulasBefore}
 use Rattle.arena.proofs.ItemNumbers.{items-count, items-few, item-past}
@@ -26,19 +25,6 @@ use Rattle.alike_nodes.proofs.Showing.{last-one}
 use Rattle.item_table.specs.Entries.{ItemNumbers, NodeNumbered}
 
 -- ---- the first body node
-
-module _ (m : ℕ) (f : List ℕ) (good : GoodFormula m f) (k : ℕ) (e : k ≡ kind f 0) where
-  pub first-low : k ≤ 5 → 0 ≡ firstBodyNode f
-  unfolding firstBodyNode
-  first-low h = sym (ap one (no-fixpoint-below f 0 (good .some) (omega arith)))
-
-  pub first-high : 8 ≤ k → 0 ≡ firstBodyNode f
-  unfolding firstBodyNode
-  first-high h = sym (ap one (no-fixpoint-above f 0 (good .some) (omega arith)))
-
-  pub first-fixpoint : 6 ≤ k → k ≤ 7 → 1 ≡ firstBodyNode f
-  unfolding firstBodyNode
-  first-fixpoint p q = sym (ap one (fixpoint-at f 0 (good .some) (omega arith) (omega arith)))
 
 pub first-most : (f : List ℕ) → firstBodyNode f ≤ 1
 unfolding firstBodyNode

@@ -1,24 +1,23 @@
 -- What a step reads off an entry of the table: owner, priority and targets of a pair, one law for each kind that code tests. Assumes nothing.
-use mathlib.Core.Path.{_≡_, refl, sym, ap, ap₂, _∙_}
-use mathlib.Core.List.{List, [], _∷_, map}
+use mathlib.Core.Path.{_≡_, refl, sym, ap, ap₂}
+use mathlib.Core.List.{[], _∷_, map}
 use Prim.Native.Nat.{ℕ, zero, suc, _≤_, _<_, _%_}
 use native.Mathlib.Omega.{arith}
-use lib.ListN.{length, getD}
-use Rattle.player.specs.declared.Player.{Player}
+use lib.ListN.{length}
 use Rattle.player.specs.declared.Player.the-variants.{Even, Odd}
 use Rattle.rules.specs.Words.{Input}
 use Rattle.rules.specs.Table.{size}
 use Rattle.rules.specs.Actions.{Action, actionTree}
-use Rattle.rules.specs.Formula.{Operator, least, greatest, Equation, equationCount, equationOf, Formula, truth, falsity, conjunction, disjunction, box, diamond, reference, bodyTree}
+use Rattle.rules.specs.Formula.{Operator, least, greatest, equationOf, Formula, truth, falsity, conjunction, disjunction, box, diamond, reference, bodyTree}
 use Rattle.rules.specs.Depth.{byDepth}
-use Rattle.rules.specs.Items.{Item, equation, subformula, items, itemNumber}
-use Rattle.rules.specs.Pairs.{Pair, itemAt, operatorOwner, formulaOwner, itemOwner, owner, priority, successors, formulaTargets, itemTargets, targets}
+use Rattle.rules.specs.Items.{Item, equation, subformula, items}
+use Rattle.rules.specs.Pairs.{itemAt, operatorOwner, formulaOwner, itemOwner, owner, priority, successors, formulaTargets, itemTargets, targets}
 use Rattle.rules.specs.Good.{GoodInput}
-use Rattle.arena.specs.Arena.{Carried, Parts}
+use Rattle.arena.specs.Arena.{Parts}
 use Rattle.arena.proofs.ItemNumbers.{items-count, item-below}
 use Rattle.arena.proofs.Parts.{carried-parts, body-carried}
 use Rattle.arena.proofs.Inside.{item-cases}
-use Rattle.item_table.specs.Entries.{operatorKind, ActionAt, ItemShown, Entry, kindOwner}
+use Rattle.item_table.specs.Entries.{operatorKind, ItemShown, Entry, kindOwner}
 
 operator-kind : (o : Operator) → (6 ≤ operatorKind o) × (operatorKind o ≤ 7)
 operator-kind least = (omega arith, omega arith)
@@ -148,9 +147,6 @@ module _ (x : Input) (k l r s : ℕ) where
 -- ---- by entries
 
 module _ (x : Input) (q k l r p s : ℕ) (e : Entry x q k l r p) where
-  pub entry-kind : k ≤ 8
-  entry-kind = most x k l r s (itemAt x q) (e .shown)
-
   pub entry-priority : priority byDepth x (s, q) ≡ p
   unfolding priority
   entry-priority = sym (e .ranked)

@@ -11,7 +11,7 @@ use Rattle.rules.specs.Lists.{word}
 use Rattle.rules.specs.Words.{Input}
 use Rattle.rules.specs.Table.{size}
 use Rattle.rules.specs.Actions.{Action, actionTree}
-use Rattle.rules.specs.Formula.{Operator, least, greatest, Formula, formulaTree, bodyTree, firstBodyNode}
+use Rattle.rules.specs.Formula.{Operator, least, greatest, formulaTree, bodyTree, firstBodyNode}
 use Rattle.rules.specs.Depth.{byDepth}
 use Rattle.rules.specs.Items.{Item, equation, subformula, items, itemNumber}
 use Rattle.rules.specs.Pairs.{itemAt, priority}

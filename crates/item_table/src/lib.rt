@@ -2,6 +2,7 @@
 use alike_nodes::formula_shape;
 use alike_nodes::number_actions;
 use alike_nodes::number_formula;
+use modal_equation_system::fixpoints_at;
 use modal_equation_system::list_equations;
 use modal_equation_system::list_priorities;
 use words::at;
@@ -26,14 +27,7 @@ fn first_body_node(formula: &[u32]) -> usize
     requires { ⌜ Good (now formula) ⌝ }
     ensures { λ r. ⌜ r ≡ firstBodyNode (now (formula .entry)) ⌝ }
 {
-    let k = at(formula, 1);
-    if k <= 5 {
-        return 0;
-    }
-    if 8 <= k {
-        return 0;
-    }
-    1
+    fixpoints_at(formula, 0)
 }
 
 // A node gets the number of its class, or the next one if its class has none (0) yet. Returns the number after those given.
@@ -267,9 +261,9 @@ fn put_items(
 // Puts the priorities into the table: those of the equations, 0 elsewhere.
 fn put_priorities(
     formula: &[u32],
-    bodies: &[u32],
-    operators: &[u32],
-    equations: &[u32],
+    bodies: &[u32; 1025],
+    operators: &[u32; 1025],
+    equations: &[u32; 1024],
     count: usize,
     priorities: &mut [u32],
 )
@@ -307,8 +301,8 @@ pub fn compile(
     let mut operators = [0u32; 1025];
     let mut equations = [0u32; 1024];
     let mut acts = [0u32; 1024];
-    let mut nodes = [0u32; 1024];
     let count = list_equations(formula, &mut bodies, &mut operators, &mut equations);
+    // the room of the priorities, which come last, serves for the nodes' numbers
     let items = number_all(
         labels,
         system,
@@ -318,7 +312,7 @@ pub fn compile(
         &equations,
         count,
         &mut acts,
-        &mut nodes,
+        priorities,
         kinds,
         lefts,
         rights,

@@ -11,7 +11,8 @@ use Rattle.rules.specs.Words.{mostLabels, mostActions}
 use Rattle.rules.specs.Labels.{labelCount, actionCount}
 use Rattle.rules.specs.Refusal.{refusal11, refusal12, refusal13}
 use Rattle.tables.proofs.Faults.{if-true, if-false, if-passed, first-passed}
-use Rattle.faults.proofs.Choices.{or-left, or-right, or-none, or-false, differ-yes, differ-no}
+use Rattle.lists.proofs.Tests.{or-left, or-right, or-none, or-false}
+use Rattle.tables.proofs.Choices.{differ-yes, differ-no}
 
 module _ (ls : List ℕ) where
   pub few-words : length ls < 2 → refusal11 ls ≡ Fault 11 0

@@ -1,54 +1,7 @@
 // Runs at the limits of document 01 (case 11, and the limits of action formulas and labels): prints what each answers.
-use libc::STDOUT_FILENO;
-use rules::Answer;
 ghost use mathlib.Core.Path.{_≡_};
 ghost use Prim.Native.Nat.{_+_, _*_, _≤_, _<_};
 ghost use lib.ListN.{length};
-
-fn long(w: u32) -> u64 {
-    w as u64
-}
-
-fn size(w: u32) -> usize
-    ensures { λ r. ⌜ r ≡ w ⌝ }
-{
-    w as usize
-}
-
-fn number(w: u32) {
-    io::write_all(STDOUT_FILENO, b" ");
-    io::print_decimal(STDOUT_FILENO, long(w));
-}
-
-fn line_end() {
-    io::write_all(STDOUT_FILENO, b"\n");
-}
-
-fn counts(a: u32, b: u32, c: u32) {
-    number(a);
-    number(b);
-    number(c);
-    line_end();
-}
-
-fn print_answer(a: Answer) {
-    match a {
-        Answer::Done(steps, vertices, edges) => {
-            io::write_all(STDOUT_FILENO, b"done");
-            counts(steps, vertices, edges);
-        }
-        Answer::Cut(steps, vertices, edges) => {
-            io::write_all(STDOUT_FILENO, b"cut");
-            counts(steps, vertices, edges);
-        }
-        Answer::Refused(refusal, place) => {
-            io::write_all(STDOUT_FILENO, b"refused");
-            number(refusal);
-            number(place);
-            line_end();
-        }
-    }
-}
 
 // The run with room for 6 vertices and 8 edges.
 fn attempt(labels: &[u32], system: &[u32], actions: &[u32], formula: &[u32]) {
@@ -65,7 +18,7 @@ fn attempt(labels: &[u32], system: &[u32], actions: &[u32], formula: &[u32]) {
         &mut game,
         &mut work,
     );
-    print_answer(a);
+    stored_runs::answer_line(a);
 }
 
 fn blank() -> [u32; 65539]
@@ -75,12 +28,12 @@ fn blank() -> [u32; 65539]
 }
 
 // So many states without transitions.
-fn states(count: u32)
+fn states(count: usize)
     requires { ⌜ count ≤ 65536 ⌝ }
 {
     let mut system = blank();
-    system[0] = count;
-    let end = 3 + size(count);
+    system[0] = count as u32;
+    let end = 3 + count;
     attempt(&[1, 1, 0, 7], &system[..end], &[1, 2, 0], &[1, 0, 0]);
 }
 
@@ -115,6 +68,41 @@ fn row(count: usize)
     attempt(&[1, 1, 0, 7], &[1, 0, 0, 0], &actions[..end], &[1, 0, 0]);
 }
 
+fn label_room() -> [u32; 32772]
+    ensures { λ r. ⌜ 32772 ≡ length r ⌝ }
+{
+    [0; 32772]
+}
+
+// One label of so many actions 0.
+fn actions(count: usize)
+    requires { ⌜ count ≤ 16385 ⌝ }
+{
+    let mut labels = label_room();
+    labels[0] = 1;
+    labels[1] = count as u32;
+    let end = 2 + 2 * count;
+    attempt(&labels[..end], &[1, 0, 0, 0], &[1, 2, 0], &[1, 0, 0]);
+}
+
+fn system_room() -> [u32; 524294]
+    ensures { λ r. ⌜ 524294 ≡ length r ⌝ }
+{
+    [0; 524294]
+}
+
+// One state with so many loops on label 0; the formula is a diamond.
+fn transitions(count: usize)
+    requires { ⌜ count ≤ 262145 ⌝ }
+{
+    let mut system = system_room();
+    system[0] = 1;
+    system[1] = count as u32;
+    system[3] = count as u32;
+    let end = 4 + 2 * count;
+    attempt(&[1, 1, 0, 7], &system[..end], &[1, 2, 0], &[2, 5, 0, 0, 0]);
+}
+
 fn main() {
     states(65535);
     states(0);
@@ -127,4 +115,8 @@ fn main() {
     row(1025);
     attempt(&[4096, 0], &[1, 0, 0, 0], &[1, 2, 4095], &[1, 0, 0]);
     attempt(&[4097, 0], &[1, 0, 0, 0], &[1, 2, 4095], &[1, 0, 0]);
+    actions(16384);
+    actions(16385);
+    transitions(262144);
+    transitions(262145);
 }

@@ -1,5 +1,5 @@
 -- What a node's kind, its operand and the answers at its children tell of the node, in the form in which the matcher learns it. Assumes nothing.
-use mathlib.Core.Path.{_≡_, refl, sym, ap, ap₂, _∙_}
+use mathlib.Core.Path.{_≡_, sym, ap, ap₂, _∙_}
 use mathlib.Core.Bool.{Bool, true, false, not, _&&_, _||_}
 use mathlib.Core.List.{List}
 use Prim.Native.Nat.{ℕ, suc, _+_, _≤_, _<_}
@@ -10,7 +10,7 @@ use lib.Dec.{eqb}
 use Rattle.rules.specs.Lists.{word}
 use Rattle.rules.specs.Labels.{labelCount, multiset}
 use Rattle.rules.specs.Table.{size, kind, operand}
-use Rattle.rules.specs.Actions.{Action, actionTree, matches}
+use Rattle.rules.specs.Actions.{actionTree, matches}
 use Rattle.rules.specs.Good.{GoodActions}
 use Rattle.labels.specs.Classes.{Classes}
 use Rattle.trees.proofs.ActionTrees.{any-matches, never-matches, multi-matches, union-matches, intersection-matches, negation-matches}

@@ -16,7 +16,7 @@ ghost use Rattle.rules.specs.Depth.{references, reading, depth, byDepth};
 ghost use Rattle.modal_equation_system.specs.System.{formulaOnly, Good, Listed, bodyReading, Ranked};
 
 // 1 if a node is a fixpoint, else 0.
-fn fixpoints_at(formula: &[u32], node: usize) -> usize
+pub fn fixpoints_at(formula: &[u32], node: usize) -> usize
     requires { ⌜ Good (now formula) ⌝ }
     requires { ⌜ node < size (now formula) ⌝ }
     ensures { λ r. ⌜ (r ≡ one (isFixpoint (formulaNode (now (formula .entry)) node))) × (r ≤ 1) ⌝ }
@@ -35,14 +35,15 @@ fn fixpoints_at(formula: &[u32], node: usize) -> usize
 // Returns how many equations there are.
 pub fn list_equations(
     formula: &[u32],
-    bodies: &mut [u32],
-    operators: &mut [u32],
-    numbers: &mut [u32],
+    bodies: &mut [u32; 1025],
+    operators: &mut [u32; 1025],
+    numbers: &mut [u32; 1024],
 ) -> usize
     requires { ⌜ Good (now formula) ⌝ }
-    requires { ⌜ (1025 ≤ length (now bodies)) × (1025 ≤ length (now operators)) × (1024 ≤ length (now numbers)) ⌝ }
+    requires { ⌜ (length (now bodies) ≡ 1025) × (length (now operators) ≡ 1025) × (length (now numbers) ≡ 1024) ⌝ }
     ensures { λ r. ⌜ r ≡ equationCount (now (formula .entry)) ⌝ }
     ensures { λ r. ⌜ Listed (now (formula .entry)) (now (bodies .exit)) (now (operators .exit)) (now (numbers .exit)) ⌝ }
+    ensures { λ _. ⌜ (length (now (bodies .exit)) ≡ 1025) × (length (now (operators .exit)) ≡ 1025) × (length (now (numbers .exit)) ≡ 1024) ⌝ }
 {
     let n = at(formula, 0);
     // the placeholder's entry stays only if node 0 is no fixpoint
@@ -71,21 +72,21 @@ fn is(a: usize, b: usize) -> u32
 }
 
 // 1 if the operators of two equations differ, else 0.
-fn differing(operators: &[u32], i: usize, j: usize) -> u32
-    requires { ⌜ (i < length (now operators)) × (j < length (now operators)) ⌝ }
+fn differing(operators: &[u32; 1025], i: usize, j: usize) -> u32
+    requires { ⌜ (i < 1025) × (j < 1025) ⌝ }
     ensures { λ r. ⌜ r ≡ one (not (eqb (word (now (operators .entry)) i) (word (now (operators .entry)) j))) ⌝ }
 {
-    let a = at(operators, i);
-    let b = at(operators, j);
+    let a = operators[i];
+    let b = operators[j];
     if a == b { 0 } else { 1 }
 }
 
 // The equation that a fixpoint or a reference in a body stands for.
 fn referred(
     formula: &[u32],
-    bodies: &[u32],
-    operators: &[u32],
-    numbers: &[u32],
+    bodies: &[u32; 1025],
+    operators: &[u32; 1025],
+    numbers: &[u32; 1024],
     node: usize,
 ) -> usize
     requires { ⌜ Listed (now formula) (now bodies) (now operators) (now numbers) ⌝ }
@@ -95,11 +96,18 @@ fn referred(
 {
     let k = kind_at(formula, node);
     if k <= 7 {
-        at(numbers, node)
+        wide(numbers[node])
     } else {
         let fixpoint = operand_at(formula, node);
-        at(numbers, fixpoint)
+        wide(numbers[fixpoint])
     }
+}
+
+// A word as a usize.
+fn wide(x: u32) -> usize
+    ensures { λ r. ⌜ r ≡ x ⌝ }
+{
+    x as usize
 }
 
 // The larger of two numbers.
@@ -112,9 +120,9 @@ fn larger(a: u32, b: u32) -> u32
 // Reads the subformula of `node` for `target`, in the body of `equation`.
 fn read_body(
     formula: &[u32],
-    bodies: &[u32],
-    operators: &[u32],
-    numbers: &[u32],
+    bodies: &[u32; 1025],
+    operators: &[u32; 1025],
+    numbers: &[u32; 1024],
     node: usize,
     equation: usize,
     target: usize,
@@ -127,15 +135,16 @@ fn read_body(
     if k <= 1 {
         return 0;
     }
-    if k <= 5 {
-        let next = node + 1;
-        let left = read_body(formula, bodies, operators, numbers, next, equation, target);
-        if 4 <= k {
-            return left;
-        }
+    let next = node + 1;
+    if k <= 3 {
+        // read first, so that less is kept on the stack over the first call
         let o = operand_at(formula, node);
+        let left = read_body(formula, bodies, operators, numbers, next, equation, target);
         let right = read_body(formula, bodies, operators, numbers, o, equation, target);
         return larger(left, right);
+    }
+    if k <= 5 {
+        return read_body(formula, bodies, operators, numbers, next, equation, target);
     }
     let j = referred(formula, bodies, operators, numbers, node);
     if j == target {
@@ -152,9 +161,9 @@ fn read_body(
 // Reads an equation for `target`.
 fn read_equation(
     formula: &[u32],
-    bodies: &[u32],
-    operators: &[u32],
-    numbers: &[u32],
+    bodies: &[u32; 1025],
+    operators: &[u32; 1025],
+    numbers: &[u32; 1024],
     equation: usize,
     target: usize,
 ) -> u32
@@ -162,16 +171,16 @@ fn read_equation(
     requires { ⌜ equation < equationCount (now formula) ⌝ }
     ensures { λ r. ⌜ r ≡ reading (formulaOnly (now (formula .entry))) target equation ⌝ }
 {
-    let first = at(bodies, equation);
+    let first = wide(bodies[equation]);
     read_body(formula, bodies, operators, numbers, first, equation, target)
 }
 
 // The alternation depth of an equation.
 pub fn alternation_depth(
     formula: &[u32],
-    bodies: &[u32],
-    operators: &[u32],
-    numbers: &[u32],
+    bodies: &[u32; 1025],
+    operators: &[u32; 1025],
+    numbers: &[u32; 1024],
     equation: usize,
 ) -> u32
     requires { ⌜ Listed (now formula) (now bodies) (now operators) (now numbers) ⌝ }
@@ -184,9 +193,9 @@ pub fn alternation_depth(
 // The priority of an equation: its depth made even, plus 1 for a least equation.
 pub fn priority_of(
     formula: &[u32],
-    bodies: &[u32],
-    operators: &[u32],
-    numbers: &[u32],
+    bodies: &[u32; 1025],
+    operators: &[u32; 1025],
+    numbers: &[u32; 1024],
     equation: usize,
 ) -> Priority
     requires { ⌜ Listed (now formula) (now bodies) (now operators) (now numbers) ⌝ }
@@ -200,9 +209,9 @@ pub fn priority_of(
 // Lists the priorities of all equations at the front of a table, and leaves the rest of it as it is.
 pub fn list_priorities(
     formula: &[u32],
-    bodies: &[u32],
-    operators: &[u32],
-    numbers: &[u32],
+    bodies: &[u32; 1025],
+    operators: &[u32; 1025],
+    numbers: &[u32; 1024],
     count: usize,
     priorities: &mut [u32],
 )

@@ -2,20 +2,20 @@
 use mathlib.Core.Path.{_≡_, refl, sym, ap, _∙_}
 use mathlib.Core.Bool.{Bool, true, false, cond}
 use mathlib.Core.List.{List, [], _∷_, _++_, map}
-use Prim.Native.Nat.{ℕ, _+_, _-_, _<_}
+use Prim.Native.Nat.{ℕ, _+_, _-_}
 use native.Mathlib.Omega.{arith}
 use lib.Dec.{eqb}
-use Rattle.rules.specs.Lists.{word, from, once}
+use Rattle.rules.specs.Lists.{from, once}
 use Rattle.rules.specs.Words.{Input}
 use Rattle.rules.specs.Labels.{multiset}
-use Rattle.rules.specs.System.{transitionCount, degree, transitionLabel, transitionTarget, firstTransition, transitions}
+use Rattle.rules.specs.System.{degree, transitionLabel, transitionTarget, firstTransition, transitions}
 use Rattle.rules.specs.Actions.{Action, matches}
 use Rattle.rules.specs.Pairs.{matching, successors}
 use Rattle.lists.proofs.Inserts.{once-map}
 use Rattle.lists.proofs.Equalities.{number-equality}
 use Rattle.lists.proofs.Members.{map-append}
 use Rattle.pairs.specs.Slot.{keyOf}
-use Rattle.modalities.specs.Matched.{Labelled, matchedKeys}
+use Rattle.modalities.specs.Matched.{matchedKeys}
 
 matching-append : (ls : List ℕ) (a : Action) (ts us : List (ℕ × ℕ)) → matching ls a (ts ++ us) ≡ matching ls a ts ++ matching ls a us
 unfolding matching
@@ -62,13 +62,13 @@ matched-state x a item s first end e d =
     let z : end - first ≡ degree (x .system) s = omega arith in
     rw (z, e) (matched-all x a item s)
 
--- one transition, whose label's multiset is read off the table: what the matcher answers says whether it gives a target
-module _ (ls ss acts classes : List ℕ) (h : Labelled ls ss acts classes) (a : Action) (item t label m : ℕ) (below : t < transitionCount ss) (e : label ≡ transitionLabel ss t) (f : m ≡ word classes label) where
-  class : m ≡ multiset ls (transitionLabel ss t)
-  class = f ∙ ap (word classes) e ∙ h .table .entry (transitionLabel ss t) (h .system .labels t below)
+-- one transition: whether the action formula matches its label says whether it gives a target
+module _ (ls ss : List ℕ) (a : Action) (item t label : ℕ) (e : label ≡ transitionLabel ss t) (r : Bool) (q : r ≡ matches (multiset ls label) a) where
+  answered : matches (multiset ls (transitionLabel ss t)) a ≡ r
+  answered = ap (λ (l : ℕ). matches (multiset ls l) a) (sym e) ∙ sym q
 
-  pub one-target : (r : Bool) (target : ℕ) → r ≡ matches m a → r ≡ true → target ≡ transitionTarget ss t → matchedKeys ls ss a item (t ∷ []) ≡ keyOf target item ∷ []
-  one-target r target q y z = rw z (matched-one ls ss a item t (ap (λ (n : ℕ). matches n a) (sym class) ∙ sym q ∙ y))
+  pub one-target : (target : ℕ) → r ≡ true → target ≡ transitionTarget ss t → matchedKeys ls ss a item (t ∷ []) ≡ keyOf target item ∷ []
+  one-target target y z = rw z (matched-one ls ss a item t (answered ∙ y))
 
-  pub no-target : (r : Bool) → r ≡ matches m a → r ≡ false → matchedKeys ls ss a item (t ∷ []) ≡ []
-  no-target r q y = matched-not ls ss a item t (ap (λ (n : ℕ). matches n a) (sym class) ∙ sym q ∙ y)
+  pub no-target : r ≡ false → matchedKeys ls ss a item (t ∷ []) ≡ []
+  no-target y = matched-not ls ss a item t (answered ∙ y)

@@ -7,7 +7,7 @@ use lib.Dec.{eqb}
 use lib.ListN.{length}
 use Rattle.rules.specs.Lists.{from, once}
 use Rattle.rules.specs.Actions.{Action}
-use Rattle.arena.proofs.Ranges.{from-append, from-snoc}
+use Rattle.lists.proofs.Ranges.{from-append, from-snoc}
 use Rattle.settling.specs.declared.Counters.{Counters}
 use Rattle.settling.specs.declared.Stepped.the-variants.{Room, Full}
 use Rattle.settling.specs.Made.{Marks, Ready, Made, TooMany, Marked, Turned}

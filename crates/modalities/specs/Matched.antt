@@ -5,12 +5,13 @@ use Rattle.rules.specs.Labels.{labelCount}
 use Rattle.rules.specs.System.{transitionLabel, transitionTarget}
 use Rattle.rules.specs.Actions.{Action}
 use Rattle.rules.specs.Pairs.{matching}
-use Rattle.rules.specs.Good.{GoodSystem, GoodActions}
+use Rattle.rules.specs.Good.{GoodLabels, GoodSystem, GoodActions}
 use Rattle.labels.specs.Classes.{Classes}
 use Rattle.pairs.specs.Slot.{keyOf}
 
 -- system and action formulas fit the labels, and the table has the labels' multisets
 pub record Labelled (ls ss acts classes : List ℕ) : Type 0 where
+  pub labels : GoodLabels ls
   pub system : GoodSystem (labelCount ls) ss
   pub actions : GoodActions (labelCount ls) acts
   pub table : Classes ls classes

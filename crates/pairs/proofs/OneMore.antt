@@ -1,12 +1,11 @@
 -- Numbering a pair: what holds of the words in each of the three cases. Assumes nothing.
-use mathlib.Core.Path.{_≡_, refl, sym, _∙_, ap, ap₂, subst₃}
+use mathlib.Core.Path.{_≡_, refl, sym, _∙_, ap, subst, subst₃}
 use mathlib.Core.List.{List, [], _∷_, _++_}
-use Prim.Native.Nat.{ℕ, _+_, _*_, _≤_, _<_}
+use Prim.Native.Nat.{ℕ, _+_, _*_, _<_}
 use native.Mathlib.Decide.{ℕ-discrete}
 use native.Mathlib.Omega.{arith}
 use lib.Dec.{eqb, lit<}
-use lib.ListN.{length, set, length-append}
-use lib.Seq.{getD-set-same, getD-set-other}
+use lib.ListN.{length, set, drop, length-append}
 use Rattle.player.specs.declared.VertexIndex.{VertexIndex}
 use Rattle.rules.specs.Lists.{word, In, place, insert}
 use Rattle.lists.proofs.Members.{place-out, in-or}
@@ -18,16 +17,17 @@ use Rattle.words.proofs.Regions.{region-put, rest-put, length-region}
 use Rattle.pairs.specs.declared.Found.{Found}
 use Rattle.pairs.specs.declared.Found.the-variants.{At, Nothing}
 use Rattle.pairs.specs.Slot.{keyOf, slotOf}
-use Rattle.pairs.specs.Table.{keysIn, keysOf, Small, Chains, Asks}
+use Rattle.pairs.specs.Table.{keyIn, keysIn, keysOf, Chains, Asks}
 use Rattle.pairs.specs.Answers.{vertex, foundIn, Numbers, Full}
 use Rattle.pairs.proofs.Wrap.{slot-below}
-use Rattle.pairs.proofs.Chain.{found-in, found-none, keysIn-more, more}
+use Rattle.pairs.proofs.Chain.{found-in, found-none, withEntry, key-other, key-new, keysIn-more, more}
 
--- the words after a pair was numbered n
-abbrev pub numbered : List ℕ → ℕ → ℕ → ℕ → ℕ → List ℕ
-numbered w v n s q =
-    let slot = slotOf (keyOf s q) v in
-    putWord 0 v slot (n + 1) (putWord 1 v n (word (region 0 v w) slot) (putWord 3 v n q (putWord 2 v n s w)))
+-- the words after a key k was numbered n
+abbrev pub numbered : List ℕ → ℕ → ℕ → ℕ → List ℕ
+numbered w v n k =
+    let slot = slotOf k (2 * v) in
+    let head = word (region 0 (2 * v) w) slot in
+    putWord 0 (2 * v) slot (n + 1) (putWord 1 (2 * v) (2 * n + 1) head (putWord 1 (2 * v) (2 * n) k w))
 
 -- what is found tells whether the key is there
 found-fresh : (k : ℕ) (ks : List ℕ) → foundIn k ks ≡ Nothing → ¬ In k ks
@@ -69,67 +69,74 @@ module _ (w : List ℕ) (v n s q : ℕ) (a : Asks w v n s q) where
   full f e₀ e₁ h = record { more = omega (arith, longer (found-fresh (keyOf s q) (keysOf w v n) (sym e₀ ∙ e₁))); kept = refl }
 
   module _ (room : n < v) where
-    below : slotOf (keyOf s q) v < v
-    below = slot-below (keyOf s q) v (omega arith)
+    abbrev k : ℕ
+    k = keyOf s q
 
-    long : (r : ℕ) → r * v + v ≤ length w → length (region r v w) ≡ v
-    long r h = length-region r v w h
+    below : slotOf k (2 * v) < 2 * v
+    below = slot-below k (2 * v) (omega arith)
 
-    heads : region 0 v (numbered w v n s q) ≡ set (region 0 v w) (slotOf (keyOf s q) v) (n + 1)
-    heads = let b = below in simp region-put
+    abbrev head : ℕ
+    head = word (region 0 (2 * v) w) (slotOf k (2 * v))
 
-    links : region 1 v (numbered w v n s q) ≡ set (region 1 v w) n (word (region 0 v w) (slotOf (keyOf s q) v))
-    links = let b = below in simp region-put
+    heads-long : length (region 0 (2 * v) w) ≡ 2 * v
+    heads-long = length-region 0 (2 * v) w (omega (arith, a .whole))
 
-    states : region 2 v (numbered w v n s q) ≡ set (region 2 v w) n s
-    states = let b = below in simp region-put
+    entries-long : length (region 1 (2 * v) w) ≡ 2 * v
+    entries-long = length-region 1 (2 * v) w (omega (arith, a .whole))
 
-    items : region 3 v (numbered w v n s q) ≡ set (region 3 v w) n q
-    items = let b = below in simp region-put
+    fits : 2 * n + 1 < length (region 1 (2 * v) w)
+    fits = omega (arith, entries-long)
 
-    keys : keysOf (numbered w v n s q) v (n + 1) ≡ keysOf w v n ++ (keyOf s q ∷ [])
-    keys =
-        ap₂ (λ (x y : List ℕ). keysIn x y (n + 1)) states items
-        ∙ keysIn-more (region 2 v w) (region 3 v w) n s q (omega (arith, long 2 (omega (arith, a .whole)))) (omega (arith, long 3 (omega (arith, a .whole))))
+    heads : region 0 (2 * v) (numbered w v n k) ≡ set (region 0 (2 * v) w) (slotOf k (2 * v)) (n + 1)
+    heads =
+        let b = below in
+        let b₁ : 2 * n < 2 * v = omega arith in
+        let b₂ : 2 * n + 1 < 2 * v = omega arith in
+        simp region-put
 
-    small : (i : ℕ) → i < n + 1 → Small (set (region 2 v w) n s) (set (region 3 v w) n q) i
+    entries : region 1 (2 * v) (numbered w v n k) ≡ withEntry (region 1 (2 * v) w) n k head
+    entries =
+        let b = below in
+        let b₁ : 2 * n < 2 * v = omega arith in
+        let b₂ : 2 * n + 1 < 2 * v = omega arith in
+        simp region-put
+
+    keys : keysOf (numbered w v n k) v (n + 1) ≡ keysOf w v n ++ (k ∷ [])
+    keys = ap (λ (x : List ℕ). keysIn x (n + 1)) entries ∙ keysIn-more (region 1 (2 * v) w) n k head fits
+
+    small : (i : ℕ) → i < n + 1 → keyIn (withEntry (region 1 (2 * v) w) n k head) i < 65535 * 2048
     small i h = go (ℕ-discrete i n)
       where
-        go : Dec (i ≡ n) → Small (set (region 2 v w) n s) (set (region 3 v w) n q) i
-        go (yes e) =
-            rw e
-            (record {
-              state = rw (getD-set-same (region 2 v w) n s 0 (omega (arith, long 2 (omega (arith, a .whole))))) (a .state-fits);
-              item = rw (getD-set-same (region 3 v w) n q 0 (omega (arith, long 3 (omega (arith, a .whole))))) (a .item-fits);
-            })
-        go (no e) =
-            let p = a .table .small i (omega arith) in
-            record { state = rw (getD-set-other (region 2 v w) n i s 0 e) (p .state); item = rw (getD-set-other (region 3 v w) n i q 0 e) (p .item) }
+        go : Dec (i ≡ n) → keyIn (withEntry (region 1 (2 * v) w) n k head) i < 65535 * 2048
+        go (yes e) = rw e (rw (key-new (region 1 (2 * v) w) n k head fits) (omega (arith, a .state-fits, a .item-fits)))
+        go (no e) = rw (key-other (region 1 (2 * v) w) n k head i e) (a .table .small i (omega arith))
 
-    added : (¬ In (keyOf s q) (keysOf w v n)) → Numbers w (numbered w v n s q) v n (keyOf s q) n (n + 1)
+    rest : drop (2 * (2 * v)) (numbered w v n k) ≡ drop (2 * (2 * v)) w
+    rest =
+        rest-put 2 0 (2 * v) _ _ _ below (lit< tt)
+        ∙ rest-put 2 1 (2 * v) _ _ _ (omega arith) (lit< tt)
+        ∙ rest-put 2 1 (2 * v) _ _ _ (omega arith) (lit< tt)
+
+    added : (¬ In k (keysOf w v n)) → Numbers w (numbered w v n k) v n k n (n + 1)
     added f =
-        let o : insert eqb (keysOf w v n) (keyOf s q) ≡ keysOf w v n ++ (keyOf s q ∷ []) = insert-new number-equality (keysOf w v n) (keyOf s q) f in
+        let o : insert eqb (keysOf w v n) k ≡ keysOf w v n ++ (k ∷ []) = insert-new number-equality (keysOf w v n) k f in
         record {
           keys = keys ∙ sym o;
-          vertex = sym (a .table .chains .count) ∙ sym (place-out number-equality (keyOf s q) (keysOf w v n) [] f) ∙ ap (place eqb (keyOf s q)) (sym o);
+          vertex = sym (a .table .chains .count) ∙ sym (place-out number-equality k (keysOf w v n) [] f) ∙ ap (place eqb k) (sym o);
           table =
               record {
                 chains =
-                    subst₃ (λ (x y z : List ℕ). Chains x y z v (n + 1)) (sym heads) (sym links) (sym keys)
-                    (more _ _ _ _ _ _ (a .table .chains) room (long 0 (omega (arith, a .whole))) (long 1 (omega (arith, a .whole))) below f);
-                small = rw (states, items) small;
+                    subst₃ (λ (x y z : List ℕ). Chains x y z v (n + 1)) (sym heads) (sym entries) (sym keys)
+                    (more _ _ _ _ _ _ (a .table .chains) room heads-long entries-long below f);
+                small = rw entries small;
               };
-          rest =
-              rest-put 4 0 v _ _ _ below (lit< tt)
-              ∙ rest-put 4 1 v n _ _ room (lit< tt)
-              ∙ rest-put 4 3 v n q _ room (lit< tt)
-              ∙ rest-put 4 2 v n s w room (lit< tt);
+          rest = let m : 2 * (2 * v) ≡ 4 * v = omega arith in subst (λ (x : ℕ). drop x (numbered w v n k) ≡ drop x w) m rest;
         }
 
     -- from what each call ensures, in the order of the calls
-    pub added-by : (f : Found) (slot head : ℕ) (w1 w2 w3 w4 : List ℕ) → f ≡ foundIn (keyOf s q) (keysOf w v n) → f ≡ Nothing → slot ≡ slotOf (keyOf s q) v
-        → head ≡ word (region 0 v w) slot → w1 ≡ putWord 2 v n s w → w2 ≡ putWord 3 v n q w1 → w3 ≡ putWord 1 v n head w2
-        → w4 ≡ putWord 0 v slot (n + 1) w3 → Numbers w w4 v n (keyOf s q) n (n + 1)
-    added-by f slot head w1 w2 w3 w4 e₀ e₁ e₂ e₃ e₄ e₅ e₆ e₇ =
-        let g : w4 ≡ numbered w v n s q = cc in
-        rw g (added (found-fresh (keyOf s q) (keysOf w v n) (sym e₀ ∙ e₁)))
+    pub added-by : (f : Found) (slot head₁ : ℕ) (w1 w2 w3 : List ℕ) → f ≡ foundIn k (keysOf w v n) → f ≡ Nothing → slot ≡ slotOf k (2 * v)
+        → head₁ ≡ word (region 0 (2 * v) w) slot → w1 ≡ putWord 1 (2 * v) (2 * n) k w → w2 ≡ putWord 1 (2 * v) (2 * n + 1) head₁ w1
+        → w3 ≡ putWord 0 (2 * v) slot (n + 1) w2 → Numbers w w3 v n k n (n + 1)
+    added-by f slot head₁ w1 w2 w3 e₀ e₁ e₂ e₃ e₄ e₅ e₆ =
+        let g : w3 ≡ numbered w v n k = cc in
+        rw g (added (found-fresh k (keysOf w v n) (sym e₀ ∙ e₁)))

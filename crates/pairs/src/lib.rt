@@ -4,9 +4,9 @@ ghost use mathlib.Core.Path.{_≡_};
 ghost use Prim.Native.Nat.{_*_, _≤_, _<_, _%_, _^_};
 ghost use lib.ListN.{length};
 ghost use Rattle.rules.specs.Lists.{word};
-ghost use Rattle.words.specs.Regions.{region};
+ghost use Rattle.words.specs.Regions.{region, putWord};
 ghost use Rattle.pairs.specs.Slot.{keyOf, slotOf, Multiples};
-ghost use Rattle.pairs.specs.Table.{keysOf, Small, Asks, Started};
+ghost use Rattle.pairs.specs.Table.{keyAt, linkAt, stateAt, itemAt, keysOf, InPart, Asks, Started};
 ghost use Rattle.pairs.specs.Answers.{foundIn, Numbering};
 
 // Each byte times 2,654,435,761, with everything above 32 bits dropped.
@@ -284,38 +284,34 @@ fn multiple(multiples: &[u32; 256], b: usize) -> u32
     multiples[b]
 }
 
-// key times 2,654,435,761, with everything above 32 bits dropped: a wrapping sum of byte multiples.
-fn product(multiples: &[u32; 256], key: u32) -> u32
+// x times 2,654,435,761, with everything above 32 bits dropped: a wrapping sum of the multiples of its two bytes.
+fn product(multiples: &[u32; 256], x: u32) -> u32
     requires { ⌜ Multiples (now multiples) ⌝ }
-    ensures { λ r. ⌜ r ≡ key * 2654435761 % 2 ^ 32 ⌝ }
+    requires { ⌜ x < 65536 ⌝ }
+    ensures { λ r. ⌜ r ≡ x * 2654435761 % 2 ^ 32 ⌝ }
 {
-    let low = multiple(multiples, (key % 256) as usize);
-    let second = multiple(multiples, (key / 256 % 256) as usize) << 8;
-    let third = multiple(multiples, (key / 65536 % 256) as usize) << 16;
-    let high = multiple(multiples, (key / 16777216) as usize) << 24;
-    let a = std::num::wrapping_add_u32(low, second);
-    let b = std::num::wrapping_add_u32(third, high);
-    std::num::wrapping_add_u32(a, b)
+    let low = multiple(multiples, (x % 256) as usize);
+    let high = multiple(multiples, (x / 256) as usize) << 8;
+    std::num::wrapping_add_u32(low, high)
 }
 
-// The slot from which the chain of a pair starts.
+// The slot from which the chain of a pair starts, where there are v slots. The product of the key is that of the state, times 2,048, and that of the item; the item's is the same for
+// all targets of a modality.
 pub fn slot_of(multiples: &[u32; 256], state: u32, item: u32, v: u32) -> u32
     requires { ⌜ Multiples (now multiples) ⌝ }
     requires { ⌜ (state < 65535) × (item < 2048) ⌝ }
     ensures { λ r. ⌜ r ≡ slotOf (keyOf state item) v ⌝ }
 {
-    let p = product(multiples, state * 2048 + item);
+    let by_item = product(multiples, item);
+    let by_state = product(multiples, state) << 11;
+    let p = std::num::wrapping_add_u32(by_state, by_item);
     ((p as u64) * (v as u64) / 4294967296) as u32
 }
 
-// The regions of the work slice that hold the table, each of v words.
+// The parts of the table, each of 2v words: a head for each slot, and for each vertex its key and its link, side by side so that one look at memory shows both.
 const HEADS: u32 = 0;
 
-const LINKS: u32 = 1;
-
-const STATES: u32 = 2;
-
-const ITEMS: u32 = 3;
+const ENTRIES: u32 = 1;
 
 pub enum Found {
     At(VertexIndex),
@@ -327,13 +323,59 @@ pub enum Numbered {
     NoRoom,
 }
 
-// The key of a known vertex's pair.
-fn key_at(work: &[u32], v: u32, i: u32) -> u32
-    requires { ⌜ (8 * v ≤ length (now work)) × (i < v) × Small (region 2 v (now work)) (region 3 v (now work)) i ⌝ }
-    ensures { λ r. ⌜ r ≡ keyOf (word (region 2 v (now (work .entry))) i) (word (region 3 v (now (work .entry))) i) ⌝ }
+// ---- the words of the table: only these two functions index them
+
+// Word i of a part.
+fn part_word(work: &[u32], v: u32, part: u32, i: usize) -> u32
+    requires { ⌜ InPart v part i (length (now work)) ⌝ }
+    ensures { λ r. ⌜ r ≡ word (region part (2 * v) (now (work .entry))) i ⌝ }
 {
-    words::region_word(work, v, STATES, i) * 2048 + words::region_word(work, v, ITEMS, i)
+    work[(part as usize) * (2 * (v as usize)) + i]
 }
+
+// Word i of a part becomes x.
+fn put_part_word(work: &mut [u32], v: u32, part: u32, i: usize, x: u32)
+    requires { ⌜ InPart v part i (length (now work)) ⌝ }
+    ensures { λ _. ⌜ now (work .exit) ≡ putWord part (2 * v) i x (now (work .entry)) ⌝ }
+{
+    work[(part as usize) * (2 * (v as usize)) + i] = x;
+}
+
+// ---- one vertex
+
+// The key of a vertex.
+fn key_at(work: &[u32], v: u32, i: u32) -> u32
+    requires { ⌜ (8 * v ≤ length (now work)) × (i < v) ⌝ }
+    ensures { λ r. ⌜ r ≡ keyAt (now (work .entry)) v i ⌝ }
+{
+    part_word(work, v, ENTRIES, 2 * (i as usize))
+}
+
+// The link of a vertex.
+fn link_at(work: &[u32], v: u32, i: u32) -> u32
+    requires { ⌜ (8 * v ≤ length (now work)) × (i < v) ⌝ }
+    ensures { λ r. ⌜ r ≡ linkAt (now (work .entry)) v i ⌝ }
+{
+    part_word(work, v, ENTRIES, 2 * (i as usize) + 1)
+}
+
+// The state of a vertex's pair.
+pub fn state_of(work: &[u32], v: u32, i: u32) -> u32
+    requires { ⌜ (8 * v ≤ length (now work)) × (i < v) ⌝ }
+    ensures { λ r. ⌜ r ≡ stateAt (now (work .entry)) v i ⌝ }
+{
+    key_at(work, v, i) / 2048
+}
+
+// The item of a vertex's pair.
+pub fn item_of(work: &[u32], v: u32, i: u32) -> u32
+    requires { ⌜ (8 * v ≤ length (now work)) × (i < v) ⌝ }
+    ensures { λ r. ⌜ r ≡ itemAt (now (work .entry)) v i ⌝ }
+{
+    key_at(work, v, i) % 2048
+}
+
+// ---- all vertices
 
 // The vertex that stands for a pair, by the chain of the pair's slot.
 pub fn find(
@@ -349,13 +391,14 @@ pub fn find(
     ensures { λ r. ⌜ r ≡ foundIn (keyOf state item) (keysOf (now (work .entry)) v known) ⌝ }
 {
     let key = state * 2048 + item;
-    let mut link = words::region_word(work, v, HEADS, slot_of(multiples, state, item, v));
+    let slot = slot_of(multiples, state, item, 2 * v) as usize;
+    let mut link = part_word(work, v, HEADS, slot);
     while link != 0 {
         let vertex = link - 1;
         if key_at(work, v, vertex) == key {
             return Found::At(VertexIndex(vertex));
         }
-        link = words::region_word(work, v, LINKS, vertex);
+        link = link_at(work, v, vertex);
     }
     Found::Nothing
 }
@@ -379,12 +422,12 @@ pub fn number(
             if known == v {
                 return Numbered::NoRoom;
             }
-            let slot = slot_of(multiples, state, item, v);
-            let head = words::region_word(work, v, HEADS, slot);
-            words::put_word(work, v, STATES, known, state);
-            words::put_word(work, v, ITEMS, known, item);
-            words::put_word(work, v, LINKS, known, head);
-            words::put_word(work, v, HEADS, slot, known + 1);
+            let slot = slot_of(multiples, state, item, 2 * v) as usize;
+            let head = part_word(work, v, HEADS, slot);
+            let entry = 2 * (known as usize);
+            put_part_word(work, v, ENTRIES, entry, state * 2048 + item);
+            put_part_word(work, v, ENTRIES, entry + 1, head);
+            put_part_word(work, v, HEADS, slot, known + 1);
             Numbered::Vertex {
                 vertex: VertexIndex(known),
                 known: known + 1,
@@ -398,9 +441,10 @@ pub fn start(work: &mut [u32], v: u32)
     requires { ⌜ (v ≤ 1048576) × (8 * v ≤ length (now work)) ⌝ }
     ensures { λ _. ⌜ Started (now (work .entry)) (now (work .exit)) v ⌝ }
 {
+    let slots = 2 * (v as usize);
     let mut i = 0;
-    while i < v {
-        words::put_word(work, v, HEADS, i, 0);
+    while i < slots {
+        put_part_word(work, v, HEADS, i, 0);
         i += 1;
     }
 }

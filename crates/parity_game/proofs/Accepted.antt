@@ -12,7 +12,8 @@ use Rattle.rules.specs.Game.{vertexCount, edgesIn}
 use Rattle.rules.specs.Refusal.{differ}
 use Rattle.rules.specs.GameRefusal.{refusal51}
 use Rattle.tables.proofs.Faults.{if-passed}
-use Rattle.faults.proofs.Choices.{or-false, differ-false}
+use Rattle.lists.proofs.Tests.{or-false}
+use Rattle.tables.proofs.Choices.{differ-false}
 use Rattle.parity_game.specs.Sizes.{Sizes}
 
 pub sizes : (g : List ℕ) → refusal51 g ≡ Passed → Sizes g

@@ -1,7 +1,7 @@
 -- The refusals 51, 52 and 53 of a game as a program finds them, by the sizes that it has read. Assumes nothing.
-use Prim.Native.Nat.{ℕ, suc, _+_, _*_, _-_, _<_, _≤_}
+use Prim.Native.Nat.{ℕ, _+_, _*_, _-_, _<_, _≤_}
 use native.Mathlib.Omega.{arith}
-use mathlib.Core.Path.{_≡_, refl, sym, ap, _∙_}
+use mathlib.Core.Path.{_≡_, refl, ap, _∙_}
 use mathlib.Core.Bool.{true, false}
 use mathlib.Core.List.{List}
 use lib.ListN.{length}
@@ -12,15 +12,15 @@ use Rattle.rules.specs.declared.Check.the-variants.{Passed, Fault}
 use Rattle.rules.specs.Lists.{word}
 use Rattle.rules.specs.Words.{mostVertices, mostEdges}
 use Rattle.rules.specs.Answers.{faultIf, andThen}
-use Rattle.rules.specs.Game.{vertexCount, edgesIn, initialIn, offsetIn}
+use Rattle.rules.specs.Game.{vertexCount, edgesIn, initialIn}
 use Rattle.rules.specs.Refusal.{differ, faultFrom, lowerFault, tooLarge}
 use Rattle.rules.specs.GameRefusal.{falls, refusal51, refusal52, refusal53, gameRefusal}
-use Rattle.tables.proofs.Faults.{if-true, if-false, then-fault, then-passed, first-fault, first-next}
-use Rattle.faults.proofs.Choices.{or-left, or-right, or-none, differ-yes, differ-no}
-use Rattle.faults.proofs.Chains.{first-one}
+use Rattle.tables.proofs.Faults.{if-true, if-false, then-fault, then-passed, first-fault, first-next, first-one}
+use Rattle.lists.proofs.Tests.{or-left, or-right, or-none}
+use Rattle.tables.proofs.Choices.{differ-yes, differ-no}
 use Rattle.parity_game.proofs.Pools.{in-order, if-before, if-past, from-before, from-past, then-before}
 
--- ---- a word that falls, a word that is too large
+-- ---- a word that falls
 
 pub falls-yes : (g : List ℕ) (w : ℕ) → word g w < word g (w - 1) → falls g w ≡ true
 unfolding falls
@@ -29,14 +29,6 @@ falls-yes g w h = lt-ltb _ _ h
 pub falls-no : (g : List ℕ) (w : ℕ) → word g (w - 1) ≤ word g w → falls g w ≡ false
 unfolding falls
 falls-no g w h = le-ltb _ _ h
-
-pub large : (ws : List ℕ) (bound w : ℕ) → bound ≤ word ws w → tooLarge ws bound w ≡ true
-unfolding tooLarge
-large ws bound w h = le-leb _ _ h
-
-pub small : (ws : List ℕ) (bound w : ℕ) → word ws w < bound → tooLarge ws bound w ≡ false
-unfolding tooLarge
-small ws bound w h = lt-leb _ _ h
 
 -- ---- 51
 

@@ -1,7 +1,7 @@
 -- The words of a game as stretches, one after the other: those that a program writes from left to right. Assumes nothing.
 use Prim.Native.Nat.{ℕ, _+_, _-_, _≤_}
 use native.Mathlib.Omega.{arith}
-use mathlib.Core.Path.{_≡_, refl, sym, ap, _∙_}
+use mathlib.Core.Path.{_≡_, refl, ap, _∙_}
 use mathlib.Core.List.{List, [], _∷_, _++_, map, append-nil}
 use lib.ListN.{length, take, set, replicate}
 use Rattle.rules.specs.Game.{Vertex, edgeCount, offsets, edgeTargets, gameOf, padded}

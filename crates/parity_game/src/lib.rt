@@ -4,27 +4,12 @@ ghost use mathlib.Core.Path.{_≡_};
 ghost use mathlib.Core.List.{[], _∷_};
 ghost use Prim.Native.Nat.{_+_, _*_, _<_, _≤_};
 ghost use lib.ListN.{length};
-ghost use Rattle.rules.specs.Refusal.{faultFrom, tooLarge};
+ghost use Rattle.rules.specs.Refusal.{faultFrom};
 ghost use Rattle.rules.specs.GameRefusal.{falls, refusal51, refusal52, refusal53, gameRefusal};
 ghost use Rattle.words.specs.Stretches.{Wrote};
 ghost use Rattle.parity_game.specs.Sizes.{Sizes};
 
 // ---- the check
-
-// Fault 53 at the first of the words from `first` up to `end` that is not below the bound.
-fn check_below(ws: &[u32], first: usize, end: usize, bound: usize) -> Check
-    requires { ⌜ (end ≤ length (now ws)) × (end < 4294967296) ⌝ }
-    ensures { λ r. ⌜ r ≡ faultFrom 53 first end (tooLarge (now (ws .entry)) bound) ⌝ }
-{
-    let mut p = first;
-    while p < end {
-        if bound <= words::at(ws, p) {
-            return Check::Fault(53, p as u32);
-        }
-        p += 1;
-    }
-    Check::Passed
-}
 
 // Fault 52 at the first of the words from `first` up to `end` that is less than the one before it.
 fn check_rising(ws: &[u32], first: usize, end: usize) -> Check
@@ -100,10 +85,10 @@ fn check_vertices(game: &[u32]) -> Check
     if n <= words::at(game, 2) {
         return Check::Fault(53, 2);
     }
-    let owners = check_below(game, 3, 3 + n, 2);
+    let owners = faults::check_below(game, 3, 3 + n, 2, 53);
     match owners {
         Check::Fault(number, place) => Check::Fault(number, place),
-        Check::Passed => check_below(game, 4 + 3 * n, 4 + 3 * n + m, n),
+        Check::Passed => faults::check_below(game, 4 + 3 * n, 4 + 3 * n + m, n, 53),
     }
 }
 

@@ -1,15 +1,15 @@
 -- Where the edges of a vertex stand in a game that is not refused, and how many they are. Assumes nothing.
-use Prim.Native.Nat.{ℕ, suc, _+_, _-_, _*_, _≤_, _<_}
+use Prim.Native.Nat.{ℕ, _+_, _-_, _*_, _≤_, _<_}
 use native.Mathlib.Omega.{arith}
 use native.Mathlib.Numerals.{add-one}
-use mathlib.Core.Path.{_≡_, sym, ap, _∙_, subst}
+use mathlib.Core.Path.{_≡_, ap, _∙_, subst}
 use mathlib.Core.List.{List}
 use lib.ListN.{length}
 use lib.Seq.{slice, length-slice}
 use Rattle.rules.specs.Lists.{word}
 use Rattle.rules.specs.Game.{vertexCount, offsetIn, targetsAt, targetsIn}
 use Rattle.restrictions.specs.GoodGame.{GoodGame}
-use Rattle.restrictions.proofs.Accepted.{offset-within}
+use Rattle.restrictions.proofs.Accepted.{most-offset}
 use Rattle.reachability.specs.Search.{edgesFrom}
 
 -- the targets stand between two places
@@ -28,7 +28,7 @@ module _ (g : List ℕ) (good : GoodGame g) where
   unfolding edgesFrom
   edges-read v n o h e f =
       let q : o ≡ offsetIn g v = f ∙ ap (λ (k : ℕ). word g (3 + 2 * k + v)) e in
-      (omega arith, omega (arith, good .sized, offset-within g good v h), omega arith)
+      (omega arith, omega (arith, good .sized, most-offset g good v h), omega arith)
 
   pub edges-rise : (v : ℕ) → v < vertexCount g → edgesFrom g v ≤ edgesFrom g (v + 1)
   unfolding edgesFrom
@@ -36,7 +36,7 @@ module _ (g : List ℕ) (good : GoodGame g) where
 
   pub edges-within : (v : ℕ) → v ≤ vertexCount g → edgesFrom g v ≤ length g
   unfolding edgesFrom
-  edges-within v h = omega (arith, good .sized, offset-within g good v h)
+  edges-within v h = omega (arith, good .sized, most-offset g good v h)
 
   -- a word of the targets is a vertex
   pub leads-at : (p : ℕ) → targetsAt g ≤ p → p < length g → word g p < vertexCount g

@@ -9,7 +9,8 @@ use Rattle.rules.specs.Refusal.{differ}
 use Rattle.rules.specs.GameRefusal.{gameRefusal}
 use Rattle.rules.specs.Restrict.{restrictionRefusal}
 use Rattle.tables.proofs.Faults.{if-true, then-fault, then-passed}
-use Rattle.faults.proofs.Choices.{or-left, or-right, differ-yes}
+use Rattle.lists.proofs.Tests.{or-left, or-right}
+use Rattle.tables.proofs.Choices.{differ-yes}
 
 module _ (g : List ℕ) (out numbers work : ℕ) where
   pub refused-game : {n p : ℕ} → gameRefusal g ≡ Fault n p → restrictionRefusal g out numbers work ≡ Fault n p

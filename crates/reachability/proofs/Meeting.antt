@@ -1,8 +1,8 @@
 -- A vertex that is met, as the two slices show it: its number stands in one of them, and the vertices met stand in the other. Assumes nothing.
-use mathlib.Core.Path.{_≡_, refl, sym, ap, _∙_, subst}
+use mathlib.Core.Path.{_≡_, sym, ap, _∙_, subst}
 use mathlib.Core.List.{List, [], _∷_, _++_}
 use mathlib.Core.Logic.{_⊎_, inl, inr, ⊎-elim}
-use Prim.Native.Nat.{ℕ, suc, _+_, _-_, _≤_, _<_}
+use Prim.Native.Nat.{ℕ, _+_, _-_, _≤_, _<_}
 use native.Mathlib.Decide.{ℕ-discrete}
 use native.Mathlib.Numerals.{add-one}
 use native.Mathlib.Omega.{arith}
@@ -14,7 +14,7 @@ use Rattle.rules.specs.Restrict.{newNumber}
 use Rattle.lists.proofs.Members.{in-at, in-last, in-left, in-or, in-either, no-more, distinct-snoc, place-append, place-out}
 use Rattle.lists.proofs.Inserts.{insert-new, insert-old}
 use Rattle.lists.proofs.Equalities.{number-equality}
-use Rattle.arena.proofs.Ranges.{from-length, from-in}
+use Rattle.lists.proofs.Ranges.{from-length, from-in}
 use Rattle.restrictions.proofs.Kept.{number-in, number-out, number-below}
 use Rattle.reachability.specs.Search.{Knows}
 

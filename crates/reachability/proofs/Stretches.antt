@@ -5,7 +5,7 @@ use Prim.Native.Nat.{ℕ, zero, suc, _+_, _-_, _≤_, _<_}
 use native.Mathlib.Numerals.{add-one}
 use native.Mathlib.Omega.{arith}
 use lib.ListN.{length, take, length-map}
-use lib.Seq.{slice, slice-cons, length-slice, length-take-le}
+use lib.Seq.{slice, slice-cons, length-take-le}
 use Rattle.rules.specs.Lists.{word}
 use Rattle.rules.specs.Game.{Vertex, edgeCount, offsets, edgeTargets, vertexCount, targetsIn}
 use Rattle.rules.specs.Restrict.{newNumber, keptVertex, keptVertices}
@@ -16,7 +16,7 @@ use Rattle.restrictions.specs.GoodGame.{GoodGame}
 use Rattle.restrictions.proofs.Kept.{kept-length, edges-fit}
 use Rattle.reachability.specs.Search.{edgesFrom, Knows, Chosen}
 use Rattle.reachability.proofs.Edges.{targets-between, edges-past, edges-rise, edges-within, leads-at, degree}
-use Rattle.reachability.proofs.Meeting.{length-known, knows-at}
+use Rattle.reachability.proofs.Meeting.{knows-at}
 use Rattle.reachability.proofs.Turns.{slice-none}
 
 -- the vertices that stand at the places from i up to count of the work slice

@@ -1,6 +1,6 @@
 -- The whole call: what its parts leave is the restriction, and so what `Restricts` says. Assumes nothing.
-use mathlib.Core.Path.{_≡_, refl, sym, ap, _∙_, subst}
-use mathlib.Core.List.{List, [], _∷_}
+use mathlib.Core.Path.{_≡_, sym, ap, _∙_, subst}
+use mathlib.Core.List.{List}
 use Prim.Native.Nat.{ℕ}
 use lib.ListN.{length, take, replicate}
 use Rattle.rules.specs.declared.Check.the-variants.{Passed, Fault}
@@ -9,7 +9,7 @@ use Rattle.rules.specs.declared.Answer.the-variants.{Done, Refused}
 use Rattle.rules.specs.Lists.{word, zeros}
 use Rattle.rules.specs.Answers.{said}
 use Rattle.rules.specs.Game.{edgeCount, gameOf, padded, vertexCount}
-use Rattle.rules.specs.Restrict.{reachedVertices, keptVertices, vertexMap, restrictionRefusal, Restricted, restrictedTo, restriction}
+use Rattle.rules.specs.Restrict.{reachedVertices, keptVertices, restrictionRefusal, Restricted, restrictedTo, restriction}
 use Rattle.rules.specs.Restricts.{Restricts}
 use Rattle.restrictions.proofs.Kept.{kept-length}
 use Rattle.restrictions.proofs.Restriction.{restriction-passed, restriction-refused, restriction-restricts}

@@ -1,8 +1,7 @@
 -- The game that is written, and the map, as the definitions have them. Assumes nothing.
 use mathlib.Core.Path.{_≡_, refl, sym, ap, _∙_, subst}
 use mathlib.Core.List.{List, [], _∷_, _++_, map}
-use Prim.Native.Nat.{ℕ, _+_, _*_, _<_}
-use native.Mathlib.Omega.{arith}
+use Prim.Native.Nat.{ℕ, _+_, _<_}
 use lib.ListN.{length, take}
 use lib.Seq.{ext-getD}
 use Rattle.rules.specs.Lists.{word}

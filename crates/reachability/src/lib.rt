@@ -11,7 +11,7 @@ ghost use Rattle.rules.specs.declared.Check.the-variants.{Passed};
 ghost use Rattle.rules.specs.Lists.{word, insert, insertAll};
 ghost use Rattle.rules.specs.Answers.{said};
 ghost use Rattle.rules.specs.Game.{edgeCount, offsets, edgeTargets, gameOf, padded, vertexCount};
-ghost use Rattle.rules.specs.Restrict.{reachedVertices, keptVertices, restrictionRefusal, Restricted, restrictedTo, restriction};
+ghost use Rattle.rules.specs.Restrict.{reachedVertices, keptVertices, restrictionRefusal, restrictedTo, restriction};
 ghost use Rattle.rules.specs.Restricts.{Restricts};
 ghost use Rattle.words.specs.Stretches.{Wrote};
 ghost use Rattle.restrictions.specs.GoodGame.{GoodGame};

@@ -2,7 +2,7 @@
 -- said of each. It is proved by computation. Assumes nothing.
 use mathlib.Core.Path.{_≡_, refl}
 use Prim.Native.Nat.{ℕ}
-use mathlib.Core.Bool.{Bool, true, false}
+use mathlib.Core.Bool.{true, false}
 use mathlib.Core.List.{List, [], _∷_, map}
 use lib.ListN.{length, replicate}
 use Rattle.rules.specs.declared.Answer.{Answer}
@@ -25,10 +25,10 @@ use Rattle.rules.specs.Reach.{allTargets, reachedIn, reachablePairs, N}
 use Rattle.rules.specs.Game.{waitingVertex, stuckPriority, settledVertex, vertexAt, vertices, edgeCount, offsets, edgeTargets, gameOf, padded}
 use Rattle.rules.specs.Refusal.{outside, differ, faultFrom, lowerFault, refusal1, refusal2, refusal11, refusal12, badLabel, refusal13, refusal21, refusal22, refusal23, refusal24, tooLarge, refusal25, refusal26, refusal31, refusal32, refusal33, wrongActionOperand, badActionOperand, refusal34, refusal41, refusal42, refusal43, namesNoTree, wrongFormulaOperand, badFormulaOperand, wrongEnd, refusal44, encloses, wrongReference, refusal45, inputRefusal, refusal}
 use Rattle.rules.specs.GameRefusal.{refusal51, falls, refusal52, refusal53, gameRefusal}
-use Rattle.rules.specs.Restrict.{searchFrom, reachedVertices, newNumber, keptVertex, keptVertices, vertexMap, restrictionRefusal, Restricted, restrictedTo, restrictedOr, restriction}
+use Rattle.rules.specs.Restrict.{searchFrom, reachedVertices, newNumber, keptVertex, keptVertices, vertexMap, restrictionRefusal, restrictedTo, restrictedOr, restriction}
 use Rattle.rules.specs.Game.{vertexCount}
 use Rattle.rules.specs.Program.{wordOf, joined, wordsOf, disagree, slicesOf, gateRoom, gateRun, digitsTo, decimal, spaced, doneText, cutText, refusedText, line, vertexLine, vertexLines, report, reported, printedWords, printed}
-use Rattle.rules.specs.Run.{Outcome, walkOf, verticesOf, exceeds, doneOrCut, finished, outOfRoom, walked, refusedOr, run}
+use Rattle.rules.specs.Run.{walkOf, verticesOf, exceeds, doneOrCut, finished, outOfRoom, walked, refusedOr, run}
 
 -- label 0 is action 7, state 0 is the only state, with a loop on label 0, and the action formula is label 0
 abbrev pub looping : List ℕ → Input

@@ -1,7 +1,7 @@
 -- Demands 1 and 3 of a run, said of the answer's words and of the words that stand in the lent slices afterwards. No walk, stack or list of vertices is mentioned, but in
 -- `pairsOf`, which the field `walked` pins. "Demand" quotes are from the project's mission. Assumes nothing: these are statements.
 use mathlib.Core.Path.{_≡_}
-use mathlib.Core.Bool.{Bool, true, false, cond}
+use mathlib.Core.Bool.{cond}
 use mathlib.Core.List.{List, [], _∷_, _++_, map}
 use mathlib.Core.Logic.{_⊎_, _↔_}
 use Prim.Native.Nat.{ℕ, zero, suc, _+_, _*_, _≤_, _<_, min, max}
@@ -9,7 +9,6 @@ use lib.ListN.{length, getD}
 use lib.Dec.{ltb}
 use Rattle.player.specs.Player.{playerIndex}
 use Rattle.player.specs.declared.Player.{Player}
-use Rattle.rules.specs.declared.Check.{Check}
 use Rattle.rules.specs.declared.Check.the-variants.{Passed, Fault}
 use Rattle.rules.specs.Lists.{word, sum, zeros, In, Distinct}
 use Rattle.rules.specs.Words.{Input, Room}

@@ -1,6 +1,6 @@
 -- Depth and priority of an equation (document 01, "Depth"). Assumes nothing: these are definitions.
 use Prim.Native.Nat.{ℕ, zero, suc, _+_, _*_, _/_}
-use mathlib.Core.Bool.{Bool, true, false, cond}
+use mathlib.Core.Bool.{cond}
 use mathlib.Core.List.{List, [], _∷_, _++_, map}
 use lib.Dec.{eqb, ltb}
 use Rattle.rules.specs.Lists.{largest}

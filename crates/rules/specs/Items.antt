@@ -1,8 +1,8 @@
 -- Items (document 01, "Items": "Equations are items. So are body subformulas, and two that are alike as trees, action trees included, are one .. Equations are
 -- numbered first, then subformulas by the lowest node that carries them in a body"). Assumes nothing: these are definitions.
-use Prim.Native.Nat.{ℕ, zero, suc, _+_}
+use Prim.Native.Nat.{ℕ, _+_}
 use mathlib.Core.Bool.{Bool, true, false, _&&_}
-use mathlib.Core.List.{List, [], _∷_, _++_, map}
+use mathlib.Core.List.{List, _++_, map}
 use lib.Dec.{eqb}
 use Rattle.rules.specs.Lists.{place, once}
 use Rattle.rules.specs.Words.{Input}

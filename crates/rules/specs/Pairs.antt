@@ -1,6 +1,6 @@
 -- Pairs of a state and an item number: owner, priority and targets (document 01, "One step", "Pairs"). Only this module looks into items. Assumes nothing: these are definitions.
 use Prim.Native.Nat.{ℕ}
-use mathlib.Core.Bool.{Bool, true, false, cond, _&&_}
+use mathlib.Core.Bool.{Bool, cond, _&&_}
 use mathlib.Core.List.{List, [], _∷_, map}
 use lib.ListN.{getD}
 use lib.Dec.{eqb, ltb}
@@ -11,7 +11,7 @@ use Rattle.rules.specs.Words.{Input}
 use Rattle.rules.specs.Labels.{multiset}
 use Rattle.rules.specs.System.{initialState, transitions}
 use Rattle.rules.specs.Actions.{Action, matches}
-use Rattle.rules.specs.Formula.{Operator, least, greatest, Equation, equationCount, Formula, truth, falsity, conjunction, disjunction, box, diamond, reference, bodyTree}
+use Rattle.rules.specs.Formula.{Operator, least, greatest, equationCount, Formula, truth, falsity, conjunction, disjunction, box, diamond, reference, bodyTree}
 use Rattle.rules.specs.Depth.{Ranking}
 use Rattle.rules.specs.Items.{Item, equation, subformula, items, itemNumber}
 

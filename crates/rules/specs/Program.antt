@@ -1,11 +1,11 @@
 -- The thin program (document 01, "A thin program reads little-endian words from standard input: four lengths, then labels, system, action formulas, formula"): the bytes that it
 -- writes, as a function of the bytes that it reads. Assumes nothing: these are definitions.
 use Prim.Native.Nat.{ℕ, zero, suc, _+_, _*_, _/_, _%_}
-use mathlib.Core.Bool.{Bool, true, false, cond, _||_}
-use mathlib.Core.List.{List, [], _∷_, _++_, map}
+use mathlib.Core.Bool.{Bool, cond, _||_}
+use mathlib.Core.List.{List, [], _∷_, _++_}
 use mathlib.Core.Option.{Option, none, some}
 use lib.ListN.{length, take, drop, replicate}
-use lib.Dec.{eqb, ltb}
+use lib.Dec.{ltb}
 use Rattle.rules.specs.Lists.{word, from, sum}
 use Rattle.rules.specs.Words.{Input, Room, inputOf, roomOf, gameLength, workLength}
 use Rattle.rules.specs.Depth.{byDepth}

@@ -1,8 +1,8 @@
 -- Why a run is refused before it begins (document 01, "Who can cause a refusal"): one definition for each number, with its place. "Within a number the smallest place
 -- wins"; "The place is a word number (13, 23, 25, 26, 52, 53), a node number (33, 34, 43, 44, 45; an unfinished tree gives the node count, leftovers their first
 -- node), else 0 unless said". All sums are of integers: none wraps. Assumes nothing: these are definitions.
-use Prim.Native.Nat.{ℕ, zero, suc, _+_, _*_, _-_, min}
-use mathlib.Core.Bool.{Bool, true, false, cond, not, _&&_, _||_}
+use Prim.Native.Nat.{ℕ, suc, _+_, _*_, _-_, min}
+use mathlib.Core.Bool.{Bool, false, not, _&&_, _||_}
 use mathlib.Core.List.{List, [], _∷_}
 use mathlib.Core.Option.{Option, none, some}
 use lib.ListN.{length}

@@ -1,7 +1,7 @@
 -- The restriction (document 01, "Restriction": "From the initial vertex, breadth first, targets in order; the first met gets the next number; owners, priorities and edge
 -- order stay. The map holds 4,294,967,295 for a vertex not reached"). Assumes nothing: these are definitions.
 use Prim.Native.Nat.{ℕ, zero, suc}
-use mathlib.Core.Bool.{Bool, cond, _||_}
+use mathlib.Core.Bool.{cond, _||_}
 use mathlib.Core.List.{List, [], _∷_, map}
 use lib.ListN.{length, getD}
 use lib.Dec.{eqb, ltb}

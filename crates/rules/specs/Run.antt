@@ -1,6 +1,6 @@
 -- What a run answers, and what the slices lent to it hold afterwards (document 01, "Who can cause a refusal"). Assumes nothing: these are definitions.
-use Prim.Native.Nat.{ℕ, zero, suc, _-_}
-use mathlib.Core.Bool.{Bool, true, false, cond, _||_}
+use Prim.Native.Nat.{ℕ, _-_}
+use mathlib.Core.Bool.{Bool, cond, _||_}
 use mathlib.Core.List.{List, [], _∷_}
 use lib.ListN.{length}
 use lib.Dec.{ltb}

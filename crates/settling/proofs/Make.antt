@@ -2,7 +2,7 @@
 use mathlib.Core.Path.{_≡_, refl, sym, _∙_, ap, ap₂, subst}
 use mathlib.Core.List.{List, [], _∷_, _++_, append-assoc, append-nil}
 use mathlib.Core.Logic.{inl, inr, ⊎-elim}
-use Prim.Native.Nat.{ℕ, zero, suc, _+_, _-_, _*_, _≤_, _<_}
+use Prim.Native.Nat.{ℕ, suc, _+_, _-_, _*_, _≤_, _<_}
 use native.Mathlib.Omega.{arith}
 use lib.Dec.{eqb, lit≤, lit<}
 use lib.ListN.{length, drop, length-append}
@@ -22,24 +22,7 @@ use Rattle.settling.specs.declared.Stepped.the-variants.{Room, Full}
 use Rattle.settling.specs.Stand.{waitingIn, waitingOf, edgesOf, putEdge}
 use Rattle.settling.specs.Made.{Marks, Ready, Meeting, Made, TooMany, Answer}
 use Rattle.settling.proofs.Buffer.{region-edge, edges-more, edges-rest, length-putEdge}
-
--- ---- what is pushed in two stretches
-
-push-push : (n a b : ℕ) (before : List ℕ) → pushNew (n + a) b (pushNew n a before) ≡ pushNew n (a + b) before
-unfolding pushNew
-push-push n a zero before = let z : a + 0 ≡ a = omega arith in rw z
-push-push n a (suc b) before =
-    let z : a + suc b ≡ suc (a + b) = omega arith in
-    let y : n + a + b ≡ n + (a + b) = omega arith in
-    rw (z, y) (ap (λ (l : List ℕ). (n + (a + b)) ∷ l) (push-push n a b before))
-
-push-on : (n₀ n₁ n₂ : ℕ) (before : List ℕ) → n₀ ≤ n₁ → n₁ ≤ n₂ → pushNew n₁ (n₂ - n₁) (pushNew n₀ (n₁ - n₀) before) ≡ pushNew n₀ (n₂ - n₀) before
-push-on n₀ n₁ n₂ before h l =
-    let y : n₁ ≡ n₀ + (n₁ - n₀) = omega arith in
-    let z : n₁ - n₀ + (n₂ - n₁) ≡ n₂ - n₀ = omega arith in
-    ap (λ (k : ℕ). pushNew k (n₂ - n₁) (pushNew n₀ (n₁ - n₀) before)) y
-    ∙ push-push n₀ (n₁ - n₀) (n₂ - n₁) before
-    ∙ ap (λ (k : ℕ). pushNew n₀ k before) z
+use Rattle.walks.proofs.Pushes.{push-on}
 
 -- ---- no target, and one stretch after another
 
@@ -178,7 +161,3 @@ pub answer-more : (v e : ℕ) (w w₁ w₂ : List ℕ) (c c₁ : Counters) (ts u
     → (r : Stepped) → Answer w₁ v e c₁ us w₂ r → Answer w v e c (ts ++ us) w₂ r
 answer-more v e w w₁ w₂ c c₁ ts us a (Room c₂) b = made-more v e w w₁ w₂ c c₁ c₂ ts us a b
 answer-more v e w w₁ w₂ c c₁ ts us a Full b = many-more v e w w₁ w₂ c c₁ c₁ ts us a b
-
--- targets that are said otherwise
-pub answer-by : (w : List ℕ) (v e : ℕ) (c : Counters) (ts us w′ : List ℕ) (r : Stepped) → ts ≡ us → Answer w v e c ts w′ r → Answer w v e c us w′ r
-answer-by w v e c ts us w′ r q a = subst (λ (l : List ℕ). Answer w v e c l w′ r) q a

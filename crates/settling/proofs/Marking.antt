@@ -20,7 +20,6 @@ use Rattle.words.proofs.Regions.{region-same, region-other, rest-region, length
 use Rattle.pairs.specs.Table.{keysOf}
 use Rattle.pairs.proofs.Uses.{keys-kept, length-keys}
 use Rattle.settling.specs.declared.Counters.{Counters}
-use Rattle.settling.specs.declared.Stepped.{Stepped}
 use Rattle.settling.specs.declared.Stepped.the-variants.{Room}
 use Rattle.settling.specs.Stand.{edgesOf, putEdge}
 use Rattle.settling.specs.Made.{Marks, Ready, Meeting, Made, TooMany, MarkedIn, Marked, Turned}

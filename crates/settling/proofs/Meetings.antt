@@ -18,10 +18,7 @@ use Rattle.pairs.proofs.Uses.{keys-kept, table-kept, numbers-by, vertex-place, 
 use Rattle.settling.specs.Stand.{waitingIn, waitingOf}
 use Rattle.settling.specs.Made.{Meeting}
 use Rattle.settling.proofs.Buffer.{waiting-more}
-
-push-none : (n : ℕ) (before : List ℕ) → pushNew n (n - n) before ≡ before
-unfolding pushNew
-push-none n before = let z : n - n ≡ 0 = omega arith in rw z
+use Rattle.walks.proofs.Pushes.{push-none}
 
 push-one : (n n′ : ℕ) (before : List ℕ) → n′ ≡ n + 1 → pushNew n (n′ - n) before ≡ n ∷ before
 unfolding pushNew

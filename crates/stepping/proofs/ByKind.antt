@@ -23,7 +23,7 @@ key-each : (l : ℕ) (ts : List ℕ) → map pairKey (map (λ t. (t, l)) ts) ≡
 key-each l [] = refl
 key-each l (t ∷ ts) = ap (λ (ks : List ℕ). keyOf t l ∷ ks) (key-each l ts)
 
-module _ (x : Input) (multiples classes samples kinds lefts rights priorities : List ℕ) (t : Tables x multiples classes samples kinds lefts rights priorities) (s q : ℕ)
+module _ (x : Input) (multiples classes samples matched kinds lefts rights priorities : List ℕ) (t : Tables x multiples classes samples matched kinds lefts rights priorities) (s q : ℕ)
     (i : Inside x (s, q)) where
   pub kinds-long : q < length kinds
   kinds-long = omega (arith, i .1, t .items .kinds-room)

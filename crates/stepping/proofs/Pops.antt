@@ -10,6 +10,7 @@ use Rattle.rules.specs.Good.{GoodInput}
 use Rattle.rules.specs.Reach.{Reachable}
 use Rattle.arena.specs.Arena.{Inside}
 use Rattle.words.specs.Regions.{region, putWord}
+use Rattle.pairs.specs.Table.{stateAt, itemAt}
 use Rattle.settling.specs.declared.Counters.{Counters}
 use Rattle.settling.specs.declared.Stepped.{Stepped}
 use Rattle.settling.specs.declared.Stepped.the-variants.{Room, Full}
@@ -21,17 +22,17 @@ use Rattle.stepping.proofs.Steps.{popped, here, top-item, top-key, top-
 
 -- vertex u is on top of the stack; its state and its item are s and q
 module _ (x : Input) (good : GoodInput x) (v e : ℕ) (w : List ℕ) (c : Counters) (g : Good (keyTargets x) (rootKey x) w v e c) (some : c .waiting ≡ 0 → ⊥)
-    (u : ℕ) (is : u ≡ word (region 4 v w) (c .waiting - 1)) (s q : ℕ) (a : s ≡ word (region 2 v w) u) (b : q ≡ word (region 3 v w) u) where
+    (u : ℕ) (is : u ≡ word (region 4 v w) (c .waiting - 1)) (s q : ℕ) (a : s ≡ stateAt w v u) (b : q ≡ itemAt w v u) where
   pub pop-inside : Inside x (s, q)
   pop-inside =
-      let i = key-inside x good (word (region 2 v w) u) (word (region 3 v w) u) (top-item (keyTargets x) (rootKey x) v e w c g some u is)
+      let i = key-inside x good (stateAt w v u) (itemAt w v u) (top-item (keyTargets x) (rootKey x) v e w c g some u is)
       (subst (Reachable (keyTargets x) (rootKey x)) (top-key (keyTargets x) (rootKey x) v e w c g some u is) (top-reached (keyTargets x) (rootKey x) v e w c g some u is)) in
       (omega (arith, i .0), omega (arith, i .1))
 
   pop-targets : map pairKey (targets x (s, q)) ≡ keyTargets x (here (keyTargets x) (rootKey x) v e w c g some u is)
   pop-targets =
       ap₂ (λ (m n : ℕ). map pairKey (targets x (m, n))) a b
-      ∙ sym (key-targets x (word (region 2 v w) u, word (region 3 v w) u) (top-item (keyTargets x) (rootKey x) v e w c g some u is))
+      ∙ sym (key-targets x (stateAt w v u, itemAt w v u) (top-item (keyTargets x) (rootKey x) v e w c g some u is))
       ∙ ap (keyTargets x) (sym (top-key (keyTargets x) (rootKey x) v e w c g some u is))
 
   module _ (w₁ : List ℕ) (g₁ : w₁ ≡ putWord 5 v u (c .edges) w) where

@@ -23,9 +23,8 @@ use Rattle.walks.proofs.Sums.{sum-settle}
 use Rattle.words.specs.Regions.{region, putWord}
 use Rattle.words.proofs.Regions.{region-same, region-other, length-region, length-putWord}
 use Rattle.pairs.specs.Slot.{keyOf}
-use Rattle.pairs.specs.Table.{keysOf}
-use Rattle.pairs.proofs.Chain.{getD-keysIn}
-use Rattle.pairs.proofs.Uses.{keys-kept, table-kept, length-keys}
+use Rattle.pairs.specs.Table.{keyAt, stateAt, itemAt, keysOf}
+use Rattle.pairs.proofs.Uses.{key-pair, key-item-below, keys-kept, table-kept, length-keys, key-word}
 use Rattle.settling.specs.declared.Counters.{Counters}
 use Rattle.settling.specs.Stand.{waitingIn, waitingOf, edgesOf, standOf, edgesFor}
 use Rattle.settling.specs.Made.{Marks, Ready, Made, TooMany, Closing}
@@ -90,11 +89,11 @@ module _ (targets : ℕ → List ℕ) (root v e : ℕ) (w : List ℕ) (c : Count
     pub top-below : u < v
     top-below = omega (arith, top-known, g .ready .table .chains .room)
 
-    pub top-key : here ≡ keyOf (word (region 2 v w) u) (word (region 3 v w) u)
-    top-key = at-any keys u root 0 (omega (arith, top-known, count)) ∙ getD-keysIn (region 2 v w) (region 3 v w) (c .known) u top-known
+    pub top-key : here ≡ keyOf (stateAt w v u) (itemAt w v u)
+    top-key = at-any keys u root 0 (omega (arith, top-known, count)) ∙ key-word w v (c .known) u top-known ∙ key-pair (keyAt w v u)
 
-    pub top-item : word (region 3 v w) u < 2048
-    top-item = g .ready .table .small u top-known .item
+    pub top-item : itemAt w v u < 2048
+    top-item = key-item-below (keyAt w v u)
 
     pub top-reached : Reachable targets root here
     top-reached = sound-top .reached here (in-at keys u root (omega (arith, top-known, count)))

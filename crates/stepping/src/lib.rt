@@ -21,10 +21,6 @@ ghost use Rattle.stepping.specs.Tables.{Tables};
 ghost use Rattle.stepping.specs.Answers.{TurnAnswer, TurnsAnswer};
 
 // The regions of the work slice.
-const STATES: u32 = 2;
-
-const ITEMS: u32 = 3;
-
 const STACK: u32 = 4;
 
 const STARTS: u32 = 5;
@@ -52,6 +48,7 @@ fn settle(
     formula: &[u32],
     classes: &[u32],
     samples: &[u32; 4096],
+    matched: &[u8; 17408],
     kinds: &[u32],
     lefts: &[u32],
     rights: &[u32],
@@ -61,7 +58,7 @@ fn settle(
     state: u32,
     item: u32,
 ) -> Stepped
-    requires { ⌜ Tables (inputOf (now labels) (now system) (now actions) (now formula)) (now multiples) (now classes) (now samples) (now kinds) (now lefts) (now rights) (now priorities) ⌝ }
+    requires { ⌜ Tables (inputOf (now labels) (now system) (now actions) (now formula)) (now multiples) (now classes) (now samples) (now matched) (now kinds) (now lefts) (now rights) (now priorities) ⌝ }
     requires { ⌜ Ready (now work) v e c × (c .settled < c .known) × Marks (now work) v (c .settled) ⌝ }
     requires { ⌜ Inside (inputOf (now labels) (now system) (now actions) (now formula)) (state, item) ⌝ }
     ensures { λ r. ⌜ Answer (now (work .entry)) v e c
@@ -89,6 +86,7 @@ fn settle(
         formula,
         classes,
         samples,
+        matched,
         v,
         e,
         state,
@@ -108,6 +106,7 @@ pub fn step(
     formula: &[u32],
     classes: &[u32],
     samples: &[u32; 4096],
+    matched: &[u8; 17408],
     kinds: &[u32],
     lefts: &[u32],
     rights: &[u32],
@@ -115,7 +114,7 @@ pub fn step(
     v: u32,
     e: u32,
 ) -> Stepped
-    requires { ⌜ Tables (inputOf (now labels) (now system) (now actions) (now formula)) (now multiples) (now classes) (now samples) (now kinds) (now lefts) (now rights) (now priorities) ⌝ }
+    requires { ⌜ Tables (inputOf (now labels) (now system) (now actions) (now formula)) (now multiples) (now classes) (now samples) (now matched) (now kinds) (now lefts) (now rights) (now priorities) ⌝ }
     requires { ⌜ Good (keyTargets (inputOf (now labels) (now system) (now actions) (now formula))) (rootKey (inputOf (now labels) (now system) (now actions) (now formula))) (now work) v e c ⌝ }
     ensures { λ r. ⌜ StepAnswer (keyTargets (inputOf (now (labels .entry)) (now (system .entry)) (now (actions .entry)) (now (formula .entry))))
         (rootKey (inputOf (now (labels .entry)) (now (system .entry)) (now (actions .entry)) (now (formula .entry)))) (now (work .entry)) v e c (now (work .exit)) r ⌝ }
@@ -127,8 +126,8 @@ pub fn step(
     let start = c.edges;
     let top = waiting - 1;
     let vertex = words::region_word(work, v, STACK, top);
-    let state = words::region_word(work, v, STATES, vertex);
-    let item = words::region_word(work, v, ITEMS, vertex);
+    let state = pairs::state_of(work, v, vertex);
+    let item = pairs::item_of(work, v, vertex);
     words::put_word(work, v, STARTS, vertex, start);
     let popped = Counters {
         known: c.known,
@@ -146,6 +145,7 @@ pub fn step(
         formula,
         classes,
         samples,
+        matched,
         kinds,
         lefts,
         rights,
@@ -177,6 +177,7 @@ fn turn(
     formula: &[u32],
     classes: &[u32],
     samples: &[u32; 4096],
+    matched: &[u8; 17408],
     kinds: &[u32],
     lefts: &[u32],
     rights: &[u32],
@@ -184,7 +185,7 @@ fn turn(
     v: u32,
     e: u32,
 ) -> Turned
-    requires { ⌜ Tables (inputOf (now labels) (now system) (now actions) (now formula)) (now multiples) (now classes) (now samples) (now kinds) (now lefts) (now rights) (now priorities)
+    requires { ⌜ Tables (inputOf (now labels) (now system) (now actions) (now formula)) (now multiples) (now classes) (now samples) (now matched) (now kinds) (now lefts) (now rights) (now priorities)
         × Good (keyTargets (inputOf (now labels) (now system) (now actions) (now formula))) (rootKey (inputOf (now labels) (now system) (now actions) (now formula))) (now work) v e c ⌝ }
     ensures { λ r. ⌜ TurnAnswer (keyTargets (inputOf (now (labels .entry)) (now (system .entry)) (now (actions .entry)) (now (formula .entry))))
         (rootKey (inputOf (now (labels .entry)) (now (system .entry)) (now (actions .entry)) (now (formula .entry)))) (now (work .entry)) v e c (now (work .exit)) (r .counters) (r .more) ⌝ }
@@ -205,6 +206,7 @@ fn turn(
         formula,
         classes,
         samples,
+        matched,
         kinds,
         lefts,
         rights,
@@ -234,6 +236,7 @@ pub fn step_in_place(
     formula: &[u32],
     classes: &[u32],
     samples: &[u32; 4096],
+    matched: &[u8; 17408],
     kinds: &[u32],
     lefts: &[u32],
     rights: &[u32],
@@ -241,7 +244,7 @@ pub fn step_in_place(
     v: u32,
     e: u32,
 ) -> bool
-    requires { ⌜ Tables (inputOf (now labels) (now system) (now actions) (now formula)) (now multiples) (now classes) (now samples) (now kinds) (now lefts) (now rights) (now priorities)
+    requires { ⌜ Tables (inputOf (now labels) (now system) (now actions) (now formula)) (now multiples) (now classes) (now samples) (now matched) (now kinds) (now lefts) (now rights) (now priorities)
         × Good (keyTargets (inputOf (now labels) (now system) (now actions) (now formula))) (rootKey (inputOf (now labels) (now system) (now actions) (now formula))) (now work) v e (now c) ⌝ }
     ensures { λ r. ⌜ TurnAnswer (keyTargets (inputOf (now (labels .entry)) (now (system .entry)) (now (actions .entry)) (now (formula .entry))))
         (rootKey (inputOf (now (labels .entry)) (now (system .entry)) (now (actions .entry)) (now (formula .entry)))) (now (work .entry)) v e (now (c .entry)) (now (work .exit)) (now (c .exit)) r ⌝ }
@@ -256,6 +259,7 @@ pub fn step_in_place(
         formula,
         classes,
         samples,
+        matched,
         kinds,
         lefts,
         rights,
@@ -283,6 +287,7 @@ fn turns(
     formula: &[u32],
     classes: &[u32],
     samples: &[u32; 4096],
+    matched: &[u8; 17408],
     kinds: &[u32],
     lefts: &[u32],
     rights: &[u32],
@@ -292,7 +297,7 @@ fn turns(
     k: u32,
     c: Counters,
 ) -> Ran
-    requires { ⌜ Tables (inputOf (now labels) (now system) (now actions) (now formula)) (now multiples) (now classes) (now samples) (now kinds) (now lefts) (now rights) (now priorities)
+    requires { ⌜ Tables (inputOf (now labels) (now system) (now actions) (now formula)) (now multiples) (now classes) (now samples) (now matched) (now kinds) (now lefts) (now rights) (now priorities)
         × WalkMade (keyTargets (inputOf (now labels) (now system) (now actions) (now formula))) (rootKey (inputOf (now labels) (now system) (now actions) (now formula))) v e 0 (now work) c ⌝ }
     ensures { λ r. ⌜ TurnsAnswer (keyTargets (inputOf (now (labels .entry)) (now (system .entry)) (now (actions .entry)) (now (formula .entry))))
         (rootKey (inputOf (now (labels .entry)) (now (system .entry)) (now (actions .entry)) (now (formula .entry)))) v e k (now (work .exit)) (r .counters) (r .steps) ⌝ }
@@ -310,6 +315,7 @@ fn turns(
             formula,
             classes,
             samples,
+            matched,
             kinds,
             lefts,
             rights,
@@ -338,6 +344,7 @@ pub fn walk(
     formula: &[u32],
     classes: &[u32],
     samples: &[u32; 4096],
+    matched: &[u8; 17408],
     kinds: &[u32],
     lefts: &[u32],
     rights: &[u32],
@@ -346,7 +353,7 @@ pub fn walk(
     e: u32,
     k: u32,
 ) -> Stepped
-    requires { ⌜ Tables (inputOf (now labels) (now system) (now actions) (now formula)) (now multiples) (now classes) (now samples) (now kinds) (now lefts) (now rights) (now priorities) ⌝ }
+    requires { ⌜ Tables (inputOf (now labels) (now system) (now actions) (now formula)) (now multiples) (now classes) (now samples) (now matched) (now kinds) (now lefts) (now rights) (now priorities) ⌝ }
     requires { ⌜ WalkMade (keyTargets (inputOf (now labels) (now system) (now actions) (now formula))) (rootKey (inputOf (now labels) (now system) (now actions) (now formula))) v e 0 (now work) c ⌝ }
     ensures { λ r. ⌜ WalkAnswer (keyTargets (inputOf (now (labels .entry)) (now (system .entry)) (now (actions .entry)) (now (formula .entry))))
         (rootKey (inputOf (now (labels .entry)) (now (system .entry)) (now (actions .entry)) (now (formula .entry)))) v e k (now (work .exit)) r ⌝ }
@@ -360,6 +367,7 @@ pub fn walk(
         formula,
         classes,
         samples,
+        matched,
         kinds,
         lefts,
         rights,

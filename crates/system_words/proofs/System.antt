@@ -1,38 +1,21 @@
 -- The refusals 21 to 24 of the system words, one law for each answer of the code, and the sum of the degrees as a loop adds it up. Assumes nothing.
 use Prim.Native.Nat.{ℕ, _+_, _*_, _<_, _≤_}
 use native.Mathlib.Omega.{arith}
-use native.Mathlib.Numerals.{add-one}
-use mathlib.Core.Path.{_≡_, refl}
-use mathlib.Core.Bool.{true, false}
+use mathlib.Core.Path.{_≡_}
 use mathlib.Core.List.{List, [], _∷_}
 use lib.ListN.{length}
 use lib.Dec.{ltb}
 use borrow.Author.Tests.{lt-ltb, le-ltb, le-leb, lt-leb, ltb-false}
 use Rattle.rules.specs.declared.Check.the-variants.{Passed, Fault}
-use Rattle.rules.specs.Lists.{word, sumWords}
+use Rattle.rules.specs.Lists.{sumWords}
 use Rattle.rules.specs.Answers.{firstFault}
 use Rattle.rules.specs.Words.{mostStates, mostTransitions}
 use Rattle.rules.specs.Labels.{labelCount}
 use Rattle.rules.specs.System.{stateCount, transitionCount, initialState}
 use Rattle.rules.specs.Refusal.{outside, tooLarge, refusal21, refusal22, refusal23, refusal24, refusal25, refusal26, faultFrom}
 use Rattle.tables.proofs.Faults.{if-true, if-false, if-passed, first-passed}
-use Rattle.faults.proofs.Choices.{or-left, or-right, or-none, or-false, differ-yes, differ-no, differ-false, below-outside, above-outside, inside, outside-false}
-
-pub sum-none : (ws : List ℕ) (p : ℕ) → sumWords ws p 0 ≡ 0
-unfolding sumWords
-sum-none ws p = refl
-
-pub sum-more : (ws : List ℕ) (p n : ℕ) → sumWords ws p (n + 1) ≡ sumWords ws p n + word ws (p + n)
-unfolding sumWords
-sum-more ws p n = rw add-one
-
-pub large : (ws : List ℕ) (bound w : ℕ) → bound ≤ word ws w → tooLarge ws bound w ≡ true
-unfolding tooLarge
-large ws bound w h = le-leb _ _ h
-
-pub small : (ws : List ℕ) (bound w : ℕ) → word ws w < bound → tooLarge ws bound w ≡ false
-unfolding tooLarge
-small ws bound w h = lt-leb _ _ h
+use Rattle.lists.proofs.Tests.{or-left, or-right, or-none, or-false}
+use Rattle.tables.proofs.Choices.{differ-yes, differ-no, differ-false, below-outside, above-outside, inside, outside-false}
 
 module _ (ss : List ℕ) where
   pub few-words : length ss < 3 → refusal21 ss ≡ Fault 21 0

@@ -7,7 +7,7 @@ ghost use lib.ListN.{length};
 ghost use Rattle.rules.specs.Lists.{sumWords};
 ghost use Rattle.rules.specs.Answers.{firstFault};
 ghost use Rattle.rules.specs.System.{stateCount, transitionCount};
-ghost use Rattle.rules.specs.Refusal.{tooLarge, faultFrom, refusal21, refusal22, refusal23, refusal24, refusal25, refusal26};
+ghost use Rattle.rules.specs.Refusal.{refusal21, refusal22, refusal23, refusal24, refusal25, refusal26};
 
 // The sum of the n words from p on: at most 65,535 words, so it does not wrap.
 fn sum_words(ws: &[u32], p: usize, n: usize) -> usize
@@ -21,21 +21,6 @@ fn sum_words(ws: &[u32], p: usize, n: usize) -> usize
         i += 1;
     }
     sum
-}
-
-// Fault `number` at the first of the words from `first` up to `end` that is not below the bound.
-fn check_below(ws: &[u32], first: usize, end: usize, bound: usize, number: u32) -> Check
-    requires { ⌜ (end ≤ length (now ws)) × (end < 4294967296) ⌝ }
-    ensures { λ r. ⌜ r ≡ faultFrom number first end (tooLarge (now (ws .entry)) bound) ⌝ }
-{
-    let mut p = first;
-    while p < end {
-        if bound <= words::at(ws, p) {
-            return Check::Fault(number, p as u32);
-        }
-        p += 1;
-    }
-    Check::Passed
 }
 
 // 21, 22: the length and the sizes.
@@ -78,10 +63,10 @@ fn check_transitions(labels: &[u32], ss: &[u32]) -> Check
     }
     let names = 3 + states;
     let targets = names + transitions;
-    let checked = check_below(ss, names, targets, words::at(labels, 0), 25);
+    let checked = faults::check_below(ss, names, targets, words::at(labels, 0), 25);
     match checked {
         Check::Fault(number, place) => Check::Fault(number, place),
-        Check::Passed => check_below(ss, targets, targets + transitions, states, 26),
+        Check::Passed => faults::check_below(ss, targets, targets + transitions, states, 26),
     }
 }
 

@@ -3,36 +3,19 @@ use rules::Check;
 ghost use mathlib.Core.Path.{_≡_};
 ghost use mathlib.Core.Bool.{false};
 ghost use Prim.Native.Nat.{ℕ, _+_, _<_, _≤_};
-ghost use lib.ListN.{length, getD, replicate};
+ghost use lib.ListN.{length, getD};
 ghost use lib.Dec.{ltb};
-ghost use Rattle.rules.specs.Table.{size, kind, operand, treeEnd, isNotEnd};
+ghost use Rattle.rules.specs.Table.{size, kind, treeEnd, isNotEnd};
 ghost use Rattle.rules.specs.Refusal.{faultFrom};
 ghost use Rattle.tables.specs.Ends.{endOf};
 ghost use Rattle.table_words.specs.Tables.{Sized, childrenOf, Ends, Firsts};
-
-// The kind of a node.
-pub fn kind_at(ws: &[u32], v: usize) -> usize
-    requires { ⌜ Sized (now ws) × (v < size (now ws)) ⌝ }
-    ensures { λ r. ⌜ r ≡ kind (now (ws .entry)) v ⌝ }
-{
-    words::at(ws, 1 + v)
-}
-
-// The operand of a node.
-pub fn operand_at(ws: &[u32], v: usize) -> usize
-    requires { ⌜ Sized (now ws) × (v < size (now ws)) ⌝ }
-    ensures { λ r. ⌜ r ≡ operand (now (ws .entry)) v ⌝ }
-{
-    let m = words::at(ws, 0);
-    words::at(ws, 1 + m + v)
-}
 
 // How many children a node has.
 fn children_at(ws: &[u32], formula: bool, v: usize) -> usize
     requires { ⌜ Sized (now ws) × (v < size (now ws)) ⌝ }
     ensures { λ r. ⌜ r ≡ childrenOf formula (now (ws .entry)) v ⌝ }
 {
-    let k = kind_at(ws, v);
+    let k = words::kind_at(ws, v);
     if formula {
         if k < 2 {
             return 0;
@@ -133,7 +116,7 @@ pub fn check_kinds(ws: &[u32], most: usize, number: u32) -> Check
     let m = words::at(ws, 0);
     let mut v = 0;
     while v < m {
-        if most < kind_at(ws, v) {
+        if most < words::kind_at(ws, v) {
             return Check::Fault(number, v as u32);
         }
         v += 1;

@@ -1,7 +1,7 @@
 -- Sums of out-degrees: one state more, never more than there are transitions, and the samples as a loop writes them. Assumes nothing.
 use mathlib.Core.Path.{_≡_, refl, _∙_}
 use mathlib.Core.List.{List}
-use Prim.Native.Nat.{ℕ, zero, suc, _+_, _*_, _/_, _%_, _≤_, _<_}
+use Prim.Native.Nat.{ℕ, _+_, _*_, _/_, _%_, _≤_, _<_}
 use native.Mathlib.Decide.{ℕ-discrete}
 use native.Mathlib.Numerals.{add-one}
 use native.Mathlib.Omega.{arith}
@@ -11,6 +11,7 @@ use Rattle.rules.specs.Lists.{word, sumWords}
 use Rattle.rules.specs.System.{stateCount, transitionCount, degree, firstTransition}
 use Rattle.rules.specs.Good.{GoodSystem}
 use Rattle.transitions.specs.Samples.{stride}
+use Rattle.lists.proofs.Sums.{sum-grows}
 
 pub first-none : (ss : List ℕ) → firstTransition ss 0 ≡ 0
 unfolding firstTransition sumWords
@@ -19,16 +20,6 @@ first-none ss = refl
 pub first-more : (ss : List ℕ) (s : ℕ) → firstTransition ss (s + 1) ≡ firstTransition ss s + degree ss s
 unfolding firstTransition sumWords
 first-more ss s = rw add-one
-
--- a sum over fewer words is not larger
-pub sum-grows : (ws : List ℕ) (p m n : ℕ) → m ≤ n → sumWords ws p m ≤ sumWords ws p n
-unfolding sumWords
-sum-grows ws p m zero h = let e : m ≡ 0 = omega arith in rw e (omega arith)
-sum-grows ws p m (suc n) h = go (λ k. sum-grows ws p m n k) (ℕ-discrete m (suc n))
-  where
-    go : (m ≤ n → sumWords ws p m ≤ sumWords ws p n) → Dec (m ≡ suc n) → sumWords ws p m ≤ sumWords ws p n + word ws (p + n)
-    go f (yes e) = rw e (omega arith)
-    go f (no d) = let k = f (omega arith) in omega arith
 
 pub first-most : (l : ℕ) (ss : List ℕ) → GoodSystem l ss → (s : ℕ) → s ≤ stateCount ss → firstTransition ss s ≤ transitionCount ss
 unfolding firstTransition

@@ -1,26 +1,24 @@
 -- What each return of a run has to show: the answer's words and the two slices are those of the rules' run. Assumes nothing.
-use mathlib.Core.Path.{_≡_, refl, sym, ap, ap₂, _∙_, subst}
-use mathlib.Core.Bool.{Bool, true, false, cond}
+use mathlib.Core.Path.{_≡_, refl, sym, ap, _∙_, subst}
+use mathlib.Core.Bool.{Bool, true, false}
 use mathlib.Core.List.{List, [], _∷_}
-use mathlib.Core.Logic.{_⊎_, inl, inr, ⊎-elim}
-use Prim.Native.Nat.{ℕ, zero, suc, _+_, _-_, _*_, _≤_, _<_}
+use mathlib.Core.Logic.{_⊎_, inl, inr}
+use Prim.Native.Nat.{ℕ, _+_, _-_, _≤_, _<_}
 use native.Mathlib.Omega.{arith}
-use lib.ListN.{length, getD, replicate}
+use lib.ListN.{length, replicate}
 use lib.Dec.{eqb}
-use Rattle.rules.specs.declared.Answer.{Answer}
 use Rattle.rules.specs.declared.Answer.the-variants.{Done, Cut, Refused}
-use Rattle.rules.specs.declared.Check.{Check}
 use Rattle.rules.specs.declared.Check.the-variants.{Passed, Fault}
-use Rattle.rules.specs.Lists.{word, zeros, sumWords, In}
+use Rattle.rules.specs.Lists.{zeros, In}
 use Rattle.rules.specs.Words.{Input, Room, roomOf, gameLength, workLength}
 use Rattle.rules.specs.Answers.{said}
 use Rattle.rules.specs.Depth.{byDepth}
 use Rattle.rules.specs.Items.{items}
 use Rattle.rules.specs.Walk.{State}
-use Rattle.rules.specs.Pairs.{Pair, initialPair, targets}
+use Rattle.rules.specs.Pairs.{Pair}
 use Rattle.rules.specs.Game.{Vertex, edgeCount, gameOf, padded}
 use Rattle.rules.specs.Refusal.{refusal}
-use Rattle.rules.specs.Run.{Outcome, walkOf, verticesOf, exceeds, doneOrCut, finished, outOfRoom, walked, refusedOr, run}
+use Rattle.rules.specs.Run.{Outcome, walkOf, verticesOf, exceeds, doneOrCut, finished, outOfRoom, run}
 use Rattle.rules.specs.Demands.{Demand1, Demand3}
 use Rattle.rules.specs.Good.{GoodInput}
 use Rattle.lists.proofs.Members.{in-or}
@@ -28,7 +26,6 @@ use Rattle.lists.proofs.Equalities.{number-equality}
 use Rattle.tables.proofs.Accepted.{accepted-words, accepted-room, accepted-lengths}
 use Rattle.theorems.proofs.Runs.{run-refused, run-exceeds, run-fits, vertices-many, edges-many, demand1}
 use Rattle.theorems.proofs.Demand3.{demand3}
-use Rattle.words.specs.Regions.{region}
 use Rattle.settling.specs.declared.Counters.{Counters}
 use Rattle.settling.specs.Keys.{keyTargets, rootKey}
 use Rattle.settling.specs.Made.{Sized}

@@ -1,10 +1,9 @@
 -- The vertices that the work words and the item table show are those of the walk: once the keys in the work words are those of the walk's pairs. Assumes nothing.
-use mathlib.Core.Path.{_≡_, refl, sym, ap, ap₂, _∙_, subst}
-use mathlib.Core.Bool.{Bool, true, false, cond}
-use mathlib.Core.List.{List, [], _∷_, _++_, map}
-use mathlib.Core.Logic.{_⊎_, inl, inr, ⊎-elim}
+use mathlib.Core.Path.{_≡_, refl, sym, ap, _∙_, subst}
+use mathlib.Core.Bool.{true, false, cond}
+use mathlib.Core.List.{List, [], _∷_, map}
+use mathlib.Core.Logic.{_⊎_, inl, inr}
 use Prim.Native.Nat.{ℕ, zero, suc, _+_, _-_, _*_, _≤_, _<_, max}
-use native.Mathlib.Nat.{not-suc-le-zero, le-of-suc-le-suc}
 use native.Mathlib.Omega.{arith}
 use lib.ListN.{length, getD, take, drop, length-map}
 use lib.Seq.{take-take, drop-drop}
@@ -15,37 +14,30 @@ use Rattle.player.specs.declared.Player.{Player}
 use Rattle.rules.specs.Lists.{word, In, from, place}
 use Rattle.rules.specs.Words.{Input}
 use Rattle.rules.specs.Depth.{byDepth}
-use Rattle.rules.specs.Items.{items}
 use Rattle.rules.specs.Pairs.{Pair, samePair, initialPair, owner, priority, targets}
 use Rattle.rules.specs.Reach.{Reachable, onward}
-use Rattle.rules.specs.Walk.{State, walk}
+use Rattle.rules.specs.Walk.{State}
 use Rattle.rules.specs.Game.{Vertex, waitingVertex, stuckPriority, settledVertex, vertexAt, vertices}
 use Rattle.rules.specs.Run.{walkOf, verticesOf}
 use Rattle.rules.specs.Good.{GoodInput}
 use Rattle.lists.specs.Shapes.{places}
-use Rattle.lists.proofs.Members.{map-at, in-at, in-or, place-at, place-below}
+use Rattle.lists.proofs.Members.{map-at, in-at, in-or, place-at}
 use Rattle.lists.proofs.Equalities.{number-equality, pair-equality}
-use Rattle.arena.specs.Arena.{Inside}
-use Rattle.arena.proofs.ItemNumbers.{items-few}
-use Rattle.arena.proofs.Inside.{initial-inside, targets-inside}
 use Rattle.arena.proofs.SelfTargets.{no-self-target}
-use Rattle.walks.specs.Sums.{Settled}
 use Rattle.walks.proofs.Steps.{sound}
-use Rattle.walks.proofs.Reached.{reachable-inside}
 use Rattle.walks.proofs.Rename.{places-map}
 use Rattle.theorems.proofs.Vertices.{vertex-waits, vertex-settled, settled-degree}
-use Rattle.words.specs.Regions.{region}
-use Rattle.pairs.specs.Slot.{keyOf}
-use Rattle.pairs.specs.Table.{keysOf}
-use Rattle.pairs.proofs.Chain.{getD-keysIn}
-use Rattle.pairs.proofs.Uses.{key-state, key-item, key-same, length-keys}
+use Rattle.pairs.specs.Table.{keyAt, stateAt, keysOf}
+use Rattle.pairs.proofs.Uses.{key-same, key-pair, key-item-below, key-word, length-keys}
 use Rattle.settling.specs.declared.Counters.{Counters}
-use Rattle.settling.specs.Keys.{pairKey, keyPair, keyTargets, rootKey}
-use Rattle.settling.specs.Stand.{waitingOf, edgesOf, standOf, edgesFor}
-use Rattle.settling.specs.Good.{Good, Stretch}
+use Rattle.settling.specs.Keys.{pairKey, keyTargets, rootKey}
+use Rattle.settling.specs.Stand.{waitingOf, edgesOf, edgesFor}
+use Rattle.settling.specs.Good.{Good}
 use Rattle.item_table.specs.Entries.{Entry, ItemTable, kindOwner}
 use Rattle.item_table.proofs.Steps.{entry-owner, entry-priority}
 use Rattle.game_writer.specs.Shown.{itemIn, startIn, countIn, shownPlayer, shownOwner, shownPriority, shownEdges, shownVertex, shownVertices}
+use Rattle.theorems.proofs.Read.{settled-owner}
+use Rattle.stepping.proofs.Keys.{reached-inside, item-fits, alike, moved}
 
 -- ---- lists
 
@@ -122,14 +114,8 @@ module _ (x : Input) (good : GoodInput x) (k : ℕ) (kinds lefts rights prioriti
   unfolding walkOf
   reached = sound pair-equality (targets x) (initialPair x) k .reached
 
-  inside : (p : Pair) → Reachable (targets x) (initialPair x) p → Inside x p
-  inside = reachable-inside (targets x) (initialPair x) (Inside x) (initial-inside x good) (λ p i q m. targets-inside x good p q i m)
-
   pair-reached : (u : ℕ) → u < c .known → Reachable (targets x) (initialPair x) (pair u)
   pair-reached u h = reached (pair u) (in-at (st .known) u (initialPair x) (omega (arith, known-many)))
-
-  item-small : (p : Pair) → Inside x p → p .1 < 2048
-  item-small p i = let m = items-few x good in omega (arith, i .1)
 
   key-at : (u : ℕ) → u < c .known → getD (keysOf w v (c .known)) u (rootKey x) ≡ pairKey (pair u)
   key-at u h = ap (λ (l : List ℕ). getD l u (rootKey x)) same-known ∙ map-at pairKey (st .known) u (initialPair x) (rootKey x) (omega (arith, known-many))
@@ -139,41 +125,25 @@ module _ (x : Input) (good : GoodInput x) (k : ℕ) (kinds lefts rights prioriti
 
   item-at : (u : ℕ) → u < c .known → itemIn w v u ≡ pair u .1
   item-at u h =
-      key-same (word (region 2 v w) u) (itemIn w v u) (pair u .0) (pair u .1) (g .ready .table .small u h .item)
-      (item-small (pair u) (inside (pair u) (pair-reached u h)))
-      (sym (getD-keysIn (region 2 v w) (region 3 v w) (c .known) u h) ∙ word-at u h) .1
-
-  back : (p : Pair) → p .1 < 2048 → keyPair (pairKey p) ≡ p
-  back p h = ap₂ (λ (s q : ℕ). (s, q)) (key-state (p .0) (p .1) h) (key-item (p .0) (p .1) h)
+      key-same (stateAt w v u) (itemIn w v u) (pair u .0) (pair u .1) (key-item-below (keyAt w v u))
+      (item-fits x good (pair u) (reached-inside x good (pair u) (pair-reached u h)))
+      (sym (key-pair (keyAt w v u)) ∙ sym (key-word w v (c .known) u h) ∙ word-at u h) .1
 
   targets-at : (u : ℕ) → u < c .known → keyTargets x (getD (keysOf w v (c .known)) u (rootKey x)) ≡ map pairKey (targets x (pair u))
-  unfolding keyTargets
-  targets-at u h =
-      ap (λ (n : ℕ). map pairKey (targets x (keyPair n))) (key-at u h)
-      ∙ ap (λ (p : Pair). map pairKey (targets x p)) (back (pair u) (item-small (pair u) (inside (pair u) (pair-reached u h))))
+  targets-at u h = ap (λ (n : ℕ). keyTargets x n) (key-at u h) ∙ moved x good (pair u) (pair-reached u h)
 
   numbers-at : (u : ℕ) → u < c .known → (t : Pair) → In t (targets x (pair u)) → Reachable (targets x) (initialPair x) t
   numbers-at u h t m = onward (pair-reached u h) m
-
-  -- different reachable pairs have different keys
-  keys-apart : (p q : Pair) → Reachable (targets x) (initialPair x) p → Reachable (targets x) (initialPair x) q → pairKey p ≡ pairKey q → p ≡ q
-  keys-apart p q r s e =
-      let (a, b) = key-same (p .0) (p .1) (q .0) (q .1) (item-small p (inside p r)) (item-small q (inside q s)) e in
-      ap₂ (λ (i j : ℕ). (i, j)) a b
 
   -- the edges of a settled vertex, as the rules number its targets
   abbrev numbers : ℕ → List ℕ
   numbers u = map (λ q. place samePair q (st .known)) (targets x (pair u))
 
-  keys-moved : (p : Pair) → Reachable (targets x) (initialPair x) p → keyTargets x (pairKey p) ≡ map pairKey (targets x p)
-  unfolding keyTargets
-  keys-moved p r = ap (λ (q : Pair). map pairKey (targets x q)) (back p (item-small p (inside p r)))
-
   places-at : (u : ℕ) → u < c .known → places eqb (keysOf w v (c .known)) (map pairKey (targets x (pair u))) ≡ numbers u
   unfolding places
   places-at u h =
       ap (λ (l : List ℕ). places eqb l (map pairKey (targets x (pair u)))) same-known
-      ∙ places-map pair-equality number-equality pairKey (targets x) (keyTargets x) (initialPair x) keys-apart keys-moved (st .known) (targets x (pair u)) reached (numbers-at u h)
+      ∙ places-map pair-equality number-equality pairKey (targets x) (keyTargets x) (initialPair x) (alike x good) (moved x good) (st .known) (targets x (pair u)) reached (numbers-at u h)
 
   edges-for : (u : ℕ) (o : Player) (p : ℕ) (ts : List Pair) → places eqb (keysOf w v (c .known)) (map pairKey ts) ≡ map (λ q. place samePair q (st .known)) ts
       → edgesFor u (keysOf w v (c .known)) (map pairKey ts) ≡ settledVertex u o p (map (λ q. place samePair q (st .known)) ts) .edges
@@ -205,7 +175,7 @@ module _ (x : Input) (good : GoodInput x) (k : ℕ) (kinds lefts rights prioriti
       omega arith
 
   entry-at : (u : ℕ) → u < c .known → Entry x (pair u .1) (word kinds (pair u .1)) (word lefts (pair u .1)) (word rights (pair u .1)) (word priorities (pair u .1))
-  entry-at u h = table .entry (pair u .1) (inside (pair u) (pair-reached u h) .1)
+  entry-at u h = table .entry (pair u .1) (reached-inside x good (pair u) (pair-reached u h) .1)
 
   player-at : (u : ℕ) → u < c .known → shownPlayer kinds w v u ≡ owner x (pair u)
   unfolding shownPlayer
@@ -225,7 +195,7 @@ module _ (x : Input) (good : GoodInput x) (k : ℕ) (kinds lefts rights prioriti
       let l : u < length (st .known) = omega (arith, known-many) in
       let known = sound pair-equality (targets x) (initialPair x) k .edges u l n t m in
       let same : t ≡ pair u = sym (place-at pair-equality t (st .known) (initialPair x) known) ∙ ap (λ (i : ℕ). getD (st .known) i (initialPair x)) e in
-      no-self-target x good (pair u) (inside (pair u) (pair-reached u h)) (subst (λ (q : Pair). In q (targets x (pair u))) same m)
+      no-self-target x good (pair u) (reached-inside x good (pair u) (pair-reached u h)) (subst (λ (q : Pair). In q (targets x (pair u))) same m)
 
   settled-priority : (u : ℕ) (o : Player) (p : ℕ) (ts : List Pair) (b : ℕ) → (shown : List ℕ) → take b (drop (8 * v + startIn w v u) w) ≡ shown
       → shown ≡ settledVertex u o p (map (λ q. place samePair q (st .known)) ts) .edges
@@ -240,11 +210,6 @@ module _ (x : Input) (good : GoodInput x) (k : ℕ) (kinds lefts rights prioriti
       = head-of-part b (8 * v + startIn w v u) w (place samePair t (st .known)) (map (λ q. place samePair q (st .known)) ts) (s ∙ f) in
       rw (ne-eqb (word w (8 * v + startIn w v u)) u (λ q. other t (inl refl) (sym e ∙ q))) refl
 
-  settled-owned : (u : ℕ) (o : Player) (p : ℕ) (es : List ℕ) → settledVertex u o p es .owner ≡ playerIndex o
-  unfolding settledVertex
-  settled-owned u o p [] = refl
-  settled-owned u o p (e ∷ es) = refl
-
   abbrev ruled : ℕ → Vertex
   ruled u = settledVertex u (owner x (pair u)) (priority byDepth x (pair u)) (numbers u)
 
@@ -253,7 +218,7 @@ module _ (x : Input) (good : GoodInput x) (k : ℕ) (kinds lefts rights prioriti
   shown-settled u h n =
       let some : eqb (countIn w v u) 0 ≡ false = ne-eqb (countIn w v u) 0 (λ z. let l = shown-length u h n in omega arith) in
       let a : shownOwner kinds w v u ≡ ruled u .owner
-      = rw some (ap playerIndex (player-at u h) ∙ sym (settled-owned u (owner x (pair u)) (priority byDepth x (pair u)) (numbers u))) in
+      = rw some (ap playerIndex (player-at u h) ∙ sym (settled-owner u (owner x (pair u)) (priority byDepth x (pair u)) (numbers u))) in
       let b : shownPriority kinds priorities w v u ≡ ruled u .priority
       = rw (some, player-at u h, priority-at u h)
       (settled-priority u (owner x (pair u)) (priority byDepth x (pair u)) (targets x (pair u)) (countIn w v u) (shownEdges w v u) (edges-word u)

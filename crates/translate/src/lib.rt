@@ -5,7 +5,7 @@ use rules::Check;
 use settling::Counters;
 use settling::Stepped;
 ghost use mathlib.Core.Path.{_≡_};
-ghost use Prim.Native.Nat.{_≤_, _<_};
+ghost use Prim.Native.Nat.{_≤_};
 ghost use lib.ListN.{length};
 ghost use Rattle.rules.specs.declared.Check.the-variants.{Passed};
 ghost use Rattle.rules.specs.Words.{inputOf, roomOf};
@@ -14,14 +14,11 @@ ghost use Rattle.rules.specs.Depth.{byDepth};
 ghost use Rattle.rules.specs.Refusal.{refusal};
 ghost use Rattle.rules.specs.Run.{Outcome, run};
 ghost use Rattle.rules.specs.Demands.{Demand1, Demand3};
-ghost use Rattle.rules.specs.Good.{GoodInput};
 ghost use Rattle.settling.specs.Keys.{keyTargets, rootKey};
 ghost use Rattle.settling.specs.Made.{Sized};
-ghost use Rattle.settling.specs.Good.{WalkMade, WalkAnswer};
-ghost use Rattle.pairs.specs.Slot.{Multiples};
+ghost use Rattle.settling.specs.Good.{WalkAnswer};
 ghost use Rattle.item_table.specs.Entries.{ItemTable};
 ghost use Rattle.labels.specs.Classes.{Classes};
-ghost use Rattle.transitions.specs.Samples.{Samples};
 ghost use Rattle.stepping.specs.Tables.{Tables};
 
 // The walk of at most k steps, whatever the work words hold.
@@ -34,6 +31,7 @@ fn explore(
     formula: &[u32],
     classes: &[u32],
     samples: &[u32; 4096],
+    matched: &[u8; 17408],
     kinds: &[u32],
     lefts: &[u32],
     rights: &[u32],
@@ -42,7 +40,7 @@ fn explore(
     e: u32,
     k: u32,
 ) -> Stepped
-    requires { ⌜ Tables (inputOf (now labels) (now system) (now actions) (now formula)) (now multiples) (now classes) (now samples) (now kinds) (now lefts) (now rights) (now priorities) ⌝ }
+    requires { ⌜ Tables (inputOf (now labels) (now system) (now actions) (now formula)) (now multiples) (now classes) (now samples) (now matched) (now kinds) (now lefts) (now rights) (now priorities) ⌝ }
     requires { ⌜ Sized (now work) v e ⌝ }
     ensures { λ r. ⌜ WalkAnswer (keyTargets (inputOf (now (labels .entry)) (now (system .entry)) (now (actions .entry)) (now (formula .entry))))
         (rootKey (inputOf (now (labels .entry)) (now (system .entry)) (now (actions .entry)) (now (formula .entry)))) v e k (now (work .exit)) r ⌝ }
@@ -58,6 +56,7 @@ fn explore(
             formula,
             classes,
             samples,
+            matched,
             kinds,
             lefts,
             rights,
@@ -121,6 +120,7 @@ fn build_game(
     formula: &[u32],
     classes: &[u32],
     samples: &[u32; 4096],
+    matched: &[u8; 17408],
     kinds: &[u32],
     lefts: &[u32],
     rights: &[u32],
@@ -131,7 +131,7 @@ fn build_game(
     game: &mut [u32],
     work: &mut [u32],
 ) -> Answer
-    requires { ⌜ Tables (inputOf (now labels) (now system) (now actions) (now formula)) (now multiples) (now classes) (now samples) (now kinds) (now lefts) (now rights) (now priorities) ⌝ }
+    requires { ⌜ Tables (inputOf (now labels) (now system) (now actions) (now formula)) (now multiples) (now classes) (now samples) (now matched) (now kinds) (now lefts) (now rights) (now priorities) ⌝ }
     requires { ⌜ refusal (inputOf (now labels) (now system) (now actions) (now formula)) (roomOf v e) (length (now game)) (length (now work)) ≡ Passed ⌝ }
     ensures { λ r. ⌜ _≡_ {A = Outcome} (record { answer = said r; game = now (game .exit); work = now (work .exit) })
         (run byDepth (inputOf (now (labels .entry)) (now (system .entry)) (now (actions .entry)) (now (formula .entry))) (roomOf v e) k (now (game .entry)) (now (work .entry))) ⌝ }
@@ -145,6 +145,7 @@ fn build_game(
         formula,
         classes,
         samples,
+        matched,
         kinds,
         lefts,
         rights,
@@ -171,22 +172,71 @@ fn build_game(
     )
 }
 
-// The formula is compiled into its table of items.
-fn build_items(
-    multiples: &[u32; 256],
+// The tables that only the walk reads. They are made after the formula is compiled: the compiler's own tables have then left the stack.
+fn build_walk(
     labels: &[u32],
     system: &[u32],
     actions: &[u32],
     formula: &[u32],
     classes: &[u32],
-    samples: &[u32; 4096],
+    kinds: &[u32],
+    lefts: &[u32],
+    rights: &[u32],
+    priorities: &[u32],
+    count: usize,
     v: u32,
     e: u32,
     k: u32,
     game: &mut [u32],
     work: &mut [u32],
 ) -> Answer
-    requires { ⌜ Multiples (now multiples) × Classes (now labels) (now classes) × Samples (now system) (now samples) ⌝ }
+    requires { ⌜ Classes (now labels) (now classes) ⌝ }
+    requires { ⌜ ItemTable (inputOf (now labels) (now system) (now actions) (now formula)) (now kinds) (now lefts) (now rights) (now priorities) ⌝ }
+    requires { ⌜ (count ≤ length (now kinds)) × (count ≤ length (now rights)) ⌝ }
+    requires { ⌜ refusal (inputOf (now labels) (now system) (now actions) (now formula)) (roomOf v e) (length (now game)) (length (now work)) ≡ Passed ⌝ }
+    ensures { λ r. ⌜ _≡_ {A = Outcome} (record { answer = said r; game = now (game .exit); work = now (work .exit) })
+        (run byDepth (inputOf (now (labels .entry)) (now (system .entry)) (now (actions .entry)) (now (formula .entry))) (roomOf v e) k (now (game .entry)) (now (work .entry))) ⌝ }
+{
+    let multiples = pairs::byte_multiples();
+    let mut samples = [0u32; 4096];
+    transitions::sample_transitions(system, &mut samples);
+    let mut matched = [0u8; 17408];
+    match_table::make_match_table(labels, actions, classes, kinds, rights, count, &mut matched);
+    build_game(
+        &multiples,
+        labels,
+        system,
+        actions,
+        formula,
+        classes,
+        &samples,
+        &matched,
+        kinds,
+        lefts,
+        rights,
+        priorities,
+        v,
+        e,
+        k,
+        game,
+        work,
+    )
+}
+
+// The formula is compiled into its table of items.
+fn build_items(
+    labels: &[u32],
+    system: &[u32],
+    actions: &[u32],
+    formula: &[u32],
+    classes: &[u32],
+    v: u32,
+    e: u32,
+    k: u32,
+    game: &mut [u32],
+    work: &mut [u32],
+) -> Answer
+    requires { ⌜ Classes (now labels) (now classes) ⌝ }
     requires { ⌜ refusal (inputOf (now labels) (now system) (now actions) (now formula)) (roomOf v e) (length (now game)) (length (now work)) ≡ Passed ⌝ }
     ensures { λ r. ⌜ _≡_ {A = Outcome} (record { answer = said r; game = now (game .exit); work = now (work .exit) })
         (run byDepth (inputOf (now (labels .entry)) (now (system .entry)) (now (actions .entry)) (now (formula .entry))) (roomOf v e) k (now (game .entry)) (now (work .entry))) ⌝ }
@@ -196,7 +246,7 @@ fn build_items(
     let mut rights = [0u32; 2048];
     let mut priorities = [0u32; 2048];
     let mut numbers = [0u32; 1024];
-    item_table::compile(
+    let count = item_table::compile(
         labels,
         system,
         actions,
@@ -208,18 +258,17 @@ fn build_items(
         &mut priorities,
         &mut numbers,
     );
-    build_game(
-        multiples,
+    build_walk(
         labels,
         system,
         actions,
         formula,
         classes,
-        samples,
         &kinds,
         &lefts,
         &rights,
         &priorities,
+        count,
         v,
         e,
         k,
@@ -228,7 +277,7 @@ fn build_items(
     )
 }
 
-// An accepted input: the tables that every step reads are made once.
+// An accepted input: the labels' multisets are told apart once.
 fn build(
     labels: &[u32],
     system: &[u32],
@@ -244,19 +293,14 @@ fn build(
     ensures { λ r. ⌜ _≡_ {A = Outcome} (record { answer = said r; game = now (game .exit); work = now (work .exit) })
         (run byDepth (inputOf (now (labels .entry)) (now (system .entry)) (now (actions .entry)) (now (formula .entry))) (roomOf v e) k (now (game .entry)) (now (work .entry))) ⌝ }
 {
-    let multiples = pairs::byte_multiples();
     let mut classes = [0u32; 4096];
     labels::label_classes(labels, &mut classes);
-    let mut samples = [0u32; 4096];
-    transitions::sample_transitions(system, &mut samples);
     build_items(
-        &multiples,
         labels,
         system,
         actions,
         formula,
         &classes,
-        &samples,
         v,
         e,
         k,

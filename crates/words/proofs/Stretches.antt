@@ -78,11 +78,6 @@ fill-zeros ws ws′ e =
     let n : length ws - 0 ≡ length ws = omega arith in
     e ∙ ap (λ (k : ℕ). replicate k 0) n
 
--- the stretch, and behind it the same word up to the end
-pub wrote-filled : (x : ℕ) {stretch out out′ out″ : List ℕ} {r : ℕ} → Wrote 0 stretch out out′ r → out″ ≡ take r out′ ++ replicate (length out′ - r) x
-    → out″ ≡ stretch ++ replicate (length out′ - r) x
-wrote-filled x {out′ = out′} {r = r} c e = e ∙ ap (λ (l : List ℕ). l ++ replicate (length out′ - r) x) (c .words)
-
 -- ---- a word for each of the elements from i up to count of a list
 module _ (f : ℕ → ℕ) (xs : List ℕ) (i count : ℕ) where
   pub carry-length : count ≤ length xs → length (map f (slice i count xs)) ≡ count - i

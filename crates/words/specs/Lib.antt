@@ -1,2 +1,4 @@
+pub mod Bytes
+pub mod Node
 pub mod Regions
 pub mod Stretches

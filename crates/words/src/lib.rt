@@ -1,10 +1,13 @@
-// Small functions on slices of words.
+// Small functions on slices of words, and on words in bytes.
 ghost use mathlib.Core.Path.{_≡_};
 ghost use mathlib.Core.List.{_++_, map};
 ghost use Prim.Native.Nat.{ℕ, _+_, _-_, _≤_, _<_};
 ghost use lib.ListN.{length, take, replicate};
 ghost use lib.Seq.{slice};
 ghost use Rattle.rules.specs.Lists.{word, zeros};
+ghost use Rattle.rules.specs.Table.{kind, operand};
+ghost use Rattle.words.specs.Bytes.{wordAt};
+ghost use Rattle.words.specs.Node.{hasKind, hasOperand};
 ghost use Rattle.words.specs.Regions.{region, putWord, InRegion};
 ghost use Rattle.words.specs.Stretches.{Wrote};
 
@@ -14,6 +17,25 @@ pub fn at(ws: &[u32], p: usize) -> usize
     ensures { λ r. ⌜ (r ≡ word (now (ws .entry)) p) × (r < 4294967296) ⌝ }
 {
     ws[p] as usize
+}
+
+// ---- nodes of a table of trees: m, m kinds, m operands. Both tables of a run are read by these two functions
+
+// The kind of a node.
+pub fn kind_at(table: &[u32], node: usize) -> usize
+    requires { ⌜ hasKind (now table) node ⌝ }
+    ensures { λ r. ⌜ r ≡ kind (now (table .entry)) node ⌝ }
+{
+    at(table, 1 + node)
+}
+
+// The operand of a node: all kinds are passed over.
+pub fn operand_at(table: &[u32], node: usize) -> usize
+    requires { ⌜ hasOperand (now table) node ⌝ }
+    ensures { λ r. ⌜ r ≡ operand (now (table .entry)) node ⌝ }
+{
+    let m = at(table, 0);
+    at(table, 1 + m + node)
 }
 
 // ---- regions of v words each: only these two functions index them
@@ -92,4 +114,24 @@ pub fn carry(
         i += 1;
     }
     p
+}
+
+// ---- words in bytes
+
+fn wide(b: u8) -> u32
+    ensures { λ r. ⌜ (r ≡ b) × (r < 256) ⌝ }
+{
+    b as u32
+}
+
+// The word whose first byte stands at p, the lowest byte first.
+pub fn word_at(bytes: &[u8], p: usize) -> u32
+    requires { ⌜ p + 4 ≤ length (now bytes) ⌝ }
+    ensures { λ r. ⌜ r ≡ wordAt (now (bytes .entry)) p ⌝ }
+{
+    let a = wide(bytes[p]);
+    let b = wide(bytes[p + 1]);
+    let c = wide(bytes[p + 2]);
+    let d = wide(bytes[p + 3]);
+    a + 256 * (b + 256 * (c + 256 * d))
 }

@@ -1,7 +1,6 @@
 use native.Mathlib.Omega.{arith}
 use mathlib.Core.Path.{sym, _∙_}
-use Rattle.tables.proofs.Faults.{first-fault, first-next}
-use Rattle.faults.proofs.Chains.{first-one}
+use Rattle.tables.proofs.Faults.{first-fault, first-next, first-one}
 use Rattle.action_words.proofs.Actions.{no-words, other-length, right-length, many-nodes, few-nodes, kinds-33}
 use borrow.Author.Needs.{needs}
 use Rattle.action_words.proofs.check_actions.Statement.{statement}

@@ -1,5 +1,4 @@
 use Rattle.action_words.proofs.Actions.{row-whole, row-broken}
-use Rattle.faults.proofs.Chains.{then-same}
 use Prim.Native.Nat.{_-_}
 use native.Mathlib.Omega.{arith}
 use mathlib.Core.Path.{_≡_, sym, _∙_}
@@ -8,7 +7,7 @@ use denote.Ref.{now}
 use Rattle.rules.specs.Answers.{faultIf, andThen}
 use Rattle.rules.specs.Table.{size, actionChildren, onRow}
 use Rattle.rules.specs.Refusal.{faultFrom, badActionOperand, refusal34}
-use Rattle.tables.proofs.Faults.{from-stop, from-next, from-done, then-fault, then-passed}
+use Rattle.tables.proofs.Faults.{from-stop, from-next, from-done, then-fault, then-passed, then-same}
 use Rattle.tables.proofs.Pools.{refusal34-scan}
 use borrow.Author.Needs.{needs}
 use Rattle.action_words.proofs.check_operands.Statement.{statement}

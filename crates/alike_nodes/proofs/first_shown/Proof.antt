@@ -1,7 +1,7 @@
 -- `first_shown` meets its contract. No node that the loop passed is shown by the words. Assumes nothing.
 use mathlib.Core.Path.{_≡_, sym, _∙_}
 use mathlib.Core.Bool.{false}
-use Prim.Native.Nat.{ℕ, _+_, _-_, _≤_, _<_}
+use Prim.Native.Nat.{ℕ, _-_, _≤_, _<_}
 use native.Mathlib.Omega.{arith}
 use Rattle.alike_nodes.specs.Nodes.{shownBy}
 use Rattle.alike_nodes.proofs.Placing.{found-first, found-none, none-more}

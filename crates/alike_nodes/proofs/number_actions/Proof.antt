@@ -1,8 +1,8 @@
 -- `number_actions` meets its contract. The nodes from i on are placed. Assumes nothing.
-use mathlib.Core.Path.{_≡_, refl, sym, subst, _∙_}
-use Prim.Native.Nat.{ℕ, _+_, _-_, _≤_, _<_}
+use mathlib.Core.Path.{_≡_, refl, subst, _∙_}
+use Prim.Native.Nat.{ℕ, _+_, _-_, _≤_}
 use native.Mathlib.Omega.{arith}
-use lib.ListN.{length, length-set}
+use lib.ListN.{length}
 use Rattle.rules.specs.Table.{size}
 use Rattle.rules.specs.Actions.{actionTree}
 use Rattle.alike_nodes.specs.Nodes.{Numbered}

@@ -1,8 +1,8 @@
 -- `number_formula` meets its contract. The nodes from i on are placed. Assumes nothing.
-use mathlib.Core.Path.{_≡_, refl, sym, subst, _∙_}
-use Prim.Native.Nat.{ℕ, _+_, _-_, _≤_, _<_}
+use mathlib.Core.Path.{_≡_, refl, subst, _∙_}
+use Prim.Native.Nat.{ℕ, _+_, _-_, _≤_}
 use native.Mathlib.Omega.{arith}
-use lib.ListN.{length, length-set}
+use lib.ListN.{length}
 use Rattle.rules.specs.Words.{inputOf}
 use Rattle.rules.specs.Table.{size}
 use Rattle.rules.specs.Formula.{formulaTree}

@@ -1,5 +1,5 @@
 -- `place_node` meets its contract. Assumes nothing.
-use mathlib.Core.Path.{_≡_, refl, ap}
+use mathlib.Core.Path.{refl, ap}
 use Prim.Native.Nat.{ℕ}
 use lib.ListN.{set}
 use borrow.Author.Needs.{needs}

@@ -3,7 +3,7 @@ use contract.Running.{givenOf, tables, tablesOf}
 use denote.Triple.Spec.{tripleOf}
 use denote.Triple.Table.{entered, cited}
 use Rattle.rules.specs.Table as table
-use Rattle.formula_reader.specs.Node.{hasKind}
+use Rattle.words.specs.Node.{hasKind}
 use Rattle.formula_reader.proofs.Through.{On}
 use Rattle.formula_reader.proofs.AtNode.{New, Moved, at-node}
 use Rattle.formula_reader.proofs.new.Symbol as new-def

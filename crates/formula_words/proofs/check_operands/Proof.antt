@@ -8,9 +8,8 @@ use Rattle.rules.specs.Answers.{faultIf, andThen}
 use Rattle.rules.specs.Table.{size, formulaChildren}
 use Rattle.rules.specs.Refusal.{faultFrom, badFormulaOperand, refusal44}
 use Rattle.tables.specs.Ends.{endOf}
-use Rattle.tables.proofs.Faults.{from-stop, from-next, from-done, then-fault, then-passed}
+use Rattle.tables.proofs.Faults.{from-stop, from-next, from-done, then-fault, then-passed, then-same}
 use Rattle.tables.proofs.Pools.{refusal44-scan}
-use Rattle.faults.proofs.Chains.{then-same}
 use Rattle.formula_words.proofs.Formula.{unfinished, finished, bad-node, left-over, good-node}
 use borrow.Author.Needs.{needs}
 use Rattle.formula_words.proofs.check_operands.Statement.{statement}

@@ -1,8 +1,7 @@
 use lib.ListN.{length-replicate}
 use mathlib.Core.Path.{sym, _∙_}
 use mathlib.Core.Bool.{Bool, false}
-use Rattle.tables.proofs.Faults.{first-fault, first-next}
-use Rattle.faults.proofs.Chains.{first-one}
+use Rattle.tables.proofs.Faults.{first-fault, first-next, first-one}
 use Rattle.table_words.proofs.Row.{blank}
 use borrow.Author.Needs.{needs}
 use Rattle.formula_words.proofs.check_trees.Statement.{statement}

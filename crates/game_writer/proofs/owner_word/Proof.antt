@@ -11,8 +11,8 @@ region-word-requires c κs = search needs
 returns : tie.Need-returns
 returns c = sym (owner-waits _ _ _ _ (sym (c .before .region-word .ensures) ∙ c .if1 .taken))
 
-region-word-requires-2 : tie.Need-region-word-requires-2
-region-word-requires-2 c κs = search needs
+item-of-requires : tie.Need-item-of-requires
+item-of-requires c κs = search needs
 
 cast-owner-of : tie.Need-cast-owner-of
 cast-owner-of c = search needs
@@ -21,7 +21,7 @@ mul-owner-of : tie.Need-mul-owner-of
 mul-owner-of c = search needs
 
 shared-slice-read-owner-of : tie.Need-shared-slice-read-owner-of
-shared-slice-read-owner-of c = omega (arith, c .before .before .before .before .before .before .pre .1 (omega (arith, c .before .before .before .region-word .ensures, c .before .before .if1 .left)), c .before .region-word2 .ensures)
+shared-slice-read-owner-of c = omega (arith, c .before .before .before .before .before .before .pre .1 (omega (arith, c .before .before .before .region-word .ensures, c .before .before .if1 .left)), c .before .item-of .ensures)
 
 owner-of-requires : tie.Need-owner-of-requires
 owner-of-requires c κs = search needs
@@ -30,7 +30,7 @@ to-index-requires : tie.Need-to-index-requires
 to-index-requires c κs = search needs
 
 returns-2 : tie.Need-returns-2
-returns-2 c = owner-read _ _ _ _ _ _ _ (λ e. c .before .before .before .before .if1 .left (c .before .before .before .before .before .region-word .ensures ∙ e)) (c .before .before .before .region-word2 .ensures) (c .before .owner-of .ensures) (c .to-index .ensures)
+returns-2 c = owner-read _ _ _ _ _ _ _ (λ e. c .before .before .before .before .if1 .left (c .before .before .before .before .before .region-word .ensures ∙ e)) (c .before .before .before .item-of .ensures) (c .before .owner-of .ensures) (c .to-index .ensures)
 
 pub owner-word-spec : {M : Type 1} → statement M
 owner-word-spec =
@@ -38,7 +38,7 @@ owner-word-spec =
     (tie.spec
     region-word-requires
     returns
-    region-word-requires-2
+    item-of-requires
     cast-owner-of
     mul-owner-of
     shared-slice-read-owner-of

@@ -14,8 +14,8 @@ returns c = sym (priority-waits _ _ _ _ _ (sym (c .before .region-word .ensures)
 region-word-requires-2 : tie.Need-region-word-requires-2
 region-word-requires-2 c κs = search needs
 
-region-word-requires-3 : tie.Need-region-word-requires-3
-region-word-requires-3 c κs = search needs
+item-of-requires : tie.Need-item-of-requires
+item-of-requires c κs = search needs
 
 mul-if2 : tie.Need-mul-if2
 mul-if2 c = search needs
@@ -40,7 +40,7 @@ mul-owner-of : tie.Need-mul-owner-of
 mul-owner-of c = search needs
 
 shared-slice-read-owner-of : tie.Need-shared-slice-read-owner-of
-shared-slice-read-owner-of c = omega (arith, c .before .before .before .before .before .before .before .before .before .before .before .pre .1 .0 (omega (arith, c .before .before .before .before .before .before .before .region-word .ensures, c .before .before .before .before .before .before .if1 .left)), c .before .before .before .before .region-word3 .ensures)
+shared-slice-read-owner-of c = omega (arith, c .before .before .before .before .before .before .before .before .before .before .before .pre .1 .0 (omega (arith, c .before .before .before .before .before .before .before .region-word .ensures, c .before .before .before .before .before .before .if1 .left)), c .before .before .before .before .item-of .ensures)
 
 owner-of-requires : tie.Need-owner-of-requires
 owner-of-requires c κs = search needs
@@ -49,7 +49,7 @@ stuck-priority-requires : tie.Need-stuck-priority-requires
 stuck-priority-requires c κs = search needs
 
 returns-2 : tie.Need-returns-2
-returns-2 c = stuck-read _ _ _ _ _ _ _ _ _ (λ e. c .before .before .before .before .before .before .before .before .if1 .left (c .before .before .before .before .before .before .before .before .before .region-word .ensures ∙ e)) (c .before .before .before .before .before .before .before .region-word2 .ensures) (c .before .before .before .if2 .taken) (c .before .before .before .before .before .before .region-word3 .ensures) (c .before .owner-of .ensures) (c .stuck-priority .ensures)
+returns-2 c = stuck-read _ _ _ _ _ _ _ _ _ (λ e. c .before .before .before .before .before .before .before .before .if1 .left (c .before .before .before .before .before .before .before .before .before .region-word .ensures ∙ e)) (c .before .before .before .before .before .before .before .region-word2 .ensures) (c .before .before .before .if2 .taken) (c .before .before .before .before .before .before .item-of .ensures) (c .before .owner-of .ensures) (c .stuck-priority .ensures)
 
 cast-t10 : tie.Need-cast-t10
 cast-t10 c = search needs
@@ -58,10 +58,10 @@ mul-t11 : tie.Need-mul-t11
 mul-t11 c = search needs
 
 shared-slice-read-t16 : tie.Need-shared-slice-read-t16
-shared-slice-read-t16 c = omega (arith, c .before .before .before .before .before .before .before .before .before .before .before .pre .1 .1 .0 (omega (arith, c .before .before .before .before .before .before .before .region-word .ensures, c .before .before .before .before .before .before .if1 .left)), c .before .before .before .before .region-word3 .ensures)
+shared-slice-read-t16 c = omega (arith, c .before .before .before .before .before .before .before .before .before .before .before .pre .1 .1 .0 (omega (arith, c .before .before .before .before .before .before .before .region-word .ensures, c .before .before .before .before .before .before .if1 .left)), c .before .before .before .before .item-of .ensures)
 
 returns-3 : tie.Need-returns-3
-returns-3 c = ranked-read _ _ _ _ _ _ _ (λ e. c .before .before .before .before .before .before .if1 .left (c .before .before .before .before .before .before .before .region-word .ensures ∙ e)) (c .before .before .before .before .before .region-word2 .ensures) (c .before .if2 .left) (c .before .before .before .before .region-word3 .ensures)
+returns-3 c = ranked-read _ _ _ _ _ _ _ (λ e. c .before .before .before .before .before .before .if1 .left (c .before .before .before .before .before .before .before .region-word .ensures ∙ e)) (c .before .before .before .before .before .region-word2 .ensures) (c .before .if2 .left) (c .before .before .before .before .item-of .ensures)
 
 pub shown-priority-spec : {M : Type 1} → statement M
 shown-priority-spec =
@@ -70,7 +70,7 @@ shown-priority-spec =
     region-word-requires
     returns
     region-word-requires-2
-    region-word-requires-3
+    item-of-requires
     mul-if2
     cast-if2
     add-if2

@@ -1,11 +1,11 @@
 use mathlib.Core.Path.{sym, _∙_}
 use denote.Ref.{now}
-use Rattle.faults.proofs.Chains.{first-fault-of, first-next-of}
 use Rattle.action_words.proofs.Actions.{actions-passed}
 use Rattle.inputs.specs.Groups.{actionChecks}
 use borrow.Author.Needs.{needs}
 use Rattle.inputs.proofs.check_formulas.Statement.{statement}
 use Rattle.inputs.proofs.check_formulas.Tie as tie
+use Rattle.tables.proofs.Faults.{first-fault-of, first-next-of}
 
 -- src/lib.rt:43:9
 check-actions-requires : tie.Need-check-actions-requires

@@ -1,13 +1,13 @@
 use native.Mathlib.Omega.{arith}
 use mathlib.Core.Path.{sym, _∙_}
 use denote.Ref.{now}
-use Rattle.faults.proofs.Chains.{first-fault-of, first-next-of}
 use Rattle.label_words.proofs.Labels.{labels-passed}
 use Rattle.inputs.specs.Groups.{labelChecks, systemChecks}
 use Rattle.inputs.proofs.Order.{words-order}
 use borrow.Author.Needs.{needs}
 use Rattle.inputs.proofs.check_words.Statement.{statement}
 use Rattle.inputs.proofs.check_words.Tie as tie
+use Rattle.tables.proofs.Faults.{first-fault-of, first-next-of}
 
 -- src/lib.rt:54:9
 check-labels-requires : tie.Need-check-labels-requires

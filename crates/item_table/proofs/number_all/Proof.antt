@@ -1,5 +1,4 @@
 -- `number_all` meets its contract, by what the three calls ensure. Assumes nothing.
-use mathlib.Core.Path.{_≡_}
 use native.Mathlib.Omega.{arith}
 use borrow.Author.Needs.{needs}
 use Rattle.item_table.proofs.number_all.Statement.{statement}

@@ -1,5 +1,5 @@
 -- `put_items` meets its contract, by what the two calls ensure. Assumes nothing.
-use mathlib.Core.Path.{_≡_, _∙_}
+use mathlib.Core.Path.{_∙_}
 use native.Mathlib.Omega.{arith}
 use Rattle.rules.specs.Words.{inputOf}
 use Rattle.item_table.proofs.Filling.{listed-numbers}

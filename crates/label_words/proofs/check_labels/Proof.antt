@@ -1,7 +1,6 @@
 use native.Mathlib.Omega.{arith}
 use mathlib.Core.Path.{sym, _∙_}
-use Rattle.tables.proofs.Faults.{first-fault, first-next}
-use Rattle.faults.proofs.Chains.{first-one}
+use Rattle.tables.proofs.Faults.{first-fault, first-next, first-one}
 use Rattle.label_words.proofs.Labels.{few-words, other-length, right-length, many-labels, many-actions, few-enough}
 use borrow.Author.Needs.{needs}
 use Rattle.label_words.proofs.check_labels.Statement.{statement}

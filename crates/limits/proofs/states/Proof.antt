@@ -9,49 +9,37 @@ use Rattle.limits.proofs.states.Reads as reads
 use Rattle.limits.proofs.states.Lts as lts
 use Rattle.limits.proofs.attempt.Reads as attempt-reads
 use Rattle.limits.proofs.blank.Reads as blank-reads
-use Rattle.limits.proofs.size.Reads as size-reads
 
--- src/main.rt:71:22
 blank-requires : tie.Need-blank-requires
 blank-requires c κs = search needs
 
--- src/main.rt:72:5
+cast-system : tie.Need-cast-system
+cast-system c = search needs
+
 array-write-system : tie.Need-array-write-system
 array-write-system c = search needs
 
--- src/main.rt:73:19
-size-requires : tie.Need-size-requires
-size-requires c κs = search needs
-
--- src/main.rt:73:15
 add-end : tie.Need-add-end
-add-end c = omega (arith, c .size .ensures)
+add-end c = search needs
 
--- src/main.rt:74:13
 slice-aggregate-attempt : tie.Need-slice-aggregate-attempt
 slice-aggregate-attempt c = search needs
 
--- src/main.rt:74:28
 array-share-prefix-system : tie.Need-array-share-prefix-system
-array-share-prefix-system c = omega (arith, c .before .size .ensures, c .before .before .blank .ensures, length-set (c .before .before .blank .result) 0 (c .before .before .before .args .count))
+array-share-prefix-system c = omega (arith, c .before .blank .ensures, length-set (c .before .blank .result) 0 (c .before .before .args .count))
 
--- src/main.rt:74:28
 slice-aggregate-attempt-2 : tie.Need-slice-aggregate-attempt-2
-slice-aggregate-attempt-2 c = sym (length-take-le _ _ (omega (arith, c .before .before .size .ensures, c .before .before .before .blank .ensures, length-set (c .before .before .before .blank .result) 0 (c .before .before .before .before .args .count))))
+slice-aggregate-attempt-2 c = sym (length-take-le _ _ (omega (arith, c .before .before .blank .ensures, length-set (c .before .before .blank .result) 0 (c .before .before .before .args .count))))
 
--- src/main.rt:74:44
 slice-aggregate-attempt-3 : tie.Need-slice-aggregate-attempt-3
 slice-aggregate-attempt-3 c = search needs
 
--- src/main.rt:74:56
 slice-aggregate-attempt-4 : tie.Need-slice-aggregate-attempt-4
 slice-aggregate-attempt-4 c = search needs
 
--- src/main.rt:74:5
 attempt-requires : tie.Need-attempt-requires
 attempt-requires c κs = search needs
 
--- src/main.rt:68:1
 returns : tie.Need-returns
 returns c = search needs
 
@@ -60,8 +48,8 @@ states-spec =
     tie.close
     (tie.spec
     blank-requires
+    cast-system
     array-write-system
-    size-requires
     add-end
     slice-aggregate-attempt
     array-share-prefix-system

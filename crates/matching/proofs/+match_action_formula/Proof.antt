@@ -1,5 +1,4 @@
 -- `match_action_formula` meets its contract. The measure is the number of nodes less the node; each answer is the law of the kind of the node. Assumes nothing.
-use mathlib.Core.Path.{_≡_, sym, _∙_}
 use Prim.Native.Nat.{_+_, _-_, _≤_}
 use native.Mathlib.Omega.{arith}
 use Rattle.rules.specs.Table.{size}
@@ -10,8 +9,8 @@ use borrow.Fn.PlainCycle.{Measures, is, falls, and}
 use Rattle.matching.proofs.match_action_formula.Reads as match-action-formula
 use Rattle.matching.proofs.match_action_formula.Kinds as match-action-formula-kinds
 use Rattle.matching.proofs.+match_action_formula.Lts-match_action_formula as match-action-formula-lts
-use Rattle.matching.proofs.kind_at.Reads as kind-at-reads
-use Rattle.matching.proofs.operand_at.Reads as operand-at-reads
+use Rattle.words.proofs.kind_at.Reads as kind-at-reads
+use Rattle.words.proofs.operand_at.Reads as operand-at-reads
 use Rattle.words.proofs.at.Reads as at-reads
 use Rattle.matching.proofs.+match_action_formula.{statement}
 use Rattle.matching.proofs.+match_action_formula.Tie.{close}
@@ -46,7 +45,7 @@ match-action-formula-kind-at-requires : (t : ℕ) → match-action-formula-lts.N
   match-action-formula-below t,
   match-action-formula.Post,
 ) (match-action-formula-at t) match-action-formula.Post
-match-action-formula-kind-at-requires t c κs = (c .before .before .before .pre .1 .0 .sized, c .before .before .before .pre .1 .1 .1)
+match-action-formula-kind-at-requires t c κs = omega (arith, c .before .before .before .pre .1 .0 .sized, c .before .before .before .pre .1 .1 .1)
 
 -- src/lib.rt:40:9
 match-action-formula-returns : (t : ℕ) → match-action-formula-lts.Need-returns (
@@ -92,7 +91,7 @@ match-action-formula-operand-at-requires :
       match-action-formula-below t,
       match-action-formula.Post,
     ) (match-action-formula-at t) match-action-formula.Post
-match-action-formula-operand-at-requires t c κs = (c .before .before .before .before .before .before .pre .1 .0 .sized, c .before .before .before .before .before .before .pre .1 .1 .1)
+match-action-formula-operand-at-requires t c κs = omega (arith, c .before .before .before .before .before .before .pre .1 .0 .sized, c .before .before .before .before .before .before .pre .1 .1 .1)
 
 -- src/lib.rt:47:16
 match-action-formula-at-requires : (t : ℕ) → match-action-formula-lts.Need-at-requires (

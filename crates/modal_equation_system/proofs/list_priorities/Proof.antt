@@ -20,11 +20,11 @@ abbrev μ-loop : tie.MeasureT-loop
 
 -- src/lib.rt:214:5
 loop-holds : tie.Need-loop-holds Inv-loop μ-loop
-loop-holds c = (omega arith, refl, ranked-first (c .before .before .before .before .before .args .formula .now) (c .before .before .before .before .before .args .priorities .now))
+loop-holds c = (omega arith, refl, ranked-first (c .before .before .args .formula .now) (c .before .before .args .priorities .now))
 
 -- src/lib.rt:215:13
 priority-of-requires : tie.Need-priority-of-requires Inv-loop μ-loop
-priority-of-requires c κs = let s = c .before .before .before .before .before .before .before in (s .pre .0, omega (arith, s .pre .1 .0, c .loop-test .taken))
+priority-of-requires c κs = let s = c .before .before .before .before in (s .pre .0, omega (arith, s .pre .1 .0, c .loop-test .taken))
 
 -- src/lib.rt:216:9
 mul-priorities : tie.Need-mul-priorities Inv-loop μ-loop
@@ -45,7 +45,7 @@ loop-less c = search needs
 -- src/lib.rt:214:5
 loop-again : tie.Need-loop-again Inv-loop μ-loop
 loop-again c =
-    let s = c .before .before .before .before .before .before .before .before in
+    let s = c .before .before .before .before .before in
     let l = c .before .before .loop in
     let next = ranked-next (s .args .formula .now) (l .i) (s .args .priorities .now) (l .priorities) (c .priority-of .result .0) (omega (arith, l .inv .1, s .pre .1)) (c .priority-of .ensures) (l .inv .2) in
     (omega arith, next .sized, next)
@@ -57,7 +57,7 @@ same-length c = search needs
 -- src/lib.rt:201:1
 returns : tie.Need-returns Inv-loop μ-loop
 returns c =
-    let s = c .before .before .before .before .before .before .before in
+    let s = c .before .before .before .before in
     let l = c .before .loop in
     let e : l .i ≡ s .args .count = omega arith in
     subst (λ (n : ℕ). Ranked (s .args .formula .now) n (s .args .priorities .now) (l .priorities)) e (l .inv .2)

@@ -1,3 +1,4 @@
+use Prim.Native.Nat.{_*_}
 use native.Mathlib.Omega.{arith}
 use Rattle.pairs.specs.Slot.{keyOf}
 use Rattle.pairs.proofs.Wrap.{slot-below}
@@ -21,33 +22,44 @@ same-length c = search needs
 returns : tie.Need-returns
 returns c = full _ _ _ _ _ (c .before .before .before .before .before .before .pre .1) _ (c .before .before .before .find .ensures) (c .before .enum-told .given .1) (c .if1 .taken)
 
+mul-slot-of : tie.Need-mul-slot-of
+mul-slot-of c = search needs
+
 slot-of-requires : tie.Need-slot-of-requires
 slot-of-requires c κs = search needs
 
-region-word-requires : tie.Need-region-word-requires
-region-word-requires c κs =
-    let s = c .before .before .before .before .before .before .before .before in
-    omega (arith, slot-below (keyOf (s .args .state) (s .args .item)) (s .args .v) (s .pre .1 .some))
+cast-slot : tie.Need-cast-slot
+cast-slot c = search needs
 
-put-word-requires : tie.Need-put-word-requires
-put-word-requires c κs = search needs
+part-word-requires : tie.Need-part-word-requires
+part-word-requires c κs = let s = c .before .before .before .before .before .before .before .before in omega (arith, slot-below (keyOf (s .args .state) (s .args .item)) (2 * s .args .v) (omega (arith, s .pre .1 .some)))
 
-put-word-requires-2 : tie.Need-put-word-requires-2
-put-word-requires-2 c κs = search needs
+mul-entry : tie.Need-mul-entry
+mul-entry c = search needs
 
-put-word-requires-3 : tie.Need-put-word-requires-3
-put-word-requires-3 c κs = search needs
+mul-put-part-word : tie.Need-mul-put-part-word
+mul-put-part-word c = search needs
 
-add-put-word : tie.Need-add-put-word
-add-put-word c = let s = c .before .before .before .before .before .before .before .before .before .before .before .before .before .before .before .before .before .before .before .before .before .before in omega (arith, s .pre .1 .most, s .pre .1 .table .chains .room)
+add-put-part-word : tie.Need-add-put-part-word
+add-put-part-word c = search needs
 
-put-word-requires-4 : tie.Need-put-word-requires-4
-put-word-requires-4 c κs =
-    let s = c .before .before .before .before .before .before .before .before .before .before .before .before .before .before .before .before .before .before .before .before .before .before in
-    omega (arith, slot-below (keyOf (s .args .state) (s .args .item)) (s .args .v) (s .pre .1 .some), c .before .before .before .before .before .before .before .before .before .before .before .before .before .before .before .slot-of .ensures, s .pre .1 .whole)
+put-part-word-requires : tie.Need-put-part-word-requires
+put-part-word-requires c κs = search needs
 
-add-t26 : tie.Need-add-t26
-add-t26 c = let s = c .before .before .before .before .before .before .before .before .before .before .before .before .before .before .before .before .before .before .before .before .before .before .before .before .before in omega (arith, s .pre .1 .most, s .pre .1 .table .chains .room)
+add-put-part-word-2 : tie.Need-add-put-part-word-2
+add-put-part-word-2 c = search needs
+
+put-part-word-requires-2 : tie.Need-put-part-word-requires-2
+put-part-word-requires-2 c κs = search needs
+
+add-put-part-word-3 : tie.Need-add-put-part-word-3
+add-put-part-word-3 c = search needs
+
+put-part-word-requires-3 : tie.Need-put-part-word-requires-3
+put-part-word-requires-3 c κs = let s = c .before .before .before .before .before .before .before .before .before .before .before .before .before .before .before .before .before .before in omega (arith, slot-below (keyOf (s .args .state) (s .args .item)) (2 * s .args .v) (omega (arith, s .pre .1 .some)), c .before .before .before .before .before .before .before .before .before .before .before .slot-of .ensures, s .pre .1 .whole)
+
+add-t17 : tie.Need-add-t17
+add-t17 c = let s = c .before .before .before .before .before .before .before .before .before .before .before .before .before .before .before .before .before .before .before .before .before in omega (arith, s .pre .1 .most, s .pre .1 .table .chains .room)
 
 same-length-2 : tie.Need-same-length-2
 same-length-2 c = search needs
@@ -59,11 +71,9 @@ same-length-3 : tie.Need-same-length-3
 same-length-3 c = search needs
 
 returns-3 : tie.Need-returns-3
-returns-3 c =
-    let s = c .before .before .before .before .before .before .before .before .before .before .before .before .before .before .before .before .before .before .before .before .before .before .before .before .before in
-    added-by _ _ _ _ _ (s .pre .1) (omega (arith, c .before .before .before .before .before .before .before .before .before .before .before .before .before .before .before .before .before .before .before .if1 .left, s .pre .1 .table .chains .room)) _ _ _ _ _ _ _
-    (c .before .before .before .before .before .before .before .before .before .before .before .before .before .before .before .before .before .before .before .before .before .before .find .ensures) (c .before .before .before .before .before .before .before .before .before .before .before .before .before .before .before .before .before .before .before .before .enum-told .given .1) (c .before .before .before .before .before .before .before .before .before .before .before .before .before .before .before .before .before .before .slot-of .ensures) (c .before .before .before .before .before .before .before .before .before .before .before .before .before .before .before .before .region-word .ensures)
-    (c .before .before .before .before .before .before .before .before .before .before .before .before .before .before .put-word .ensures) (c .before .before .before .before .before .before .before .before .before .before .put-word2 .ensures) (c .before .before .before .before .before .before .put-word3 .ensures) (c .before .before .put-word4 .ensures)
+returns-3 c = let s = c .before .before .before .before .before .before .before .before .before .before .before .before .before .before .before .before .before .before .before .before .before in
+    added-by _ _ _ _ _ (s .pre .1) (omega (arith, c .before .before .before .before .before .before .before .before .before .before .before .before .before .before .before .if1 .left, s .pre .1 .table .chains .room)) _ _ _ _ _ _ (c .before .before .before .before .before .before .before .before .before .before .before .before .before .before .before .before .before .before .find .ensures) (c .before .before .before .before .before .before .before .before .before .before .before .before .before .before .before .before .enum-told .given .1) (c .before .before .before .before .before .before .before .before .before .before .before .before .before .before .slot-of .ensures) (c .before .before .before .before .before .before .before .before .before .before .before .before .part-word .ensures)
+    (c .before .before .before .before .before .before .before .before .before .before .put-part-word .ensures) (c .before .before .before .before .before .before .put-part-word2 .ensures) (c .before .before .put-part-word3 .ensures)
 
 pub number-spec : {M : Type 1} → statement M
 number-spec =
@@ -74,14 +84,19 @@ number-spec =
     enum-told
     same-length
     returns
+    mul-slot-of
     slot-of-requires
-    region-word-requires
-    put-word-requires
-    put-word-requires-2
-    put-word-requires-3
-    add-put-word
-    put-word-requires-4
-    add-t26
+    cast-slot
+    part-word-requires
+    mul-entry
+    mul-put-part-word
+    add-put-part-word
+    put-part-word-requires
+    add-put-part-word-2
+    put-part-word-requires-2
+    add-put-part-word-3
+    put-part-word-requires-3
+    add-t17
     same-length-2
     returns-2
     same-length-3

@@ -6,7 +6,6 @@ use Rattle.parity_game.proofs.check_vertices.Statement.{statement}
 use Rattle.parity_game.proofs.check_vertices.Tie as tie
 use Rattle.parity_game.proofs.check_vertices.Reads as reads
 use Rattle.parity_game.proofs.check_vertices.Lts as lts
-use Rattle.parity_game.proofs.check_below.Reads as check-below-reads
 use Rattle.words.proofs.at.Reads as at-reads
 
 -- src/lib.rt:99:9

@@ -1,6 +1,6 @@
 use Rattle.reachability.proofs.Whole.{refused, restricted}
 use denote.Ref.{now}
-use mathlib.Core.Path.{_≡_, sym, _∙_}
+use mathlib.Core.Path.{sym, _∙_}
 use borrow.Author.Needs.{needs}
 use Rattle.reachability.proofs.compute_reachable.Statement.{statement}
 use Rattle.reachability.proofs.compute_reachable.Tie as tie

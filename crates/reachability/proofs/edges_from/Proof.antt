@@ -1,6 +1,5 @@
 use native.Mathlib.Omega.{arith}
 use Rattle.reachability.proofs.Edges.{edges-read}
-use borrow.Author.Needs.{needs}
 use Rattle.reachability.proofs.edges_from.Statement.{statement}
 use Rattle.reachability.proofs.edges_from.Tie as tie
 use Rattle.reachability.proofs.edges_from.Reads as reads

@@ -1,7 +1,5 @@
-use denote.Ref.{now}
-use mathlib.Core.Path.{_≡_, sym, ap, _∙_}
+use mathlib.Core.Path.{_∙_}
 use native.Mathlib.Omega.{arith}
-use lib.ListN.{length}
 use Rattle.words.proofs.Stretches.{fill-zeros}
 use Rattle.restrictions.proofs.Accepted.{good-game, accepted-slices}
 use Rattle.reachability.proofs.Stretches.{chosen}

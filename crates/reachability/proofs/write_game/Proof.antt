@@ -1,9 +1,9 @@
 use mathlib.Core.List.{map}
 use denote.Ref.{now}
-use Prim.Native.Nat.{ℕ, _+_}
-use mathlib.Core.Path.{_≡_, sym, _∙_}
+use Prim.Native.Nat.{_+_}
+use mathlib.Core.Path.{sym, _∙_}
 use native.Mathlib.Omega.{arith}
-use lib.ListN.{length, take}
+use lib.ListN.{take}
 use lib.Seq.{length-take-le}
 use Rattle.rules.specs.Lists.{word}
 use Rattle.rules.specs.Game.{gameOf}
@@ -13,7 +13,6 @@ use Rattle.games.proofs.Reading.{length-offsets, length-targets}
 use Rattle.parity_game.proofs.Stretches.{game-padded}
 use Rattle.restrictions.proofs.Kept.{kept-length}
 use Rattle.reachability.proofs.Written.{kept-stretches}
-use borrow.Author.Needs.{needs}
 use Rattle.reachability.proofs.write_game.Statement.{statement}
 use Rattle.reachability.proofs.write_game.Tie as tie
 use Rattle.reachability.proofs.write_game.Reads as reads

@@ -1,9 +1,8 @@
 use denote.Ref.{now}
-use Prim.Native.Nat.{ℕ, _-_, _≤_, _<_}
-use mathlib.Core.Path.{_≡_, ap}
+use Prim.Native.Nat.{ℕ, _-_, _≤_}
+use mathlib.Core.Path.{ap}
 use mathlib.Core.List.{map}
 use native.Mathlib.Omega.{arith}
-use lib.ListN.{length}
 use lib.Seq.{slice}
 use Rattle.rules.specs.Lists.{word}
 use Rattle.words.proofs.Stretches.{Writing, carry-put, carry-done}

@@ -1,8 +1,8 @@
 use denote.Ref.{now}
-use Prim.Native.Nat.{_+_, _-_, _≤_, _<_}
+use Prim.Native.Nat.{_+_, _-_, _≤_}
 use mathlib.Core.Path.{_≡_, ap, _∙_}
 use native.Mathlib.Omega.{arith}
-use lib.ListN.{length, take, length-set}
+use lib.ListN.{take, length-set}
 use Rattle.rules.specs.Game.{edgeCount, offsets}
 use Rattle.rules.specs.Restrict.{keptVertices}
 use Rattle.words.proofs.Stretches.{Writing, turn, put, done}

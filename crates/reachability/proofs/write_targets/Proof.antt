@@ -2,8 +2,8 @@ use mathlib.Core.List.{map}
 use lib.Seq.{slice}
 use Rattle.rules.specs.Lists.{word}
 use denote.Ref.{now}
-use Prim.Native.Nat.{_+_, _-_, _≤_}
-use mathlib.Core.Path.{_≡_, ap, _∙_}
+use Prim.Native.Nat.{_-_, _≤_}
+use mathlib.Core.Path.{ap}
 use native.Mathlib.Omega.{arith}
 use lib.ListN.{take}
 use Rattle.rules.specs.Game.{edgeTargets}

@@ -13,21 +13,21 @@ use Rattle.modalities.proofs.settle_modality.Reads as settle-modality-reads
 
 -- src/lib.rt:103:9
 entry-requires : tie.Need-entry-requires
-entry-requires c κs = kinds-long _ _ _ _ _ _ _ _ (c .before .before .before .before .before .before .before .before .before .before .pre .0) _ _ (c .before .before .before .before .before .before .before .before .before .before .pre .1 .1)
+entry-requires c κs = kinds-long _ _ _ _ _ _ _ _ _ (c .before .before .before .before .before .before .before .before .before .before .pre .0) _ _ (c .before .before .before .before .before .before .before .before .before .before .pre .1 .1)
 
 -- src/lib.rt:105:9
 returns : tie.Need-returns
-returns c = let s = c .before .before .before .before .before .before .before .before .before .before .before .before in rw (kind-none _ _ _ _ _ _ _ _ (s .pre .0) (s .args .state) _ (s .pre .1 .1) _ (c .before .entry .ensures) (c .if1 .taken)) (made-none _ _ _ _ (s .pre .1 .0 .0))
+returns c = let s = c .before .before .before .before .before .before .before .before .before .before .before .before in rw (kind-none _ _ _ _ _ _ _ _ _ (s .pre .0) (s .args .state) _ (s .pre .1 .1) _ (c .before .entry .ensures) (c .if1 .taken)) (made-none _ _ _ _ (s .pre .1 .0 .0))
 
 -- src/lib.rt:107:9
 entry-requires-2 : tie.Need-entry-requires-2
-entry-requires-2 c κs = lefts-long _ _ _ _ _ _ _ _ (c .before .before .before .before .before .before .before .before .before .before .before .before .pre .0) _ _ (c .before .before .before .before .before .before .before .before .before .before .before .before .pre .1 .1)
+entry-requires-2 c κs = lefts-long _ _ _ _ _ _ _ _ _ (c .before .before .before .before .before .before .before .before .before .before .before .before .pre .0) _ _ (c .before .before .before .before .before .before .before .before .before .before .before .before .pre .1 .1)
 
 -- src/lib.rt:109:9
 number-target-requires : tie.Need-number-target-requires
 number-target-requires c κs =
     let s = c .before .before .before .before .before .before .before .before .before .before .before .before .before .before .before in
-    (s .pre .0 .bytes, (s .pre .1 .0 .0, left-fits _ _ _ _ _ _ _ _ (s .pre .0) _ _ (s .pre .1 .1) _ (c .before .before .before .before .entry .ensures) _ (c .before .before .entry2 .ensures) (omega (arith, c .before .if2 .taken))))
+    (s .pre .0 .bytes, (s .pre .1 .0 .0, left-fits _ _ _ _ _ _ _ _ _ (s .pre .0) _ _ (s .pre .1 .1) _ (c .before .before .before .before .entry .ensures) _ (c .before .before .entry2 .ensures) (omega (arith, c .before .if2 .taken))))
 
 -- src/lib.rt:109:9
 same-length : tie.Need-same-length
@@ -35,11 +35,11 @@ same-length c = search needs
 
 -- src/lib.rt:109:9
 returns-2 : tie.Need-returns-2
-returns-2 c = let s = c .before .before .before .before .before .before .before .before .before .before .before .before .before .before .before .before .before .before in rw (kind-one _ _ _ _ _ _ _ _ (s .pre .0) (s .args .state) _ (s .pre .1 .1) _ (c .before .before .before .before .before .before .before .entry .ensures) _ (c .before .before .before .before .before .entry2 .ensures) (c .before .before .before .before .if2 .taken)) (c .before .before .number-target .ensures)
+returns-2 c = let s = c .before .before .before .before .before .before .before .before .before .before .before .before .before .before .before .before .before .before in rw (kind-one _ _ _ _ _ _ _ _ _ (s .pre .0) (s .args .state) _ (s .pre .1 .1) _ (c .before .before .before .before .before .before .before .entry .ensures) _ (c .before .before .before .before .before .entry2 .ensures) (c .before .before .before .before .if2 .taken)) (c .before .before .number-target .ensures)
 
 -- src/lib.rt:111:9
 entry-requires-3 : tie.Need-entry-requires-3
-entry-requires-3 c κs = rights-long _ _ _ _ _ _ _ _ (c .before .before .before .before .before .before .before .before .before .before .before .before .before .before .pre .0) _ _ (c .before .before .before .before .before .before .before .before .before .before .before .before .before .before .pre .1 .1)
+entry-requires-3 c κs = rights-long _ _ _ _ _ _ _ _ _ (c .before .before .before .before .before .before .before .before .before .before .before .before .before .before .pre .0) _ _ (c .before .before .before .before .before .before .before .before .before .before .before .before .before .before .pre .1 .1)
 
 -- src/lib.rt:113:9
 settle-two-requires : tie.Need-settle-two-requires
@@ -48,8 +48,8 @@ settle-two-requires c κs =
       s .pre .0 .bytes,
       (
         s .pre .1 .0 .0,
-        left-fits _ _ _ _ _ _ _ _ (s .pre .0) _ _ (s .pre .1 .1) _ (c .before .before .before .before .before .before .entry .ensures) _ (c .before .before .before .before .entry2 .ensures) (omega (arith, c .before .before .before .before .before .if1 .left)),
-        right-fits _ _ _ _ _ _ _ _ (s .pre .0) _ _ (s .pre .1 .1) _ (c .before .before .before .before .before .before .entry .ensures) _ (c .before .before .before .before .entry2 .ensures) _ (c .before .before .entry3 .ensures) (omega (arith, c .before .before .before .before .before .if1 .left)) (c .before .if3 .taken),
+        left-fits _ _ _ _ _ _ _ _ _ (s .pre .0) _ _ (s .pre .1 .1) _ (c .before .before .before .before .before .before .entry .ensures) _ (c .before .before .before .before .entry2 .ensures) (omega (arith, c .before .before .before .before .before .if1 .left)),
+        right-fits _ _ _ _ _ _ _ _ _ (s .pre .0) _ _ (s .pre .1 .1) _ (c .before .before .before .before .before .before .entry .ensures) _ (c .before .before .before .before .entry2 .ensures) _ (c .before .before .entry3 .ensures) (omega (arith, c .before .before .before .before .before .if1 .left)) (c .before .if3 .taken),
       ),
     )
 
@@ -59,7 +59,7 @@ same-length-2 c = search needs
 
 -- src/lib.rt:113:9
 returns-3 : tie.Need-returns-3
-returns-3 c = let s = c .before .before .before .before .before .before .before .before .before .before .before .before .before .before .before .before .before .before .before .before in rw (kind-two _ _ _ _ _ _ _ _ (s .pre .0) (s .args .state) _ (s .pre .1 .1) _ (c .before .before .before .before .before .before .before .before .before .entry .ensures) _ (c .before .before .before .before .before .before .before .entry2 .ensures) _ (c .before .before .before .before .before .entry3 .ensures) (omega (arith, c .before .before .before .before .before .before .before .before .if1 .left)) (c .before .before .before .before .if3 .taken)) (c .before .before .settle-two .ensures)
+returns-3 c = let s = c .before .before .before .before .before .before .before .before .before .before .before .before .before .before .before .before .before .before .before .before in rw (kind-two _ _ _ _ _ _ _ _ _ (s .pre .0) (s .args .state) _ (s .pre .1 .1) _ (c .before .before .before .before .before .before .before .before .before .entry .ensures) _ (c .before .before .before .before .before .before .before .entry2 .ensures) _ (c .before .before .before .before .before .entry3 .ensures) (omega (arith, c .before .before .before .before .before .before .before .before .if1 .left)) (c .before .before .before .before .if3 .taken)) (c .before .before .settle-two .ensures)
 
 -- src/lib.rt:115:5
 settle-modality-requires : tie.Need-settle-modality-requires
@@ -68,15 +68,18 @@ settle-modality-requires c κs =
     let t = s .pre .0 in (
       t .bytes,
       (
-        record { system = t .input .system; actions = t .input .actions; table = t .multisets },
+        record { labels = t .input .labels; system = t .input .system; actions = t .input .actions; table = t .multisets },
         (
           t .firsts,
           (
-            s .pre .1 .0,
+            t .answers,
             (
-              s .pre .1 .1 .0,
-              action-there _ _ _ _ _ _ _ _ t _ _ (s .pre .1 .1) _ (c .before .before .before .before .before .before .entry .ensures) _ (c .before .before .before .before .entry2 .ensures) _ (c .before .before .entry3 .ensures) (omega (arith, c .before .if3 .left)) (omega (arith, c .before .before .before .if2 .left)),
-              left-small _ _ _ _ _ _ _ _ t _ _ (s .pre .1 .1) _ (c .before .before .before .before .before .before .entry .ensures) _ (c .before .before .before .before .entry2 .ensures) (omega (arith, c .before .before .before .before .before .if1 .left)),
+              s .pre .1 .0,
+              (
+                s .pre .1 .1 .0,
+                action-there _ _ _ _ _ _ _ _ _ t _ _ (s .pre .1 .1) _ (c .before .before .before .before .before .before .entry .ensures) _ (c .before .before .before .before .entry2 .ensures) _ (c .before .before .entry3 .ensures) (omega (arith, c .before .if3 .left)) (omega (arith, c .before .before .before .if2 .left)),
+                left-small _ _ _ _ _ _ _ _ _ t _ _ (s .pre .1 .1) _ (c .before .before .before .before .before .before .entry .ensures) _ (c .before .before .before .before .entry2 .ensures) (omega (arith, c .before .before .before .before .before .if1 .left)),
+              ),
             ),
           ),
         ),
@@ -89,7 +92,7 @@ same-length-3 c = search needs
 
 -- src/lib.rt:78:1
 returns-4 : tie.Need-returns-4
-returns-4 c = let s = c .before .before .before .before .before .before .before .before .before .before .before .before .before .before .before .before .before .before .before .before in rw (kind-modal _ _ _ _ _ _ _ _ (s .pre .0) (s .args .state) _ (s .pre .1 .1) _ (c .before .before .before .before .before .before .before .before .before .entry .ensures) _ (c .before .before .before .before .before .before .before .entry2 .ensures) _ (c .before .before .before .before .before .entry3 .ensures) (omega (arith, c .before .before .before .before .if3 .left)) (omega (arith, c .before .before .before .before .before .before .if2 .left))) (c .before .before .settle-modality .ensures)
+returns-4 c = let s = c .before .before .before .before .before .before .before .before .before .before .before .before .before .before .before .before .before .before .before .before in rw (kind-modal _ _ _ _ _ _ _ _ _ (s .pre .0) (s .args .state) _ (s .pre .1 .1) _ (c .before .before .before .before .before .before .before .before .before .entry .ensures) _ (c .before .before .before .before .before .before .before .entry2 .ensures) _ (c .before .before .before .before .before .entry3 .ensures) (omega (arith, c .before .before .before .before .if3 .left)) (omega (arith, c .before .before .before .before .before .before .if2 .left))) (c .before .before .settle-modality .ensures)
 
 pub settle-spec : {M : Type 1} → statement M
 settle-spec =

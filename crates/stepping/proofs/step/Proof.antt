@@ -26,16 +26,16 @@ region-word-requires : tie.Need-region-word-requires
 region-word-requires c κs = search needs
 
 -- src/lib.rt:163:9
-region-word-requires-2 : tie.Need-region-word-requires-2
-region-word-requires-2 c κs =
+state-of-requires : tie.Need-state-of-requires
+state-of-requires c κs =
     let g = c .before .before .before .before .before .before .before .before .before .before .before .before .before .before .pre .1 in
-    record { whole = omega (arith, g .ready .whole); region = omega arith; word = top-below _ _ _ _ _ _ g (c .before .before .before .if1 .left) _ (c .before .region-word .ensures) }
+    (omega (arith, g .ready .whole), top-below _ _ _ _ _ _ g (c .before .before .before .if1 .left) _ (c .before .region-word .ensures))
 
 -- src/lib.rt:164:9
-region-word-requires-3 : tie.Need-region-word-requires-3
-region-word-requires-3 c κs =
+item-of-requires : tie.Need-item-of-requires
+item-of-requires c κs =
     let g = c .before .before .before .before .before .before .before .before .before .before .before .before .before .before .before .before .pre .1 in
-    record { whole = omega (arith, g .ready .whole); region = omega arith; word = top-below _ _ _ _ _ _ g (c .before .before .before .before .before .if1 .left) _ (c .before .before .before .region-word .ensures) }
+    (omega (arith, g .ready .whole), top-below _ _ _ _ _ _ g (c .before .before .before .before .before .if1 .left) _ (c .before .before .before .region-word .ensures))
 
 -- src/lib.rt:165:5
 put-word-requires : tie.Need-put-word-requires
@@ -55,7 +55,7 @@ settle-requires c κs =
           popped-left _ _ _ _ _ _ g (c .before .before .before .before .before .before .before .before .before .before .before .if1 .left) _ (c .before .before .before .before .before .before .before .before .before .region-word .ensures) _ (c .before .before .before .put-word .ensures),
           popped-marks _ _ _ _ _ _ g (c .before .before .before .before .before .before .before .before .before .before .before .if1 .left) _ (c .before .before .before .before .before .before .before .before .before .region-word .ensures) _ (c .before .before .before .put-word .ensures),
         ),
-        pop-inside _ (s .pre .0 .input) _ _ _ _ g (c .before .before .before .before .before .before .before .before .before .before .before .if1 .left) _ (c .before .before .before .before .before .before .before .before .before .region-word .ensures) _ _ (c .before .before .before .before .before .before .before .region-word2 .ensures) (c .before .before .before .before .before .region-word3 .ensures),
+        pop-inside _ (s .pre .0 .input) _ _ _ _ g (c .before .before .before .before .before .before .before .before .before .before .before .if1 .left) _ (c .before .before .before .before .before .before .before .before .before .region-word .ensures) _ _ (c .before .before .before .before .before .before .before .state-of .ensures) (c .before .before .before .before .before .item-of .ensures),
       ),
     )
 
@@ -68,7 +68,7 @@ close-requires : tie.Need-close-requires
 close-requires c κs =
     let s = c .before .before .before .before .before .before .before .before .before .before .before .before .before .before .before .before .before .before .before .before .before .before .before .before .before .before .before .before .before in
     let m = subst (Answer _ _ _ _ _ _) (c .before .before .made .given .1) (c .before .before .before .before .before .before .settle .ensures) in
-    pop-close _ (s .pre .0 .input) _ _ _ _ (s .pre .1) (c .before .before .before .before .before .before .before .before .before .before .before .before .before .before .before .before .before .before .if1 .left) _ (c .before .before .before .before .before .before .before .before .before .before .before .before .before .before .before .before .region-word .ensures) _ _ (c .before .before .before .before .before .before .before .before .before .before .before .before .before .before .region-word2 .ensures) (c .before .before .before .before .before .before .before .before .before .before .before .before .region-word3 .ensures) _ (c .before .before .before .before .before .before .before .before .before .before .put-word .ensures) _ _ m
+    pop-close _ (s .pre .0 .input) _ _ _ _ (s .pre .1) (c .before .before .before .before .before .before .before .before .before .before .before .before .before .before .before .before .before .before .if1 .left) _ (c .before .before .before .before .before .before .before .before .before .before .before .before .before .before .before .before .region-word .ensures) _ _ (c .before .before .before .before .before .before .before .before .before .before .before .before .before .before .state-of .ensures) (c .before .before .before .before .before .before .before .before .before .before .before .before .item-of .ensures) _ (c .before .before .before .before .before .before .before .before .before .before .put-word .ensures) _ _ m
 
 -- src/lib.rt:192:26
 enum-told : tie.Need-enum-told
@@ -83,7 +83,7 @@ returns-2 : tie.Need-returns-2
 returns-2 c =
     let s = c .before .before .before .before .before .before .before .before .before .before .before .before .before .before .before .before .before .before .before .before .before .before .before .before .before .before .before .before .before .before .before .before in
     let m = subst (Answer _ _ _ _ _ _) (c .before .before .before .before .before .made .given .1) (c .before .before .before .before .before .before .before .before .before .settle .ensures) in
-    pop-answer _ (s .pre .0 .input) _ _ _ _ (s .pre .1) (c .before .before .before .before .before .before .before .before .before .before .before .before .before .before .before .before .before .before .before .before .before .if1 .left) _ (c .before .before .before .before .before .before .before .before .before .before .before .before .before .before .before .before .before .before .before .region-word .ensures) _ _ (c .before .before .before .before .before .before .before .before .before .before .before .before .before .before .before .before .before .region-word2 .ensures) (c .before .before .before .before .before .before .before .before .before .before .before .before .before .before .before .region-word3 .ensures) _ (c .before .before .before .before .before .before .before .before .before .before .before .before .before .put-word .ensures) _ _ m (c .before .before .close .last .1 .0) (c .before .before .close .result) (c .before .before .close .ensures)
+    pop-answer _ (s .pre .0 .input) _ _ _ _ (s .pre .1) (c .before .before .before .before .before .before .before .before .before .before .before .before .before .before .before .before .before .before .before .before .before .if1 .left) _ (c .before .before .before .before .before .before .before .before .before .before .before .before .before .before .before .before .before .before .before .region-word .ensures) _ _ (c .before .before .before .before .before .before .before .before .before .before .before .before .before .before .before .before .before .state-of .ensures) (c .before .before .before .before .before .before .before .before .before .before .before .before .before .before .before .item-of .ensures) _ (c .before .before .before .before .before .before .before .before .before .before .before .before .before .put-word .ensures) _ _ m (c .before .before .close .last .1 .0) (c .before .before .close .result) (c .before .before .close .ensures)
 
 -- src/lib.rt:134:1
 same-length-2 : tie.Need-same-length-2
@@ -94,7 +94,7 @@ returns-3 : tie.Need-returns-3
 returns-3 c =
     let s = c .before .before .before .before .before .before .before .before .before .before .before .before .before .before .before .before .before .before .before .before .before .before .before .before .before .before .before in
     let m = subst (Answer _ _ _ _ _ _) (c .enum-told .given .1) (c .before .before .before .before .settle .ensures) in
-    pop-full _ (s .pre .0 .input) _ _ _ _ (s .pre .1) (c .before .before .before .before .before .before .before .before .before .before .before .before .before .before .before .before .if1 .left) _ (c .before .before .before .before .before .before .before .before .before .before .before .before .before .before .region-word .ensures) _ _ (c .before .before .before .before .before .before .before .before .before .before .before .before .region-word2 .ensures) (c .before .before .before .before .before .before .before .before .before .before .region-word3 .ensures) _ (c .before .before .before .before .before .before .before .before .put-word .ensures) m
+    pop-full _ (s .pre .0 .input) _ _ _ _ (s .pre .1) (c .before .before .before .before .before .before .before .before .before .before .before .before .before .before .before .before .if1 .left) _ (c .before .before .before .before .before .before .before .before .before .before .before .before .before .before .region-word .ensures) _ _ (c .before .before .before .before .before .before .before .before .before .before .before .before .state-of .ensures) (c .before .before .before .before .before .before .before .before .before .before .item-of .ensures) _ (c .before .before .before .before .before .before .before .before .put-word .ensures) m
 
 pub step-spec : {M : Type 1} → statement M
 step-spec =
@@ -103,8 +103,8 @@ step-spec =
     returns
     sub-top
     region-word-requires
-    region-word-requires-2
-    region-word-requires-3
+    state-of-requires
+    item-of-requires
     put-word-requires
     settle-requires
     enum-known-made

@@ -1,7 +1,6 @@
 use native.Mathlib.Omega.{arith}
 use mathlib.Core.Path.{sym, _∙_}
-use Rattle.tables.proofs.Faults.{first-fault, first-next}
-use Rattle.faults.proofs.Chains.{first-none}
+use Rattle.tables.proofs.Faults.{first-fault, first-next, first-none}
 use Rattle.system_words.proofs.System.{few-words, other-length, right-length, no-state, many-states, many-transitions, right-sizes}
 use borrow.Author.Needs.{needs}
 use Rattle.system_words.proofs.check_sizes.Statement.{statement}

@@ -2,11 +2,11 @@ use mathlib.Core.Path.{sym, _∙_}
 use mathlib.Core.List.{[], _∷_}
 use denote.Ref.{now}
 use Rattle.rules.specs.Refusal.{refusal21, refusal22}
-use Rattle.faults.proofs.Chains.{first-fault-of, first-next-of}
 use Rattle.system_words.proofs.System.{sizes-passed}
 use borrow.Author.Needs.{needs}
 use Rattle.system_words.proofs.check_system.Statement.{statement}
 use Rattle.system_words.proofs.check_system.Tie as tie
+use Rattle.tables.proofs.Faults.{first-fault-of, first-next-of}
 
 -- src/lib.rt:93:9
 check-sizes-requires : tie.Need-check-sizes-requires

@@ -1,7 +1,6 @@
 use native.Mathlib.Omega.{arith}
 use mathlib.Core.Path.{sym, _∙_}
-use Rattle.tables.proofs.Faults.{first-fault, first-next}
-use Rattle.faults.proofs.Chains.{first-one}
+use Rattle.tables.proofs.Faults.{first-fault, first-next, first-one}
 use Rattle.system_words.proofs.System.{wrong-initial, right-initial, wrong-degrees, right-degrees, names-at, targets-at}
 use borrow.Author.Needs.{needs}
 use Rattle.system_words.proofs.check_transitions.Statement.{statement}

@@ -4,7 +4,7 @@ use native.Mathlib.Omega.{arith}
 use mathlib.Core.Path.{_≡_, sym, _∙_}
 use denote.Ref.{now}
 use Rattle.rules.specs.Lists.{sumWords}
-use Rattle.system_words.proofs.System.{sum-none, sum-more}
+use Rattle.lists.proofs.Sums.{sum-none, sum-more}
 use borrow.Author.Needs.{needs}
 use Rattle.system_words.proofs.sum_words.Statement.{statement}
 use Rattle.system_words.proofs.sum_words.Tie as tie

@@ -27,7 +27,7 @@ loop-holds c = refl
 
 -- src/lib.rt:117:19
 kind-at-requires : tie.Need-kind-at-requires Inv-loop μ-loop
-kind-at-requires c κs = (c .before .before .before .before .pre, omega arith)
+kind-at-requires c κs = search needs
 
 -- src/lib.rt:118:41
 cast-t8 : tie.Need-cast-t8 Inv-loop μ-loop

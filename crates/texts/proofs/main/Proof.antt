@@ -1,0 +1,73 @@
+-- `main` meets its contract: it is safe and ends. Assumes nothing.
+use Prim.Native.Nat.{_-_, _≤_}
+use native.Mathlib.Omega.{arith}
+use borrow.Author.Needs.{needs}
+use Rattle.texts.proofs.main.Statement.{statement}
+use Rattle.texts.proofs.main.Tie as tie
+use Rattle.texts.proofs.main.Reads as reads
+use Rattle.texts.proofs.main.Lts as lts
+use Rattle.texts.proofs.difference.Reads as difference-reads
+use Rattle.texts.proofs.ended.Reads as ended-reads
+use Rattle.texts.proofs.last_line.Reads as last-line-reads
+use Rattle.texts.proofs.next_record.Reads as next-record-reads
+
+abbrev Inv-loop : tie.InvT-loop
+Inv-loop records₀ differences₀ records differences = differences ≤ records
+
+abbrev μ-loop : tie.MeasureT-loop
+μ-loop records₀ differences₀ records differences = 1000000 - records
+
+loop-holds : tie.Need-loop-holds Inv-loop μ-loop
+loop-holds c = omega arith
+
+next-record-requires : tie.Need-next-record-requires Inv-loop μ-loop
+next-record-requires c κs = search needs
+
+ended-requires : tie.Need-ended-requires Inv-loop μ-loop
+ended-requires c κs = search needs
+
+last-line-requires : tie.Need-last-line-requires Inv-loop μ-loop
+last-line-requires c κs = search needs
+
+returns : tie.Need-returns Inv-loop μ-loop
+returns c = tt
+
+difference-requires : tie.Need-difference-requires Inv-loop μ-loop
+difference-requires c κs = search needs
+
+add-differences : tie.Need-add-differences Inv-loop μ-loop
+add-differences c = omega arith
+
+add-records : tie.Need-add-records Inv-loop μ-loop
+add-records c = omega arith
+
+loop-less : tie.Need-loop-less Inv-loop μ-loop
+loop-less c = omega arith
+
+loop-again : tie.Need-loop-again Inv-loop μ-loop
+loop-again c = omega arith
+
+last-line-requires-2 : tie.Need-last-line-requires-2 Inv-loop μ-loop
+last-line-requires-2 c κs = search needs
+
+returns-2 : tie.Need-returns-2 Inv-loop μ-loop
+returns-2 c = tt
+
+pub main-spec : {M : Type 1} → statement M
+main-spec =
+    tie.close
+    (tie.spec
+    Inv-loop
+    μ-loop
+    loop-holds
+    next-record-requires
+    ended-requires
+    last-line-requires
+    returns
+    difference-requires
+    add-differences
+    add-records
+    loop-less
+    loop-again
+    last-line-requires-2
+    returns-2)

@@ -1,0 +1,146 @@
+// Runs the thin program's function on stored inputs and compares what it writes with stored texts. Standard input holds records: two little-endian words, the lengths of
+// an input and of its text in bytes, then the input, then the text. Prints a line for each record that differs and, last, how many records and differences there were.
+// docs/STORED-RUNS.md says how they were made.
+use libc::STDIN_FILENO;
+use libc::STDOUT_FILENO;
+ghost use Prim.Native.Nat.{_≤_};
+ghost use lib.ListN.{length};
+ghost use mathlib.Core.Path.{_≡_};
+
+// What a record shows; Nothing where none is left.
+enum Seen {
+    Same,
+    Different,
+    Nothing,
+}
+
+fn ended(s: Seen) -> bool {
+    match s {
+        Seen::Same => false,
+        Seen::Different => false,
+        Seen::Nothing => true,
+    }
+}
+
+fn difference(s: Seen) -> u64
+    ensures { λ r. ⌜ r ≤ 1 ⌝ }
+{
+    match s {
+        Seen::Same => 0,
+        Seen::Different => 1,
+        Seen::Nothing => 0,
+    }
+}
+
+fn long(n: usize) -> u64 {
+    n as u64
+}
+
+fn print(n: u64, label: &[u8]) {
+    io::print_decimal(STDOUT_FILENO, n);
+    io::write_all(STDOUT_FILENO, label);
+}
+
+fn broken(number: u64) -> Seen {
+    io::write_all(STDOUT_FILENO, b"record ");
+    print(number, b" is broken\n");
+    Seen::Different
+}
+
+fn differs(number: u64, wrote: usize, stored: usize) -> Seen {
+    io::write_all(STDOUT_FILENO, b"record ");
+    print(number, b" differs: ");
+    print(long(wrote), b" bytes written, ");
+    print(long(stored), b" bytes stored\n");
+    Seen::Different
+}
+
+fn last_line(records: u64, differences: u64) {
+    print(records, b" records, ");
+    print(differences, b" differences\n");
+}
+
+// Bytes that stand in no text.
+fn hashes() -> [u8; 32768]
+    ensures { λ r. ⌜ 32768 ≡ length r ⌝ }
+{
+    [35; 32768]
+}
+
+// Are the bytes written those stored? Past the text both slices still hold what they held before, so that comparing them whole also says that nothing was written there.
+fn judge(number: u64, input: &[u8], want: &[u8], stored: usize) -> Seen {
+    let mut text = hashes();
+    let wrote = gate_text::gate(input, &mut text);
+    if wrote != stored {
+        return differs(number, wrote, stored);
+    }
+    if check::same(&text, want) {
+        return Seen::Same;
+    }
+    differs(number, wrote, stored)
+}
+
+// Reads an input and its text of m bytes, and compares.
+fn read_and_judge(number: u64, input: &mut [u8], want: &mut [u8], m: usize) -> Seen
+    requires { ⌜ m ≤ length (now want) ⌝ }
+{
+    if io::read_full(STDIN_FILENO, input) < input.len() {
+        return broken(number);
+    }
+    if io::read_full(STDIN_FILENO, &mut want[..m]) < m {
+        return broken(number);
+    }
+    judge(number, input, want, m)
+}
+
+fn zeros() -> [u8; 16384]
+    ensures { λ r. ⌜ 16384 ≡ length r ⌝ }
+{
+    [0; 16384]
+}
+
+// A record whose input has n bytes and whose text has m.
+fn compare(number: u64, n: usize, m: usize) -> Seen
+    requires { ⌜ (n ≤ 16384) × (m ≤ 32768) ⌝ }
+{
+    let mut input = zeros();
+    let mut want = hashes();
+    read_and_judge(number, &mut input[..n], &mut want, m)
+}
+
+// Reads a record and compares. A length that is too large counts as one too many.
+fn next_record(number: u64) -> Seen {
+    let mut head = [0u8; 8];
+    let got = io::read_full(STDIN_FILENO, &mut head);
+    if got == 0 {
+        return Seen::Nothing;
+    }
+    let n = stored_runs::length_of(words::word_at(&head, 0), 16385);
+    let m = stored_runs::length_of(words::word_at(&head, 4), 32769);
+    if got < 8 {
+        return broken(number);
+    }
+    if n > 16384 {
+        return broken(number);
+    }
+    if m > 32768 {
+        return broken(number);
+    }
+    compare(number, n, m)
+}
+
+// At most a million records, so that the program ends whatever it reads.
+fn main() {
+    let mut records = 0u64;
+    let mut differences = 0u64;
+    while records < 1000000 {
+        let seen = next_record(records);
+        if ended(seen) {
+            last_line(records, differences);
+            return;
+        }
+        differences += difference(seen);
+        records += 1;
+    }
+    last_line(records, differences);
+}
