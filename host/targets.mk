@@ -24,6 +24,6 @@ compare: host oracle
 bench: host oracle
 	$(HOST)/bench --oracle target/oracle/release/bench
 
-# Writes the stored runs of the program replay anew; needs the oracle.
+# Writes the stored runs of the programs replay and texts anew; needs the oracle.
 stored: host oracle
-	$(HOST)/store target/oracle/release/oracle crates/replay
+	$(HOST)/store target/oracle/release/oracle crates

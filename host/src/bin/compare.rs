@@ -6,6 +6,7 @@ use hingrezh::check::damage::damage;
 use hingrezh::check::finished::{Expected, expected};
 use hingrezh::check::generate::{Random, Sizes, all_formulas, random_game, random_model, table};
 use hingrezh::check::oracle::{Oracle, Reply, Request};
+use hingrezh::check::places;
 use hingrezh::check::shapes::{SHAPES, WORST};
 use hingrezh::{Answer, Model};
 use std::collections::BTreeMap;
@@ -314,7 +315,7 @@ fn damaged_restrictions(random: &mut Random, count: usize) -> Vec<Call> {
 type Stage = (&'static str, fn(&mut Comparison, usize));
 
 /// The number says how many times the usual count of random inputs is wanted.
-const STAGES: [Stage; 11] = [
+const STAGES: [Stage; 12] = [
     ("worked cases and readings", |c, _| c.cases(cases::all())),
     ("all formulas up to 5 nodes", |c, _| c.accepted(exhaustive(), 4)),
     ("all action tables up to 3 nodes", |c, _| c.any(all_tables(false))),
@@ -346,6 +347,7 @@ const STAGES: [Stage; 11] = [
         let calls = damaged_restrictions(&mut c.random, 20_000 * times);
         c.any(calls);
     }),
+    ("refusals at every kind of place", |c, _| c.cases(places::all())),
     ("sizes at their limits", |c, _| c.cases(cases::at_limits())),
     ("large shapes", |c, _| {
         for shape in &SHAPES {

@@ -1,21 +1,26 @@
-//! Writes stored runs, `stdin` and `stdout` of the program `replay`, into a folder: calls as records and the lines
-//! that they must print (the formats are in check/record.rs). The answers of accepted words are the oracle's, cut and
-//! given their room by check/finished.rs; those of refused words follow the rules' refusals as the plain
-//! implementation states them. The library is not asked. `store --check FOLDER` performs the records of a folder and
-//! compares the lines.
-use hingrezh::check::call::{Call, LIBRARY, Outcome, PLAIN, perform, unlawful};
+//! Writes stored runs into the folder of the crates: `stdin` and `stdout` of the programs `replay` and `texts`, `stdout`
+//! of `restricts`. These are calls as records and the lines that they must print (the formats are in
+//! check/record.rs), and inputs of the thin program and their texts (check/texts.rs). The answers of accepted words are
+//! the oracle's, cut and given their room by check/finished.rs; those of refused words follow the rules' refusals as
+//! the plain implementation states them. The library is not asked. `store --check CRATES` performs what is stored and
+//! compares, `store --table CRATES` prints which refusals are stored at which kinds of place.
+use hingrezh::check::call::{Call, LIBRARY, Outcome, PLAIN, perform, show, unlawful};
 use hingrezh::check::cases;
 use hingrezh::check::damage::damage;
 use hingrezh::check::finished::expected;
 use hingrezh::check::generate::{Random, Sizes, all_formulas, random_game, random_model, table};
+use hingrezh::check::kinds::{self, KINDS, NOT_IN_RECORDS};
 use hingrezh::check::oracle::{Oracle, Reply, Request};
+use hingrezh::check::places;
 use hingrezh::check::record::{self, RECORD, line, record};
+use hingrezh::check::texts;
 use hingrezh::{Model, words_of};
 use std::collections::{BTreeMap, HashSet};
 use std::process::ExitCode;
 
 /// What lent slices hold before a call: a short word that is not 0, so that lines stay short and clearing shows.
 const FILL: u32 = 9;
+const FILL_OF_RESTRICTS: u32 = 7;
 
 /// Every third formula of up to three nodes on two systems.
 fn small_models() -> Vec<Model> {
@@ -66,7 +71,19 @@ fn calls(random: &mut Random, count: usize) -> Vec<Call> {
             calls.push(damaged);
         }
     }
+    calls.extend(places::all().into_iter().map(|case| case.call));
     calls
+}
+
+/// The answers written down for refusals at every kind of place must be those of the rules.
+fn as_written_down() -> Result<(), String> {
+    for case in places::all() {
+        let answer = perform(&case.call, PLAIN, FILL).answer;
+        if answer != case.answer {
+            return Err(format!("{answer:?} instead of {:?}\n{}", case.answer, case.call.describe()));
+        }
+    }
+    Ok(())
 }
 
 /// Small records only, each once.
@@ -77,8 +94,8 @@ fn records(calls: Vec<Call>) -> Vec<(Call, Vec<u8>)> {
 }
 
 /// What a call must leave behind; `reply` is the oracle's word on its model or game.
-fn outcome(call: &Call, reply: &Reply) -> Result<Outcome, String> {
-    let plain = perform(call, PLAIN, FILL);
+fn outcome(call: &Call, reply: &Reply, fill: u32) -> Result<Outcome, String> {
+    let plain = perform(call, PLAIN, fill);
     let refused = plain.answer[0] == 2 && plain.answer[1] != 60;
     match (reply, call) {
         // The order and places of refusals are the rules' own; the oracle only says whether the words are valid.
@@ -110,69 +127,199 @@ fn request(call: &Call) -> Request<'_> {
     }
 }
 
-fn store(folder: &str, oracle: &Oracle, count: usize) -> Result<(), String> {
-    let records = records(calls(&mut Random::new(11), count));
-    let requests: Vec<Request> = records.iter().map(|(call, _)| request(call)).collect();
+fn write(path: String, bytes: &[u8]) -> Result<(), String> {
+    std::fs::write(&path, bytes).map_err(|error| format!("{path}: {error}"))
+}
+
+/// What calls must leave behind, from the oracle and the plain implementation, which must agree.
+fn outcomes(calls: &[&Call], fill: u32, oracle: &Oracle) -> Result<Vec<Outcome>, String> {
+    let requests: Vec<Request> = calls.iter().map(|call| request(call)).collect();
     let replies = oracle.ask(&requests).map_err(|error| error.to_string())?;
-    let (mut input, mut output, mut numbers) = (Vec::new(), String::new(), BTreeMap::new());
-    for ((call, bytes), reply) in records.iter().zip(replies) {
-        let outcome = outcome(call, &reply).map_err(|what| format!("{what}\n{}", call.describe()))?;
-        if unlawful(&outcome, FILL).is_some() || outcome != perform(call, PLAIN, FILL) {
+    let checked = |(call, reply): (&&Call, Reply)| {
+        let outcome = outcome(call, &reply, fill).map_err(|what| format!("{what}\n{}", call.describe()))?;
+        if unlawful(&outcome, fill).is_some() || outcome != perform(call, PLAIN, fill) {
             return Err(format!("the plain implementation answers otherwise\n{}", call.describe()));
         }
-        *numbers.entry((outcome.answer[0], if outcome.answer[0] == 2 { outcome.answer[1] } else { 0 })).or_insert(0) +=
-            1;
+        Ok(outcome)
+    };
+    calls.iter().zip(replies).map(checked).collect()
+}
+
+fn store_calls(folder: &str, oracle: &Oracle, count: usize) -> Result<(), String> {
+    as_written_down()?;
+    let records = records(calls(&mut Random::new(11), count));
+    let calls: Vec<&Call> = records.iter().map(|(call, _)| call).collect();
+    let (mut input, mut output, mut answers) = (Vec::new(), String::new(), BTreeMap::new());
+    let mut kinds = HashSet::new();
+    for ((call, bytes), outcome) in records.iter().zip(outcomes(&calls, FILL, oracle)?) {
+        let [case, number, place, _] = outcome.answer;
+        *answers.entry((case, if case == 2 { number } else { 0 })).or_insert(0) += 1;
+        if case == 2 {
+            kinds.insert((number, kinds::kind(call, number, place)));
+        }
         input.extend(bytes);
         output += &line(&outcome);
     }
-    let write = |name: &str, bytes: &[u8]| std::fs::write(format!("{folder}/{name}"), bytes).map_err(|e| e.to_string());
-    write("stdin", &input)?;
-    write("stdout", output.as_bytes())?;
-    println!(
-        "{} records, {} and {} bytes; (case, refusal): count {numbers:?}",
-        records.len(),
-        input.len(),
-        output.len()
-    );
+    for (number, kind) in all_kinds() {
+        if !kinds.contains(&(number, kind.to_string())) && !NOT_IN_RECORDS.contains(&(number, kind)) {
+            return Err(format!("refusal {number} is not stored at: {kind}"));
+        }
+    }
+    write(format!("{folder}/stdin"), &input)?;
+    write(format!("{folder}/stdout"), output.as_bytes())?;
+    let (all, sizes) = (records.len(), (input.len(), output.len()));
+    println!("{all} records, {sizes:?} bytes; (case, refusal): count {answers:?}");
     Ok(())
 }
 
-/// Performs the stored records with the library and the plain implementation.
-fn check(folder: &str) -> Result<(), String> {
-    let read = |name: &str| std::fs::read(format!("{folder}/{name}")).map_err(|error| format!("{name}: {error}"));
-    let (input, output) = (read("stdin")?, read("stdout")?);
-    let words = words_of(&input).map_err(|fault| fault.to_string())?;
-    let (records, rest) = words.as_chunks::<RECORD>();
-    for by in [LIBRARY, PLAIN] {
-        let mut lines = String::new();
-        for (i, words) in records.iter().enumerate() {
-            let (call, fill) = record::call(words).ok_or(format!("record {i} is broken"))?;
-            lines += &line(&perform(&call, by, fill));
+fn all_kinds() -> impl Iterator<Item = (u32, &'static str)> {
+    KINDS.iter().flat_map(|(number, kinds)| kinds.iter().map(|kind| (*number, *kind)))
+}
+
+fn store_texts(folder: &str, oracle: &Oracle) -> Result<(), String> {
+    let mut seen = HashSet::new();
+    let inputs: Vec<Vec<u8>> = texts::inputs().into_iter().filter(|input| seen.insert(input.clone())).collect();
+    let runs: Vec<Option<Call>> = inputs.iter().map(|input| texts::model_of(input).map(texts::run_of)).collect();
+    let calls: Vec<&Call> = runs.iter().flatten().collect();
+    let mut outcomes = outcomes(&calls, FILL, oracle)?.into_iter();
+    let mut bytes = Vec::new();
+    for (input, run) in inputs.iter().zip(&runs) {
+        if texts::refused_bytes(input).is_some() != run.is_none() {
+            return Err(format!("two readings of {} bytes differ", input.len()));
         }
+        let outcome = run.as_ref().and_then(|_| outcomes.next());
+        bytes.extend(texts::record(input, &texts::text_of(outcome.as_ref())));
+    }
+    write(format!("{folder}/stdin"), &bytes)?;
+    write(format!("{folder}/stdout"), format!("{} records, 0 differences\n", inputs.len()).as_bytes())?;
+    println!("{} texts, {} bytes", inputs.len(), bytes.len());
+    Ok(())
+}
+
+/// The lines of `restricts`, whose games stay as they are.
+fn store_restrictions(folder: &str, oracle: &Oracle) -> Result<(), String> {
+    let calls = stored_restrictions(folder)?;
+    let outcomes = outcomes(&calls.iter().collect::<Vec<&Call>>(), FILL_OF_RESTRICTS, oracle)?;
+    write(format!("{folder}/stdout"), outcomes.iter().map(line).collect::<String>().as_bytes())
+}
+
+fn read(path: String) -> Result<Vec<u8>, String> {
+    std::fs::read(&path).map_err(|error| format!("{path}: {error}"))
+}
+
+/// The calls of the stored records, each with its fill.
+fn stored_calls(folder: &str) -> Result<Vec<(Call, u32)>, String> {
+    let words = words_of(&read(format!("{folder}/stdin"))?).map_err(|fault| fault.to_string())?;
+    let (records, rest) = words.as_chunks::<RECORD>();
+    let call = |(i, words)| record::call(words).ok_or(format!("record {i} is broken"));
+    if rest.is_empty() { records.iter().enumerate().map(call).collect() } else { Err("half a record".to_string()) }
+}
+
+fn stored_texts(folder: &str) -> Result<Vec<(Vec<u8>, Vec<u8>)>, String> {
+    texts::records(&read(format!("{folder}/stdin"))?).ok_or("half a text".to_string())
+}
+
+/// Performs what is stored with the library and the plain implementation.
+fn check(crates: &str) -> Result<(), String> {
+    let calls = stored_calls(&format!("{crates}/replay"))?;
+    let output = read(format!("{crates}/replay/stdout"))?;
+    let texts = stored_texts(&format!("{crates}/texts"))?;
+    let restrictions = stored_restrictions(&format!("{crates}/restricts"))?;
+    let restricted = read(format!("{crates}/restricts/stdout"))?;
+    for by in [LIBRARY, PLAIN] {
+        let lines: String = calls.iter().map(|(call, fill)| line(&perform(call, by, *fill))).collect();
         let at = lines.bytes().zip(&output).position(|(made, &stored)| made != stored);
-        if at.is_some() || lines.len() != output.len() || !rest.is_empty() {
+        if at.is_some() || lines.len() != output.len() {
             let at = at.unwrap_or(lines.len().min(output.len()));
             return Err(format!("{}: line {} differs", by.name, lines[..at].matches('\n').count() + 1));
         }
+        let text = |input: &[u8]| {
+            let run = texts::model_of(input).map(|model| perform(&texts::run_of(model), by, FILL));
+            texts::text_of(run.as_ref())
+        };
+        if let Some(i) = texts.iter().position(|(input, stored)| text(input) != *stored) {
+            return Err(format!("{}: text {i} differs", by.name));
+        }
+        let lines: String = restrictions.iter().map(|call| line(&perform(call, by, FILL_OF_RESTRICTS))).collect();
+        if lines.as_bytes() != restricted {
+            return Err(format!("{}: a restriction differs", by.name));
+        }
     }
-    println!("{} records, no difference", records.len());
+    let counts = [calls.len(), texts.len(), restrictions.len()];
+    println!("{counts:?} records, texts and restrictions, no difference");
     Ok(())
 }
 
-fn make(program: &str, folder: &str, count: Option<&String>) -> Result<(), String> {
+/// The calls of the program `restricts`: four lengths, then the game.
+fn stored_restrictions(folder: &str) -> Result<Vec<Call>, String> {
+    let words = words_of(&read(format!("{folder}/stdin"))?).map_err(|fault| fault.to_string())?;
+    let (mut rest, mut calls) = (&words[..], Vec::new());
+    while let Some((lengths, words)) = rest.split_first_chunk::<4>() {
+        let [length, out, map, work] = lengths.map(|length| length as usize);
+        let (game, after) = words.split_at_checked(length).ok_or("half a game")?;
+        calls.push(Call::Restrict { game: game.to_vec(), out, map, work });
+        rest = after;
+    }
+    Ok(calls)
+}
+
+/// What is stored of a kind of place: the smallest input, and how many in `replay`, `restricts` and `texts`. Inputs that
+/// differ from the base elsewhere, too, come after those that don't.
+#[derive(Default)]
+struct Row {
+    smallest: Option<(bool, usize, Vec<u32>)>,
+    counts: [usize; 3],
+}
+
+/// The table of kinds of place in docs/STORED-RUNS.md.
+fn print_table(crates: &str) -> Result<(), String> {
+    let calls = stored_calls(&format!("{crates}/replay"))?.into_iter().map(|(call, _)| (0, call));
+    let restrictions = stored_restrictions(&format!("{crates}/restricts"))?.into_iter().map(|call| (1, call));
+    let texts = stored_texts(&format!("{crates}/texts"))?;
+    let runs = texts.iter().filter_map(|(input, _)| texts::model_of(input)).map(|model| (2, texts::run_of(model)));
+    let mut rows: BTreeMap<(u32, String), Row> = BTreeMap::new();
+    for (program, call) in calls.chain(restrictions).chain(runs) {
+        let [2, number, place, _] = perform(&call, PLAIN, FILL).answer else { continue };
+        let row = rows.entry((number, kinds::kind(&call, number, place))).or_default();
+        row.counts[program] += 1;
+        let words = kinds::about(&call, number);
+        let size = (!kinds::rest_is_base(&call, number), words.len(), words);
+        if program < 2 && row.smallest.as_ref().is_none_or(|old| size < *old) {
+            row.smallest = Some(size);
+        }
+    }
+    for (number, kind) in all_kinds() {
+        let Row { smallest, counts: [replay, restricts, texts] } =
+            rows.remove(&(number, kind.to_string())).unwrap_or_default();
+        let words = smallest.map_or("-".to_string(), |(_, _, words)| format!("`{}`", show(&words)));
+        println!("| {number} | {kind} | {words} | {replay} | {restricts} | {texts} |");
+    }
+    rows.keys().for_each(|row| println!("of no listed kind: {row:?}"));
+    for way in texts::REFUSED {
+        let inputs = texts.iter().map(|(input, _)| input).filter(|input| texts::refused_bytes(input) == Some(way));
+        let (count, bytes) = (inputs.clone().count(), inputs.map(Vec::len).min().unwrap_or(0));
+        println!("| 2 | the thin program: {way} | {bytes} bytes | 0 | 0 | {count} |");
+    }
+    Ok(())
+}
+
+fn make(program: &str, crates: &str, count: Option<&String>) -> Result<(), String> {
     let oracle = Oracle::at(program.into()).ok_or(format!(
         "no oracle at {program}: the stored answers come from it (it is built from ../shared/oracle)"
     ))?;
     let count = count.map_or(Ok(200), |text| text.parse().map_err(|_| format!("{text} is no number")))?;
-    store(folder, &oracle, count)
+    store_calls(&format!("{crates}/replay"), &oracle, count)?;
+    store_restrictions(&format!("{crates}/restricts"), &oracle)?;
+    store_texts(&format!("{crates}/texts"), &oracle)
 }
 
 fn main() -> ExitCode {
     let arguments: Vec<String> = std::env::args().skip(1).collect();
     let done = match &arguments[..] {
-        [option, folder] if option == "--check" => check(folder),
-        [program, folder, rest @ ..] => make(program, folder, rest.first()),
-        _ => Err("usage: store ORACLE FOLDER [COUNT], or store --check FOLDER".to_string()),
+        [option, crates] if option == "--check" => check(crates),
+        [option, crates] if option == "--table" => print_table(crates),
+        [program, crates, rest @ ..] => make(program, crates, rest.first()),
+        _ => Err("usage: store ORACLE CRATES [COUNT], store --check CRATES or store --table CRATES".to_string()),
     };
     match done {
         Ok(()) => ExitCode::SUCCESS,

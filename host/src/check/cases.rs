@@ -13,7 +13,7 @@ pub struct Case {
 }
 
 /// Words from a line of numbers.
-fn words(text: &str) -> Vec<u32> {
+pub fn words(text: &str) -> Vec<u32> {
     text.split_whitespace().map(|word| word.parse().expect("a number")).collect()
 }
 

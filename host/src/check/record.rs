@@ -17,10 +17,10 @@
 //! 4 + 3 * 16 + 32 + 1 = 85 (game or output), 65 (map) or 8 * 16 + 2 * 32 + 1 = 193 words (work): the lengths that
 //! V and E ask for, and one more.
 //!
-//! A line has the four words of the answer, `|`, the words of the game slice (or the output), `|`, the words of the
-//! map (none for a build), `|`, and how many words of the work slice are not 0; all in decimal and parted by one space.
+//! A line has the answer as the thin program prints it, `|`, the words of the game slice (or the output), `|`, the words
+//! of the map (none for a build), `|`, and how many words of the work slice are not 0; parted by one space.
 use super::call::{Call, Outcome};
-use crate::{Model, bytes_of};
+use crate::{Answer, Model, bytes_of};
 
 pub const RECORD: usize = 76;
 const HEAD: usize = 12;
@@ -82,9 +82,8 @@ pub fn call(words: &[u32; RECORD]) -> Option<(Call, u32)> {
 
 /// The line of a call's outcome.
 pub fn line(outcome: &Outcome) -> String {
-    let groups = [&outcome.answer[..], &outcome.game, &outcome.map];
-    let mut text = String::new();
-    for group in groups {
+    let mut text = format!("{} | ", Answer::of_words(outcome.answer));
+    for group in [&outcome.game, &outcome.map] {
         group.iter().for_each(|word| text += &format!("{word} "));
         text += "| ";
     }
