@@ -11,6 +11,7 @@ use Rattle.rules.specs.Table.{size, kind, operand}
 use Rattle.rules.specs.Actions.{Action, actionTree}
 use Rattle.rules.specs.Formula.{Formula, formulaTree, equationNumber}
 use Rattle.rules.specs.Good.{GoodInput}
+use Rattle.trees.proofs.Fixpoints.{fixpoint-kind}
 use Rattle.trees.proofs.FormulaTrees.{truth-tree, falsity-tree, conjunction-tree, disjunction-tree, box-tree, diamond-tree, fixpoint-tree, reference-tree}
 use Rattle.alike_nodes.specs.Nodes.{Last, Numbered, Later, EquationNumbers, FormulaShown, numberOf}
 use Rattle.alike_nodes.proofs.Showing.{formula-words, formula-shown-one, formula-shown-map}
@@ -45,7 +46,7 @@ module _ (x : Input) (good : GoodInput x) (numbers : List ℕ) (v : ℕ) (h : v 
   module _ (equations : List ℕ) (listed : EquationNumbers (x .formula) equations) where
     pub shape-fixpoint : (k : ℕ) → k ≡ kind (x .formula) v → 6 ≤ k → k ≤ 7 → Shows 8 (word equations v) 0
     shape-fixpoint k e p q =
-        to _ 8 (word equations v) 0 (fixpoint-tree (size (x .actions)) x (good .formula) v h (omega arith) (omega arith)) (refl, listed .number v h, refl)
+        to _ 8 (word equations v) 0 (fixpoint-tree (size (x .actions)) x (good .formula) v h (omega arith) (omega arith)) (refl, listed .number v h (omega arith) (omega arith), refl)
 
     pub referred-before : (k o : ℕ) → k ≡ kind (x .formula) v → 7 < k → o ≡ operand (x .formula) v → o < size (x .formula)
     referred-before k o e p i = omega (arith, i, good .formula .nodes v h .refers (omega arith) .0)
@@ -53,8 +54,10 @@ module _ (x : Input) (good : GoodInput x) (numbers : List ℕ) (v : ℕ) (h : v 
     pub shape-reference : (k o : ℕ) → k ≡ kind (x .formula) v → 7 < k → o ≡ operand (x .formula) v → Shows 8 (word equations o) 0
     shape-reference k o e p i =
         let z : kind (x .formula) v ≡ 8 = omega (arith, good .formula .nodes v h .known) in
+        let (a, t) = good .formula .nodes v h .refers (omega arith) in
+        let (c, d) = fixpoint-kind (x .formula) (operand (x .formula) v) t in
         to _ 8 (word equations o) 0 (reference-tree (size (x .actions)) x (good .formula) v h z)
-        (refl, listed .number o (referred-before k o e p i) ∙ ap (equationNumber (x .formula)) i, refl)
+        (refl, listed .number o (omega (arith, a, i)) (rw i c) (rw i d) ∙ ap (equationNumber (x .formula)) i, refl)
 
   -- ---- operands
 

@@ -7,7 +7,7 @@ use Prim.Native.Nat.{ℕ, _+_, _-_, _≤_, _<_}
 use lib.ListN.{length}
 use lib.Dec.{eqb, ltb}
 use Rattle.rules.specs.Lists.{word, seek}
-use Rattle.rules.specs.Table.{size}
+use Rattle.rules.specs.Table.{size, kind}
 use Rattle.rules.specs.Actions.{Action, anyAction, neverAction, multiAction, union, intersection, negation}
 use Rattle.rules.specs.Formula.{Formula, truth, falsity, conjunction, disjunction, box, diamond, reference, equationNumber}
 
@@ -32,10 +32,10 @@ pub record Later {A : Type 0} (tree : ℕ → A) (n v : ℕ) (numbers : List ℕ
   pub carries : tree node ≡ t
   pub number : word numbers node ≡ l
 
--- each node's word is the number of the equations before it, which for a fixpoint is the number of its equation
+-- each fixpoint's word is the number of its equation
 pub record EquationNumbers (f numbers : List ℕ) : Type 0 where
   pub room : size f ≤ length numbers
-  pub number : (v : ℕ) → v < size f → word numbers v ≡ equationNumber f v
+  pub number : (v : ℕ) → v < size f → 6 ≤ kind f v → kind f v ≤ 7 → word numbers v ≡ equationNumber f v
 
 -- ---- the words that show a tree, given which numbers its operands may have
 

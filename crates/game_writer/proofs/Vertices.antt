@@ -95,7 +95,7 @@ module _ (w : List ℕ) (v u : ℕ) where
   wrote-some first count {start} {r} {out} {out′} e f h c = subst (λ (l : List ℕ). Wrote start l out out′ r) (edges-read first count e f h) c
 
   pub wrote-none : (start : ℕ) (out : List ℕ) → countIn w v u ≡ 0 → Wrote start (shownEdges w v u) out out start
-  wrote-none start out e = rw (edges-none e) (record { past = omega arith; words = sym (append-nil (take start out)) })
+  wrote-none start out e = rw (edges-none e) (record { past = omega arith; words = sym (append-nil (take start out)); rest = refl })
 
   -- there are as many as is counted
   pub edges-length : (0 < countIn w v u → 8 * v + (startIn w v u + countIn w v u) ≤ length w) → length (shownEdges w v u) ≡ countIn w v u

@@ -10,22 +10,24 @@ use borrow.Author.Tests.{lt-ltb, le-ltb}
 use Rattle.rules.specs.Lists.{word}
 use Rattle.rules.specs.Game.{vertexCount, ownerIn, priorityIn, offsetIn, targetsAt, targetsIn}
 use Rattle.words.specs.Stretches.{Wrote}
+use Rattle.words.proofs.Regions.{same-later}
 use Rattle.words.proofs.Stretches.{Writing, start, turn, called, done}
 use Rattle.rules.specs.Program.{digitsTo, decimal, spaced, line, vertexLine, vertexLines}
 
 -- ---- what two calls wrote
 
 pub wrote-none : {at : ℕ} {stretch text : List ℕ} → stretch ≡ [] → Wrote at stretch text text at
-wrote-none {at} {stretch} {text} e = record { past = omega (arith, ap length e); words = sym (append-nil (take at text)) ∙ ap (λ (l : List ℕ). take at text ++ l) (sym e) }
+wrote-none {at} {stretch} {text} e = record { past = omega (arith, ap length e); words = sym (append-nil (take at text)) ∙ ap (λ (l : List ℕ). take at text ++ l) (sym e); rest = refl }
 
 pub wrote-as : {at r : ℕ} {s stretch text text′ : List ℕ} → s ≡ stretch → Wrote at s text text′ r → Wrote at stretch text text′ r
 wrote-as {at} {r} {text = text} {text′ = text′} e w = subst (λ (l : List ℕ). Wrote at l text text′ r) e w
 
 pub wrote-both : {at p r : ℕ} {s s′ text text′ text″ : List ℕ} → Wrote at s text text′ p → Wrote p s′ text′ text″ r → Wrote at (s ++ s′) text text″ r
-wrote-both {at} {s = s} {s′ = s′} {text = text} w v =
+wrote-both {at} {p} {r} {s} {s′} {text} {text′} w v =
     record {
       past = omega (arith, w .past, v .past, length-append s s′);
       words = v .words ∙ ap (λ (l : List ℕ). l ++ s′) (w .words) ∙ append-assoc (take at text) s s′;
+      rest = v .rest ∙ same-later p r text text′ (w .rest) (omega (arith, v .past));
     }
 
 -- the next stretch fits

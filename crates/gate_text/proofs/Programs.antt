@@ -1,14 +1,14 @@
 -- The program's parts make the program: the words that are read are run, and what is printed of that run is what the rules print. Assumes nothing.
 use mathlib.Core.Path.{_≡_, refl, sym, ap, _∙_, subst}
 use mathlib.Core.Bool.{Bool, true, false, cond, _||_}
-use mathlib.Core.List.{List, [], _∷_}
+use mathlib.Core.List.{List, [], _∷_, _++_}
 use mathlib.Core.Option.{Option, none, some}
-use Prim.Native.Nat.{ℕ, _+_, _-_, _≤_}
+use Prim.Native.Nat.{ℕ, _+_, _-_, _≤_, _<_}
 use native.Mathlib.Omega.{arith}
-use lib.ListN.{length, take, drop, length-take, length-drop}
-use lib.Seq.{drop-drop, take-all}
+use lib.ListN.{length, take, drop, take-append-drop, length-append, length-drop}
+use lib.Seq.{drop-drop, take-all, take-append-seam}
 use lib.Dec.{eqb, ltb}
-use borrow.Author.Tests.{ltb-false, eqb-true, not-false}
+use borrow.Author.Tests.{ltb-false, lt-ltb, le-ltb, eqb-true, not-false}
 use Rattle.rules.specs.declared.Answer.{Answer}
 use Rattle.rules.specs.Lists.{word, sum}
 use Rattle.rules.specs.Answers.{said}
@@ -21,6 +21,7 @@ use Rattle.gate_text.specs.declared.Decoded.{Decoded}
 use Rattle.gate_text.specs.declared.Decoded.the-variants.{Read, Unreadable}
 use Rattle.gate_text.specs.Reading.{agreeing, accepted, decoded, wordCount}
 use Rattle.gate_text.specs.Shown.{Shown}
+use Rattle.gate_text.specs.Written.{written, fronted}
 use Rattle.gate_text.proofs.Decoding.{sum-four}
 use Rattle.gate_text.proofs.NeverCut.{gate-shown}
 use Rattle.lists.proofs.Tests.{or-false}
@@ -127,6 +128,34 @@ module _ (x : Input) (a : Answer) (game work : List ℕ) (same : _≡_ {A = Outc
   pub game-shown : (¬ (word (said a) 0 ≡ 2)) → Shown game
   game-shown = subst (λ (o : Outcome). (¬ (word (o .answer) 0 ≡ 2)) → Shown (o .game)) (sym same) (gate-shown x)
 
--- all that is written
-pub wrote-all : (bytes : List ℕ) {s text text′ : List ℕ} {r : ℕ} → Wrote 0 s text text′ r → s ≡ bytes → (take r text′ ≡ bytes) × (r ≤ length text′)
-wrote-all bytes {s} {text} {text′} {r} w e = (w .words ∙ e, omega (arith, w .past, ap length (w .words), length-take r text′))
+-- ---- the slice that is lent
+
+written-all : (bytes text : List ℕ) → 16_384 ≤ length text → written bytes text ≡ printed bytes
+unfolding written
+written-all bytes text h = rw (le-ltb (length text) 16_384 h) refl
+
+-- a text in a slice that is long enough
+pub wrote-text : (bytes : List ℕ) {s text text′ : List ℕ} {r : ℕ} → 16_384 ≤ length text → Wrote 0 s text text′ r → s ≡ printed bytes
+    → (r ≡ length (written bytes text)) × (text′ ≡ fronted (written bytes text) text)
+unfolding fronted
+wrote-text bytes {s} {text} {text′} {r} h w e =
+    let f : s ≡ written bytes text = e ∙ sym (written-all bytes text h) in
+    let n : r ≡ length (written bytes text) = omega (arith, w .past, ap length f) in
+    let all : text′ ≡ written bytes text ++ drop r text =
+    sym (take-append-drop r text′) ∙ ap (λ (l : List ℕ). l ++ drop r text′) (w .words ∙ f) ∙ ap (λ (l : List ℕ). written bytes text ++ l) (w .rest)
+    in
+    (n, all ∙ ap (λ (k : ℕ). written bytes text ++ drop k text) n)
+
+-- a slice that is too short stays as it is
+pub wrote-nothing : (bytes text : List ℕ) → length text < 16_384 → (0 ≡ length (written bytes text)) × (text ≡ fronted (written bytes text) text)
+unfolding written fronted
+wrote-nothing bytes text h = rw (lt-ltb (length text) 16_384 h) (refl, refl)
+
+-- what a caller that lends a slice that is long enough finds at its front
+pub text-written : (bytes text text′ : List ℕ) (r : ℕ) → 16_384 ≤ length text → r ≡ length (written bytes text) → text′ ≡ fronted (written bytes text) text
+    → (take r text′ ≡ printed bytes) × (r ≤ length text′)
+unfolding fronted
+text-written bytes text text′ r h n e =
+    let t : List ℕ = written bytes text in
+    let w : t ≡ printed bytes = written-all bytes text h in
+    (rw (n, e) (take-append-seam t (drop (length t) text) ∙ w), omega (arith, ap length e, length-append t (drop (length t) text)))

@@ -3,7 +3,8 @@ use mathlib.Core.Path.{_≡_}
 use mathlib.Core.List.{List}
 use Prim.Native.Nat.{ℕ, suc, _+_, _≤_, _<_}
 use lib.ListN.{length}
-use Rattle.rules.specs.Game.{vertexCount, edgesIn, offsetIn, targetsIn, gameEnd}
+use Rattle.rules.specs.Lists.{In}
+use Rattle.rules.specs.Game.{vertexCount, edgesIn, ownerIn, offsetIn, targetsIn, gameEnd}
 
 pub record Shown (g : List ℕ) : Type 0 where
   -- the program's room
@@ -14,3 +15,6 @@ pub record Shown (g : List ℕ) : Type 0 where
   pub follows : (v : ℕ) → v < vertexCount g → offsetIn g (suc v) ≡ offsetIn g v + length (targetsIn g v)
   pub ends : offsetIn g (vertexCount g) ≡ edgesIn g
   pub inside : gameEnd g ≤ length g
+  -- owners and targets are small numbers: so is the text
+  pub owned : (v : ℕ) → v < vertexCount g → ownerIn g v ≤ 2
+  pub leads : (v u : ℕ) → v < vertexCount g → In u (targetsIn g v) → u < vertexCount g

@@ -11,14 +11,15 @@ ghost use lib.Dec.{eqb};
 ghost use Rattle.rules.specs.Lists.{word, sum};
 ghost use Rattle.rules.specs.Answers.{said};
 ghost use Rattle.rules.specs.Game.{vertexCount, ownerIn, priorityIn, offsetIn, targetsAt};
-ghost use Rattle.rules.specs.Program.{wordsOf, disagree, slicesOf, gateRun, digitsTo, decimal, spaced, line, vertexLine, vertexLines, report, reported, printed};
+ghost use Rattle.rules.specs.Program.{wordsOf, disagree, slicesOf, gateRun, digitsTo, decimal, spaced, line, vertexLine, vertexLines, report, reported};
 ghost use Rattle.rules.specs.Words.{inputOf};
 ghost use Rattle.words.specs.Stretches.{Wrote};
 ghost use Rattle.gate_text.specs.Reading.{accepted, decoded, wordCount};
 ghost use Rattle.gate_text.specs.Shown.{Shown};
+ghost use Rattle.gate_text.specs.Written.{written, fronted};
 
 // What the bytes are: so many words, or nothing that can be run.
-pub enum Decoded {
+enum Decoded {
     Read(usize),
     Unreadable,
 }
@@ -52,7 +53,7 @@ fn lengths_agree(words: &[u32], n: usize) -> bool
 }
 
 // The words of the bytes go to the front of `words`, unless the program refuses them.
-pub fn decode(bytes: &[u8], words: &mut [u32]) -> Decoded
+fn decode(bytes: &[u8], words: &mut [u32]) -> Decoded
     requires { ⌜ 2048 ≤ length (now words) ⌝ }
     ensures { λ r. ⌜ (decoded r (now (words .exit)) ≡ accepted (now (bytes .entry))) × (wordCount r ≤ 2048) ⌝ }
 {
@@ -227,7 +228,7 @@ fn put_vertices(text: &mut [u8], start: usize, game: &[u32]) -> usize
 // A first line and the game's lines.
 fn put_game(text: &mut [u8], name: &[u8], numbers: &[u32], game: &[u32]) -> usize
     requires { ⌜ Shown (now game) ⌝ }
-    requires { ⌜ (length (now name) ≤ 7) × (length (now numbers) ≤ 3) × (32768 ≤ length (now text)) ⌝ }
+    requires { ⌜ (length (now name) ≤ 7) × (length (now numbers) ≤ 3) × (16384 ≤ length (now text)) ⌝ }
     ensures { λ r. ⌜ Wrote 0 (line (now (name .entry)) (now (numbers .entry)) ++ vertexLines (now (game .entry)) 0 (vertexCount (now (game .entry)))) (now (text .entry)) (now (text .exit)) r ⌝ }
 {
     let p = put_line(text, 0, name, numbers);
@@ -235,8 +236,8 @@ fn put_game(text: &mut [u8], name: &[u8], numbers: &[u32], game: &[u32]) -> usiz
 }
 
 // What is printed of a run: its answer, and the game that it left.
-pub fn print(answer: Answer, game: &[u32], text: &mut [u8]) -> usize
-    requires { ⌜ 32768 ≤ length (now text) ⌝ }
+fn print(answer: Answer, game: &[u32], text: &mut [u8]) -> usize
+    requires { ⌜ 16384 ≤ length (now text) ⌝ }
     requires { ⌜ ((¬ (word (said answer) 0 ≡ 2)) → Shown (now game)) ⌝ }
     ensures { λ r. ⌜ Wrote 0 (report (word (said answer) 0) (said answer) (now (game .entry))) (now (text .entry)) (now (text .exit)) r ⌝ }
 {
@@ -261,7 +262,7 @@ fn run_input(
     formula: &[u32],
     text: &mut [u8],
 ) -> usize
-    requires { ⌜ 32768 ≤ length (now text) ⌝ }
+    requires { ⌜ 16384 ≤ length (now text) ⌝ }
     ensures { λ r. ⌜ Wrote 0 (reported (gateRun (inputOf (now (labels .entry)) (now (system .entry)) (now (actions .entry)) (now (formula .entry))))) (now (text .entry)) (now (text .exit)) r ⌝ }
 {
     let mut game = [0u32; 2564];
@@ -282,7 +283,7 @@ fn run_input(
 
 // The run of the words: four lengths, then the four slices, one after the other.
 fn run_words(ws: &[u32], text: &mut [u8]) -> usize
-    requires { ⌜ (disagree (now ws) ≡ false) × (32768 ≤ length (now text)) ⌝ }
+    requires { ⌜ (disagree (now ws) ≡ false) × (16384 ≤ length (now text)) ⌝ }
     ensures { λ r. ⌜ Wrote 0 (reported (gateRun (slicesOf (now (ws .entry))))) (now (text .entry)) (now (text .exit)) r ⌝ }
 {
     let a = 4 + words::at(ws, 0);
@@ -291,11 +292,15 @@ fn run_words(ws: &[u32], text: &mut [u8]) -> usize
     run_input(&ws[4..a], &ws[a..b], &ws[b..c], &ws[c..], text)
 }
 
-// What the program writes, of what it reads. Answers how many bytes.
+// What the program writes, of what it reads, goes to the front of the text slice; the bytes behind it stay. Answers how many bytes were written. Every text fits in 16,384
+// bytes: a slice that has fewer is left as it is, and the answer is 0, which no other call gives.
 pub fn gate(bytes: &[u8], text: &mut [u8]) -> usize
-    requires { ⌜ 32768 ≤ length (now text) ⌝ }
-    ensures { λ r. ⌜ (take r (now (text .exit)) ≡ printed (now (bytes .entry))) × (r ≤ length (now (text .exit))) ⌝ }
+    ensures { λ r. ⌜ r ≡ length (written (now (bytes .entry)) (now (text .entry))) ⌝ }
+    ensures { λ _. ⌜ now (text .exit) ≡ fronted (written (now (bytes .entry)) (now (text .entry))) (now (text .entry)) ⌝ }
 {
+    if text.len() < 16384 {
+        return 0;
+    }
     let mut ws = [0u32; 2048];
     let read = decode(bytes, &mut ws);
     match read {

@@ -22,7 +22,7 @@ use Rattle.trees.proofs.Readings.{byDepth-words, leastBit-most}
 use Rattle.arena.specs.Arena.{BodyNode}
 use Rattle.arena.proofs.ItemNumbers.{items-few, item-equation, item-subformula, item-below, item-past, item-carried, first-body}
 use Rattle.arena.proofs.Priorities.{equation-priority, other-priority}
-use Rattle.modal_equation_system.specs.System.{formulaOnly, Listed, Ranked}
+use Rattle.modal_equation_system.specs.System.{formulaOnly, bodyIn, leastIn, Listed, Ranked}
 use Rattle.alike_nodes.specs.Nodes.{Last, Later, EquationNumbers, FormulaShown}
 use Rattle.alike_nodes.proofs.Showing.{formula-shown-map}
 use Rattle.item_table.specs.Entries.{operatorKind, ActionAt, ItemShown, ItemTable, ItemNumbers, ShownAt, FirstShown}
@@ -57,7 +57,7 @@ module _ (x : Input) (good : GoodInput x) where
   pub first-none : (kinds lefts rights : List ℕ) → FirstShown x 0 kinds lefts rights
   first-none kinds lefts rights = record { shown = λ q h. absurd (omega arith) }
 
-  module _ (bodies operators equations numbers : List ℕ) (listed : Listed (x .formula) bodies operators equations) (known : ItemNumbers x numbers) (i : ℕ) (h : i < equationCount (x .formula)) where
+  module _ (table numbers : List ℕ) (listed : Listed (x .formula) table) (known : ItemNumbers x numbers) (i : ℕ) (h : i < equationCount (x .formula)) where
     -- the body of an equation is a body node
     body-node : BodyNode (x .formula) (equationOf (x .formula) i .body)
     body-node = (inside (equation-node (x .formula) i h), body-below (size (x .actions)) (x .formula) (good .formula) i h)
@@ -70,13 +70,16 @@ module _ (x : Input) (good : GoodInput x) where
             let b : equationOf (x .formula) i .body ≡ suc v = ap (λ (j : ℕ). equationOf (x .formula) j .body) (sym e) ∙ fixpoint-body (x .formula) v t in
             omega (arith, first-most (x .formula))
 
-    pub body-room : (w : ℕ) → w ≡ word bodies i → w < length numbers
+    pub body-room : (w : ℕ) → w ≡ bodyIn table i → w < length numbers
     body-room w e = let (p, q) = body-node in omega (arith, listed .body i h, known .room)
 
-    pub operator-bit : word operators i ≤ 1
+    pub body-small : (w : ℕ) → w ≡ bodyIn table i → w < 1_024
+    body-small w e = let (p, q) = body-node in omega (arith, listed .body i h, good .formula .few)
+
+    pub operator-bit : leastIn table i ≤ 1
     operator-bit = omega (arith, leastBit-most (equationOf (x .formula) i .operator), listed .operator i h)
 
-    equation-shown : (w o : ℕ) → w ≡ word bodies i → o ≡ word operators i → ItemShown x (itemAt x i) (7 - o) (word numbers w) 0
+    equation-shown : (w o : ℕ) → w ≡ bodyIn table i → o ≡ leastIn table i → ItemShown x (itemAt x i) (7 - o) (word numbers w) 0
     unfolding bodyTree
     equation-shown w o e g =
         let (p, q) = body-node in
@@ -88,8 +91,8 @@ module _ (x : Input) (good : GoodInput x) where
 
     pub first-next : (kinds lefts rights kinds′ lefts′ rights′ : List ℕ) (w o : ℕ)
         → i < length kinds → i < length lefts → i < length rights
-        → w ≡ word bodies i
-        → o ≡ word operators i
+        → w ≡ bodyIn table i
+        → o ≡ leastIn table i
         → kinds′ ≡ set kinds i (7 - o)
         → lefts′ ≡ set lefts i (word numbers w)
         → rights′ ≡ set rights i 0
@@ -164,8 +167,9 @@ module _ (x : Input) (good : GoodInput x) where
 
   -- ---- priorities, and the whole table
 
-  pub listed-numbers : (bodies operators equations : List ℕ) → Listed (x .formula) bodies operators equations → EquationNumbers (x .formula) equations
-  listed-numbers bodies operators equations l = record { room = l .numbers-long; number = l .number }
+  -- the links of the fixpoints stand at the front of the table
+  pub listed-numbers : (table : List ℕ) → Listed (x .formula) table → EquationNumbers (x .formula) table
+  listed-numbers table l = record { room = omega (arith, l .long, good .formula .few); number = λ v h p q. l .link v h .own p q }
 
   ranked-at : (count : ℕ) (old before after : List ℕ) → count ≡ equationCount (x .formula) → before ≡ zeros old → Ranked (x .formula) count before after
       → (q : ℕ) → word after q ≡ priority byDepth x (0, q)

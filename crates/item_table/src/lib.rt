@@ -2,9 +2,11 @@
 use alike_nodes::formula_shape;
 use alike_nodes::number_actions;
 use alike_nodes::number_formula;
+use modal_equation_system::body_of;
 use modal_equation_system::fixpoints_at;
 use modal_equation_system::list_equations;
 use modal_equation_system::list_priorities;
+use modal_equation_system::operator_of;
 use words::at;
 use words::clear;
 ghost use mathlib.Core.Path.{_≡_};
@@ -100,9 +102,7 @@ fn put_equations(
     system: &[u32],
     actions: &[u32],
     formula: &[u32],
-    bodies: &[u32],
-    operators: &[u32],
-    equations: &[u32],
+    table: &[u32; 4098],
     numbers: &[u32],
     count: usize,
     kinds: &mut [u32],
@@ -110,15 +110,16 @@ fn put_equations(
     rights: &mut [u32],
 )
     requires { ⌜ GoodInput (inputOf (now labels) (now system) (now actions) (now formula)) ⌝ }
-    requires { ⌜ Listed (now formula) (now bodies) (now operators) (now equations) ⌝ }
+    requires { ⌜ Listed (now formula) (now table) ⌝ }
     requires { ⌜ ItemNumbers (inputOf (now labels) (now system) (now actions) (now formula)) (now numbers) ⌝ }
     requires { ⌜ (count ≡ equationCount (now formula)) × (2048 ≤ length (now kinds)) × (2048 ≤ length (now lefts)) × (2048 ≤ length (now rights)) ⌝ }
     ensures { λ _. ⌜ FirstShown (inputOf (now (labels .entry)) (now (system .entry)) (now (actions .entry)) (now (formula .entry))) count (now (kinds .exit)) (now (lefts .exit)) (now (rights .exit)) ⌝ }
 {
     let mut i: usize = 0;
     while i < count {
-        let body = at(bodies, i);
-        put_entry(kinds, lefts, rights, i, 7 - operators[i], numbers[body], 0);
+        let body = body_of(table, i);
+        let operator = operator_of(table, i);
+        put_entry(kinds, lefts, rights, i, 7 - operator, numbers[body], 0);
         i += 1;
     }
 }
@@ -212,9 +213,7 @@ fn put_items(
     system: &[u32],
     actions: &[u32],
     formula: &[u32],
-    bodies: &[u32],
-    operators: &[u32],
-    equations: &[u32],
+    table: &[u32; 4098],
     acts: &[u32],
     numbers: &[u32],
     count: usize,
@@ -223,7 +222,7 @@ fn put_items(
     rights: &mut [u32],
 )
     requires { ⌜ GoodInput (inputOf (now labels) (now system) (now actions) (now formula)) ⌝ }
-    requires { ⌜ Listed (now formula) (now bodies) (now operators) (now equations) ⌝ }
+    requires { ⌜ Listed (now formula) (now table) ⌝ }
     requires { ⌜ Numbered (actionTree (now labels) (now actions)) (size (now actions)) 0 (now acts) ⌝ }
     requires { ⌜ ItemNumbers (inputOf (now labels) (now system) (now actions) (now formula)) (now numbers) ⌝ }
     requires { ⌜ (count ≡ equationCount (now formula)) × (2048 ≤ length (now kinds)) × (2048 ≤ length (now lefts)) × (2048 ≤ length (now rights)) ⌝ }
@@ -234,9 +233,7 @@ fn put_items(
         system,
         actions,
         formula,
-        bodies,
-        operators,
-        equations,
+        table,
         numbers,
         count,
         kinds,
@@ -249,7 +246,7 @@ fn put_items(
         actions,
         formula,
         acts,
-        equations,
+        table,
         numbers,
         count,
         kinds,
@@ -259,20 +256,13 @@ fn put_items(
 }
 
 // Puts the priorities into the table: those of the equations, 0 elsewhere.
-fn put_priorities(
-    formula: &[u32],
-    bodies: &[u32; 1025],
-    operators: &[u32; 1025],
-    equations: &[u32; 1024],
-    count: usize,
-    priorities: &mut [u32],
-)
-    requires { ⌜ Listed (now formula) (now bodies) (now operators) (now equations) ⌝ }
+fn put_priorities(formula: &[u32], table: &[u32; 4098], count: usize, priorities: &mut [u32])
+    requires { ⌜ Listed (now formula) (now table) ⌝ }
     requires { ⌜ (count ≡ equationCount (now formula)) × (2048 ≤ length (now priorities)) ⌝ }
     ensures { λ _. ⌜ Ranked (now (formula .entry)) count (zeros (now (priorities .entry))) (now (priorities .exit)) ⌝ }
 {
     clear(priorities);
-    list_priorities(formula, bodies, operators, equations, count, priorities);
+    list_priorities(formula, table, count, priorities);
 }
 
 // Compiles the formula: fills the table of items, and for each body node the number of its item. `classes` has the labels' multisets. Returns how many items
@@ -297,11 +287,9 @@ pub fn compile(
     ensures { λ _. ⌜ ItemTable (inputOf (now (labels .entry)) (now (system .entry)) (now (actions .entry)) (now (formula .entry))) (now (kinds .exit)) (now (lefts .exit)) (now (rights .exit)) (now (priorities .exit)) ⌝ }
     ensures { λ _. ⌜ ItemNumbers (inputOf (now (labels .entry)) (now (system .entry)) (now (actions .entry)) (now (formula .entry))) (now (numbers .exit)) ⌝ }
 {
-    let mut bodies = [0u32; 1025];
-    let mut operators = [0u32; 1025];
-    let mut equations = [0u32; 1024];
+    let mut table = [0u32; 4098];
     let mut acts = [0u32; 1024];
-    let count = list_equations(formula, &mut bodies, &mut operators, &mut equations);
+    let count = list_equations(formula, &mut table);
     // the room of the priorities, which come last, serves for the nodes' numbers
     let items = number_all(
         labels,
@@ -309,7 +297,7 @@ pub fn compile(
         actions,
         formula,
         classes,
-        &equations,
+        &table,
         count,
         &mut acts,
         priorities,
@@ -323,9 +311,7 @@ pub fn compile(
         system,
         actions,
         formula,
-        &bodies,
-        &operators,
-        &equations,
+        &table,
         &acts,
         numbers,
         count,
@@ -333,6 +319,6 @@ pub fn compile(
         lefts,
         rights,
     );
-    put_priorities(formula, &bodies, &operators, &equations, count, priorities);
+    put_priorities(formula, &table, count, priorities);
     items
 }

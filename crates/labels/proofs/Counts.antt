@@ -7,6 +7,7 @@ use native.Mathlib.Omega.{arith}
 use native.Mathlib.Nat.{add-suc, add-assoc, add-zero, eq-or-lt-of-le}
 use Rattle.rules.specs.Lists.{one, tally, every}
 use Rattle.lists.proofs.Tests.{and-true}
+use Rattle.lists.proofs.Tallies.{tally-zero}
 
 -- two flags are equal if each follows from the other
 pub flags : (a b : Bool) → (a ≡ true → b ≡ true) → (b ≡ true → a ≡ true) → a ≡ b
@@ -14,17 +15,7 @@ flags true b p q = sym (p refl)
 flags false true p q = q refl
 flags false false p q = refl
 
-pub tally-cong : (f g : ℕ → Bool) (p n : ℕ) → ((q : ℕ) → p ≤ q → q < p + n → f q ≡ g q) → tally f p n ≡ tally g p n
-unfolding tally
-tally-cong f g p zero h = refl
-tally-cong f g p (suc n) h = ap₂ _+_ (tally-cong f g p n (λ q a b. h q a (omega arith))) (ap one (h (p + n) (omega arith) (omega arith)))
-
 module _ (f : ℕ → Bool) where
-  tally-zero : (p n : ℕ) → ((q : ℕ) → p ≤ q → q < p + n → f q ≡ false) → tally f p n ≡ 0
-  unfolding tally
-  tally-zero p zero h = refl
-  tally-zero p (suc n) h = rw (h (p + n) (omega arith) (omega arith)) (omega (arith, tally-zero p n (λ q a b. h q a (omega arith))))
-
   tally-append : (p n m : ℕ) → tally f p (n + m) ≡ tally f p n + tally f (p + n) m
   unfolding tally
   tally-append p n zero = simp add-zero
@@ -49,6 +40,13 @@ module _ (f : ℕ → Bool) where
       let a : p + (i - p) ≡ i = omega arith in
       ap (tally f p) e ∙ ap (λ (k : ℕ). tally f p (i - p) + one (f k)) a
 
+  -- the same from place 0 on
+  pub tally-next : (i : ℕ) → tally f 0 (i + 1) ≡ tally f 0 i + one (f i)
+  tally-next i =
+      let a : i + 1 ≡ i + 1 - 0 = omega arith in
+      let b : i - 0 ≡ i = omega arith in
+      ap (tally f 0) a ∙ tally-more 0 i (omega arith) ∙ ap (λ (k : ℕ). tally f 0 k + one (f i)) b
+
   -- three stretches of which f holds only in the middle one
   pub tally-middle : (s e n : ℕ) → s ≤ e → e ≤ n → ((q : ℕ) → q < s → f q ≡ false) → ((q : ℕ) → e ≤ q → q < n → f q ≡ false) → tally f 0 n ≡ tally f s (e - s)
   tally-middle s e n h k below above =
@@ -57,8 +55,8 @@ module _ (f : ℕ → Bool) where
       let d : 0 + s ≡ s = omega arith in
       let x = ap (tally f 0) a ∙ tally-append 0 (s + (e - s)) (n - e) in
       let y = tally-append 0 s (e - s) in
-      let z0 = tally-zero 0 s (λ q l u. below q (omega arith)) in
-      let z1 = tally-zero e (n - e) (λ q l u. above q l (omega arith)) in
+      let z0 = tally-zero f 0 s (λ q l u. below q (omega arith)) in
+      let z1 = tally-zero f e (n - e) (λ q l u. above q l (omega arith)) in
       let v = ap (λ (k : ℕ). tally f k (n - e)) b in
       let u = ap (λ (k : ℕ). tally f k (e - s)) d in
       omega (arith, x, y, z0, z1, u, v)
@@ -73,6 +71,17 @@ module _ (f : ℕ → Bool) where
       go true e s = inr (p + n, omega arith, omega arith, e)
       go false e (inl z) = inl (rw e (omega arith))
       go false e (inr s) = inr (s .0, s .1, omega arith, s .3)
+
+  pub tally-none : (p n : ℕ) → tally f p n ≡ 0 → (q : ℕ) → p ≤ q → q < p + n → f q ≡ false
+  unfolding tally
+  tally-none p zero h q a b = absurd (omega arith)
+  tally-none p (suc n) h q a b =
+      let l : q ≤ p + n = omega arith in
+      ⊎-elim (λ e. ap f e ∙ last (f (p + n)) refl) (λ u. tally-none p n (omega (arith, h)) q a u) (eq-or-lt-of-le l)
+    where
+      last : (t : Bool) → f (p + n) ≡ t → f (p + n) ≡ false
+      last true e = absurd (omega (arith, h, ap one e))
+      last false e = e
 
   pub every-at : (p n : ℕ) → every f p n ≡ true → (q : ℕ) → p ≤ q → q < p + n → f q ≡ true
   unfolding every

@@ -1,18 +1,18 @@
 -- Two labels are the same multiset exactly if the actions of each occur in both their stretches equally often. Assumes nothing.
-use mathlib.Core.Path.{_≡_, sym, ap, ap₂, _∙_}
-use mathlib.Core.Logic.{_⊎_, inl, inr}
-use mathlib.Core.Bool.{Bool, true, false, _&&_}
+use mathlib.Core.Path.{_≡_, sym, ap, _∙_}
+use mathlib.Core.Bool.{Bool, true, false, _&&_, false≢true}
 use mathlib.Core.List.{List}
 use Prim.Native.Nat.{ℕ, _+_, _-_, _≤_, _<_}
 use native.Mathlib.Omega.{arith}
 use lib.Dec.{eqb}
 use borrow.Author.Tests.{eq-eqb, ne-eqb, eqb-true}
-use Rattle.rules.specs.Lists.{one, every}
+use Rattle.rules.specs.Lists.{one}
 use Rattle.rules.specs.Labels.{labelAt, actionAt, actionCount, times, sameLabel}
 use Rattle.labels.specs.Stretches.{timesIn, covered, Starts, Stretch}
-use Rattle.labels.proofs.Counts.{flags, tally-start, tally-more, tally-middle, tally-some, tally-cong, every-start, every-more, every-not, every-at, every-all}
+use Rattle.lists.proofs.Tallies.{tally-cong}
+use Rattle.labels.proofs.Counts.{flags, tally-start, tally-more, tally-middle, every-start, every-more, every-not, every-at, every-all}
 use Rattle.labels.proofs.Alike.{same-times, times-same}
-use Rattle.lists.proofs.Tests.{and-true}
+use Rattle.labels.proofs.Listed.{places-number, places-all}
 
 -- label 0 starts at place 0
 pub starts-first : (ls : List ℕ) → Starts ls 0 0
@@ -68,44 +68,28 @@ module _ (ls : List ℕ) where
       rw (eq-eqb (labelAt ls q) l (omega arith)))
 
   module _ (l a e m b f : ℕ) (sl : Stretch ls l a e) (sm : Stretch ls m b f) where
-    -- an action that occurs in one of two stretches occurs equally often in both, and any other in neither
-    in-stretches : covered ls a e a e b f ≡ true → covered ls b f a e b f ≡ true → (x : ℕ) → timesIn ls a e x ≡ timesIn ls b f x
+    -- labels of one multiset: each action occurs equally often in their stretches
+    pub same-in : sameLabel ls l m ≡ true → (x : ℕ) → timesIn ls a e x ≡ timesIn ls b f x
+    same-in h x = sym (times-stretch l a e x sl) ∙ same-times ls l m h x ∙ times-stretch m b f x sm
+
+    pub sizes-differ : (¬ (e - a ≡ f - b)) → false ≡ sameLabel ls l m
+    unfolding timesIn
+    sizes-differ d =
+        flags false (sameLabel ls l m) (λ z. absurd (false≢true z)) (λ h. absurd (d (places-number (actionAt ls) a (e - a) b (f - b) (same-in h))))
+
+    -- stretches of one length: the actions of the one tell
+    covered-same : e - a ≡ f - b → covered ls a e a e b f ≡ sameLabel ls l m
     unfolding covered timesIn
-    in-stretches h k x = go (tally-some (λ z. eqb (actionAt ls z) x) a (e - a)) (tally-some (λ z. eqb (actionAt ls z) x) b (f - b))
+    covered-same k =
+        flags (covered ls a e a e b f) (sameLabel ls l m)
+        (λ h. times-same ls l m
+        (λ x. times-stretch l a e x sl ∙ places-all (actionAt ls) a (e - a) b (f - b) k (λ z lo hi. at h z lo hi) x ∙ sym (times-stretch m b f x sm)))
+        (λ h. every-all _ a (e - a) (λ z lo hi. eq-eqb _ _ (same-in h (actionAt ls z))))
       where
-        Some : ℕ → ℕ → Type 0
-        Some s t = (timesIn ls s t x ≡ 0) ⊎ ((z : ℕ) × (s ≤ z) × (z < s + (t - s)) × (eqb (actionAt ls z) x ≡ true))
-
-        at : (s t : ℕ) → covered ls s t a e b f ≡ true → (z : ℕ) → s ≤ z → z < s + (t - s) → eqb (actionAt ls z) x ≡ true → timesIn ls a e x ≡ timesIn ls b f x
-        at s t c z lo hi y =
-            let v =
+        at : covered ls a e a e b f ≡ true → (z : ℕ) → a ≤ z → z < a + (e - a) → timesIn ls a e (actionAt ls z) ≡ timesIn ls b f (actionAt ls z)
+        at h z lo hi =
             eqb-true (timesIn ls a e (actionAt ls z)) (timesIn ls b f (actionAt ls z))
-            (every-at (λ n. eqb (timesIn ls a e (actionAt ls n)) (timesIn ls b f (actionAt ls n))) s (t - s) c z lo hi)
-            in
-            rw (eqb-true (actionAt ls z) x y) at v
+            (every-at (λ n. eqb (timesIn ls a e (actionAt ls n)) (timesIn ls b f (actionAt ls n))) a (e - a) h z lo hi)
 
-        go : Some a e → Some b f → timesIn ls a e x ≡ timesIn ls b f x
-        go (inl y) (inl z) = y ∙ sym z
-        go (inl y) (inr s) = at b f k (s .0) (s .1) (s .2) (s .3)
-        go (inr s) t = at a e h (s .0) (s .1) (s .2) (s .3)
-
-    pub stretches-same : (covered ls a e a e b f && covered ls b f a e b f) ≡ sameLabel ls l m
-    unfolding covered
-    stretches-same =
-        flags (covered ls a e a e b f && covered ls b f a e b f) (sameLabel ls l m)
-        (λ h. let s = and-true (covered ls a e a e b f) (covered ls b f a e b f) h in
-        times-same ls l m (λ x. times-stretch l a e x sl ∙ in-stretches (s .0) (s .1) x ∙ sym (times-stretch m b f x sm)))
-        (λ h. ap₂ _&&_ (all-of h a (e - a)) (all-of h b (f - b)))
-      where
-        all-of : sameLabel ls l m ≡ true → (s n : ℕ) → every (λ z. eqb (timesIn ls a e (actionAt ls z)) (timesIn ls b f (actionAt ls z))) s n ≡ true
-        all-of h s n =
-            every-all _ s n
-            (λ z lo hi. eq-eqb _ _ (sym (times-stretch l a e (actionAt ls z) sl) ∙ same-times ls l m h (actionAt ls z) ∙ times-stretch m b f (actionAt ls z) sm))
-
-    -- in the code's two steps: l's actions are compared, and m's if they passed
-    module _ (first : Bool) (e₁ : first ≡ covered ls a e a e b f) where
-      pub first-differs : first ≡ false → false ≡ sameLabel ls l m
-      first-differs h = ap (λ (t : Bool). t && covered ls b f a e b f) (sym h ∙ e₁) ∙ stretches-same
-
-      pub second-tells : (second : Bool) → second ≡ covered ls b f a e b f → first ≡ true → second ≡ sameLabel ls l m
-      second-tells second e₂ h = e₂ ∙ ap (λ (t : Bool). t && covered ls b f a e b f) (sym h ∙ e₁) ∙ stretches-same
+    pub sizes-agree : (r : Bool) → r ≡ covered ls a e a e b f → e - a ≡ f - b → r ≡ sameLabel ls l m
+    sizes-agree r c k = c ∙ covered-same k

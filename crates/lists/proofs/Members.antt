@@ -94,12 +94,12 @@ module _ {A : Type 0} where
       ap suc (distinct-places xs o (d .1) v w (le-of-suc-le-suc hv) (le-of-suc-le-suc hw) e)
 
   -- the list without the one occurrence of x that the proof points at
-  without : (x : A) (xs : List A) → In x xs → List A
+  unfoldable pub without : (x : A) (xs : List A) → In x xs → List A
   without x [] m = []
   without x (y ∷ xs) (inl e) = xs
   without x (y ∷ xs) (inr m) = y ∷ without x xs m
 
-  without-length : (x : A) (xs : List A) (m : In x xs) → suc (length (without x xs m)) ≡ length xs
+  pub without-length : (x : A) (xs : List A) (m : In x xs) → suc (length (without x xs m)) ≡ length xs
   unfolding without
   without-length x [] m = absurd m
   without-length x (y ∷ xs) (inl e) = refl

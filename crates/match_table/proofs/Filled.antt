@@ -6,7 +6,6 @@ use Prim.Native.Nat.{ℕ, _+_, _-_, _*_, _≤_, _<_}
 use native.Mathlib.Nat.{mul-le-mul-right}
 use native.Mathlib.Decide.{ℕ-discrete}
 use native.Mathlib.Omega.{arith}
-use lib.Dec.{eqb}
 use lib.ListN.{length, set, replicate, length-set, length-replicate, getD-replicate}
 use lib.Seq.{getD-set-same, getD-set-other}
 use Rattle.rules.specs.Lists.{word, one}
@@ -24,10 +23,6 @@ told-true r byte y e = e ∙ ap one (sym y)
 
 pub told-false : (r : Bool) (byte : ℕ) → r ≡ false → byte ≡ 0 → byte ≡ one r
 told-false r byte y e = e ∙ ap one (sym y)
-
-pub tells : (r : Bool) (byte : ℕ) → byte ≡ one r → eqb byte 1 ≡ r
-tells true byte e = rw e refl
-tells false byte e = rw e refl
 
 -- the multiset that the table of the labels' multisets has for a label
 pub class-matches : (ls classes : List ℕ) → Classes ls classes → (l m : ℕ) → l < labelCount ls → m ≡ word classes l → (a : Action) (r : Bool) → r ≡ matches m a → r ≡ matches (multiset ls l) a

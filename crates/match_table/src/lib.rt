@@ -4,9 +4,8 @@ use words::at;
 ghost use mathlib.Core.Path.{_≡_};
 ghost use Prim.Native.Nat.{_+_, _≤_, _<_};
 ghost use lib.ListN.{length};
-ghost use Rattle.rules.specs.Labels.{labelCount, multiset};
+ghost use Rattle.rules.specs.Labels.{labelCount};
 ghost use Rattle.rules.specs.Table.{size};
-ghost use Rattle.rules.specs.Actions.{actionTree, matches};
 ghost use Rattle.rules.specs.Good.{GoodLabels, GoodActions};
 ghost use Rattle.labels.specs.Classes.{Classes};
 ghost use Rattle.match_table.specs.Rows.{tableSize, RowAt, MatchTable, NoRows, FirstRows, SameBefore};
@@ -148,26 +147,4 @@ pub fn row_of(labels: &[u32], actions: &[u32], matched: &[u8; 17408], node: usiz
         return 0;
     }
     FIRST_ROW + (row - 1) * at(labels, 0)
-}
-
-// Does the action formula at a node, whose row begins at `row`, match a label? It is decided here where the node has no row.
-pub fn is_matched(
-    labels: &[u32],
-    actions: &[u32],
-    classes: &[u32],
-    matched: &[u8; 17408],
-    node: usize,
-    row: usize,
-    label: usize,
-) -> bool
-    requires { ⌜ GoodActions (labelCount (now labels)) (now actions) × Classes (now labels) (now classes) ⌝ }
-    requires { ⌜ (node < size (now actions)) × (label < labelCount (now labels)) ⌝ }
-    requires { ⌜ (0 < row → RowAt (now labels) (now actions) (now matched) node row) ⌝ }
-    ensures { λ r. ⌜ r ≡ matches (multiset (now (labels .entry)) label) (actionTree (now (labels .entry)) (now (actions .entry)) node) ⌝ }
-{
-    if row == 0 {
-        let multiset = at(classes, label);
-        return match_action_formula(labels, actions, classes, multiset, node);
-    }
-    matched[row + label] == 1
 }

@@ -1,4 +1,4 @@
--- Listing the equations node by node: which entries a table has before node v, and how they grow. Assumes nothing.
+-- Listing the equations node by node: which entries the table has before node v, and how they grow. Assumes nothing.
 use mathlib.Core.Path.{_≡_, refl, sym, ap, _∙_}
 use mathlib.Core.Bool.{Bool, true, false, cond}
 use mathlib.Core.List.{List, [], _∷_, _++_}
@@ -6,16 +6,17 @@ use Prim.Native.Nat.{ℕ, zero, suc, _+_, _-_, _≤_, _<_}
 use native.Mathlib.Decide.{decLt, ℕ-discrete}
 use native.Mathlib.Omega.{arith}
 use native.Mathlib.Numerals.{add-one}
-use lib.ListN.{length, getD, set, length-append, List·getD-append}
+use lib.ListN.{length, getD, set, length-set, length-append, List·getD-append}
 use lib.Seq.{getD-set-same, getD-set-other, getD-append-seam}
 use lib.Dec.{eqb}
 use borrow.Author.Tests.{eq-eqb, ne-eqb}
 use Rattle.rules.specs.Lists.{word, one}
-use Rattle.rules.specs.Table.{size, kind, formulaNode}
+use Rattle.rules.specs.Table.{size, kind, operand, formulaNode}
 use Rattle.rules.specs.Formula.{least, greatest, Equation, isFixpoint, placeholder, equationsBefore, equations, equationCount, equationOf, equationNumber}
 use Rattle.rules.specs.Depth.{leastBit}
-use Rattle.trees.proofs.Equations.{number-start, number-start-placeholder, number-more, number-same, equations-least, equations-greatest, equations-below, equations-above, count-limit}
-use Rattle.modal_equation_system.specs.System.{Good, Listed}
+use Rattle.trees.proofs.Fixpoints.{fixpoint-kind}
+use Rattle.trees.proofs.Equations.{number-start, number-start-placeholder, number-more, number-same, equations-least, equations-greatest, equations-below, equations-above, number-monotone, count-number, count-limit}
+use Rattle.modal_equation_system.specs.System.{Good, linkIn, kindIn, bodyIn, leastIn, withNode, withEquation, Link, Linked, Listed}
 
 -- the placeholder, and the entry of an equation that is not there
 abbrev pub missing : Equation
@@ -37,63 +38,110 @@ number-next f v = go (isFixpoint (formulaNode f v)) refl
     go true e = omega (arith, number-more f v e)
     go false e = omega (arith, number-same f v e)
 
--- ---- a table that shows a field of each equation
+-- ---- what is read off the table after words are written into it
 
-abbrev pub Shows : (Equation → ℕ) → List Equation → List ℕ → Type 0
-Shows field es ws = (i : ℕ) → i < length es → word ws i ≡ field (getD es i missing)
+kept : (t : List ℕ) (p x q y r : ℕ) → (r ≡ p → ⊥) → (r ≡ q → ⊥) → word (set (set t p x) q y) r ≡ word t r
+kept t p x q y r d e = getD-set-other {A = ℕ} (set t p x) q r y 0 e ∙ getD-set-other {A = ℕ} t p r x 0 d
 
-shows-one : (field : Equation → ℕ) (es : List Equation) (e : Equation) (ws : List ℕ) (x : ℕ) → length es < length ws → x ≡ field e → Shows field es ws → Shows field (es ++ (e ∷ [])) (set ws (length es) x)
-shows-one field es e ws x h k s i l = go (ℕ-discrete i (length es))
+written-first : (t : List ℕ) (p x q y : ℕ) → p < length t → (p ≡ q → ⊥) → word (set (set t p x) q y) p ≡ x
+written-first t p x q y h e = getD-set-other {A = ℕ} (set t p x) q p y 0 e ∙ getD-set-same {A = ℕ} t p x 0 h
+
+written-last : (t : List ℕ) (p x q y : ℕ) → q < length t → word (set (set t p x) q y) q ≡ y
+written-last t p x q y h = getD-set-same {A = ℕ} (set t p x) q y 0 (omega (arith, h, length-set t p x))
+
+set-length : (t : List ℕ) (p x q y : ℕ) → length (set (set t p x) q y) ≡ length t
+set-length t p x q y = length-set (set t p x) q y ∙ length-set t p x
+
+-- ---- a field of each equation, shown one after the other
+
+abbrev pub Shows : (Equation → ℕ) → List Equation → (ℕ → ℕ) → Type 0
+Shows field es shown = (i : ℕ) → i < length es → shown i ≡ field (getD es i missing)
+
+-- the first n entries stay
+abbrev Stays : (n : ℕ) (before after : ℕ → ℕ) → Type 0
+Stays n before after = (i : ℕ) → i < n → after i ≡ before i
+
+shows-one : (field : Equation → ℕ) (es : List Equation) (e : Equation) (before after : ℕ → ℕ) → Stays (length es) before after → after (length es) ≡ field e → Shows field es before
+    → Shows field (es ++ (e ∷ [])) after
+shows-one field es e before after kept k s i l = go (ℕ-discrete i (length es))
   where
-    go : Dec (i ≡ length es) → word (set ws (length es) x) i ≡ field (getD (es ++ (e ∷ [])) i missing)
-    go (yes q) = rw q (getD-set-same {A = ℕ} ws (length es) x 0 h ∙ k ∙ ap field (sym (getD-append-seam es e [] missing)))
+    go : Dec (i ≡ length es) → after i ≡ field (getD (es ++ (e ∷ [])) i missing)
+    go (yes q) = rw q (k ∙ ap field (sym (getD-append-seam es e [] missing)))
     go (no d) =
         let b : i < length es = omega (arith, length-append es (e ∷ [])) in
-        getD-set-other {A = ℕ} ws (length es) i x 0 d ∙ s i b ∙ ap field (sym (List·getD-append es (e ∷ []) missing i b))
+        kept i b ∙ s i b ∙ ap field (sym (List·getD-append es (e ∷ []) missing i b))
 
-shows-none : (field : Equation → ℕ) (es : List Equation) (ws : List ℕ) (x : ℕ) → Shows field es ws → Shows field es (set ws (length es) x)
-shows-none field es ws x s i l = getD-set-other {A = ℕ} ws (length es) i x 0 (λ (q : i ≡ length es). omega arith) ∙ s i l
+shows-none : (field : Equation → ℕ) (es : List Equation) (before after : ℕ → ℕ) → Stays (length es) before after → Shows field es before → Shows field es after
+shows-none field es before after kept s i l = kept i l ∙ s i l
 
 -- node v comes next, with the entry that it has as a fixpoint
-shows-next : (field : Equation → ℕ) (f : List ℕ) (v : ℕ) (ws : List ℕ) (x : ℕ) → v < size f → equationNumber f v < length ws
-    → (kind f v ≡ 6 → x ≡ field (record { operator = least; body = suc v }))
-    → (kind f v ≡ 7 → x ≡ field (record { operator = greatest; body = suc v }))
-    → Shows field (equationsBefore f v) ws → Shows field (equationsBefore f (suc v)) (set ws (equationNumber f v) x)
+shows-next : (field : Equation → ℕ) (f : List ℕ) (v : ℕ) (before after : ℕ → ℕ) → v < size f → Stays (equationNumber f v) before after
+    → (kind f v ≡ 6 → after (equationNumber f v) ≡ field (record { operator = least; body = suc v }))
+    → (kind f v ≡ 7 → after (equationNumber f v) ≡ field (record { operator = greatest; body = suc v }))
+    → Shows field (equationsBefore f v) before → Shows field (equationsBefore f (suc v)) after
 unfolding equationNumber
-shows-next field f v ws x h l p q s = go (ℕ-discrete (kind f v) 6) (ℕ-discrete (kind f v) 7) (decLt (kind f v) 6)
+shows-next field f v before after h kept p q s = go (ℕ-discrete (kind f v) 6) (ℕ-discrete (kind f v) 7) (decLt (kind f v) 6)
   where
     es : List Equation
     es = equationsBefore f v
 
-    go : Dec (kind f v ≡ 6) → Dec (kind f v ≡ 7) → Dec (kind f v < 6) → Shows field (equationsBefore f (suc v)) (set ws (length es) x)
-    go (yes e) d b = rw (equations-least f v h e) (shows-one field es (record { operator = least; body = suc v }) ws x l (p e) s)
-    go (no c) (yes e) b = rw (equations-greatest f v h e) (shows-one field es (record { operator = greatest; body = suc v }) ws x l (q e) s)
-    go (no c) (no d) (yes b) = rw (equations-below f v h (omega arith)) (shows-none field es ws x s)
-    go (no c) (no d) (no b) = rw (equations-above f v h (omega arith)) (shows-none field es ws x s)
+    go : Dec (kind f v ≡ 6) → Dec (kind f v ≡ 7) → Dec (kind f v < 6) → Shows field (equationsBefore f (suc v)) after
+    go (yes e) d b = rw (equations-least f v h e) (shows-one field es (record { operator = least; body = suc v }) before after kept (p e) s)
+    go (no c) (yes e) b = rw (equations-greatest f v h e) (shows-one field es (record { operator = greatest; body = suc v }) before after kept (q e) s)
+    go (no c) (no d) (yes b) = rw (equations-below f v h (omega arith)) (shows-none field es before after kept s)
+    go (no c) (no d) (no b) = rw (equations-above f v h (omega arith)) (shows-none field es before after kept s)
 
--- at the start the table has the placeholder's entry
-shows-first : (field : Equation → ℕ) (f ws : List ℕ) → word ws 0 ≡ field missing → Shows field (equationsBefore f 0) ws
+-- at the start there is the placeholder's entry
+shows-first : (field : Equation → ℕ) (f : List ℕ) (shown : ℕ → ℕ) → shown 0 ≡ field missing → Shows field (equationsBefore f 0) shown
 unfolding equationsBefore placeholder
-shows-first field f ws e = go (isFixpoint (formulaNode f 0))
+shows-first field f shown e = go (isFixpoint (formulaNode f 0))
   where
-    go : (t : Bool) → Shows field (cond t [] (missing ∷ [])) ws
+    go : (t : Bool) → Shows field (cond t [] (missing ∷ [])) shown
     go true i l = absurd (omega arith)
     go false zero l = e
     go false (suc i) l = absurd (omega arith)
 
--- ---- the loop: what the tables show before node v
+-- ---- links
 
-pub record Listing (f : List ℕ) (v i : ℕ) (bodies operators numbers : List ℕ) : Type 0 where
+module _ (f : List ℕ) (good : Good f) (v : ℕ) (h : v < size f) where
+  -- numbers of equations fit a word
+  pub number-fits : equationNumber f v ≤ 1_024
+  number-fits = omega (arith, number-monotone f v (size f) (omega arith), count-number f, count-limit (good .actions) f (good .formula))
+
+  -- a reference has the link of its fixpoint, which stands before it
+  module _ (t : List ℕ) (linked : Linked f v t) (p : 8 ≤ kind f v) where
+    pub fixpoint-link : linkIn t (operand f v) ≡ equationNumber f (operand f v)
+    fixpoint-link =
+        let (a, b) = good .formula .nodes v h .refers p in
+        let (c, d) = fixpoint-kind f (operand f v) b in
+        linked (operand f v) a .own c d
+
+    pub link-outer : (l : ℕ) → l ≡ linkIn t (operand f v) → Link f v l
+    link-outer l e = record { right = λ a b. absurd (omega arith); own = λ a b. absurd (omega arith); outer = λ q. e ∙ fixpoint-link }
+
+-- ---- the loop: what the table shows before node v
+
+pub record Listing (f : List ℕ) (v i : ℕ) (table : List ℕ) : Type 0 where
   pub count : i ≡ equationNumber f v
-  pub body : Shows (λ e. e .body) (equationsBefore f v) bodies
-  pub operator : Shows (λ e. leastBit (e .operator)) (equationsBefore f v) operators
-  pub number : (u : ℕ) → u < v → word numbers u ≡ equationNumber f u
+  pub link : Linked f v table
+  pub kinds : (u : ℕ) → u < v → kindIn table u ≡ kind f u
+  pub body : Shows (λ e. e .body) (equationsBefore f v) (bodyIn table)
+  pub operator : Shows (λ e. leastBit (e .operator)) (equationsBefore f v) (leastIn table)
+  pub long : length table ≡ 4_098
 
-pub listing-first : (f : List ℕ) (i : ℕ) (bodies operators numbers : List ℕ) → i ≡ 1 - one (isFixpoint (formulaNode f 0)) → word bodies 0 ≡ 0 → word operators 0 ≡ 1
-    → Listing f 0 i bodies operators numbers
+pub listing-first : (f : List ℕ) (i : ℕ) (t table : List ℕ) → i ≡ 1 - one (isFixpoint (formulaNode f 0)) → length t ≡ 4_098 → table ≡ withEquation t 0 0 1
+    → Listing f 0 i table
 unfolding leastBit
-listing-first f i bodies operators numbers e b o =
-    record { count = e ∙ sym (number-first f); body = shows-first (λ e. e .body) f bodies b; operator = shows-first (λ e. leastBit (e .operator)) f operators o; number = λ u h. absurd (omega arith) }
+listing-first f i t table e z w =
+    rw w
+    (record {
+      count = e ∙ sym (number-first f);
+      link = λ u h. absurd (omega arith);
+      kinds = λ u h. absurd (omega arith);
+      body = shows-first (λ e. e .body) f (bodyIn (withEquation t 0 0 1)) (written-first t 2_048 0 3_073 1 (omega arith) (λ e. omega arith));
+      operator = shows-first (λ e. leastBit (e .operator)) f (leastIn (withEquation t 0 0 1)) (written-last t 2_048 0 3_073 1 (omega arith));
+      long = set-length t 2_048 0 3_073 1 ∙ z;
+    })
 
 six-bit : (k x : ℕ) → x ≡ one (eqb k 6) → k ≡ 6 → x ≡ leastBit least
 unfolding leastBit
@@ -103,40 +151,70 @@ seven-bit : (k x : ℕ) → x ≡ one (eqb k 6) → k ≡ 7 → x ≡ leastBit g
 unfolding leastBit
 seven-bit k x e h = e ∙ ap one (ne-eqb k 6 (λ (q : k ≡ 6). omega arith))
 
-listing-suc : (f : List ℕ) (v i : ℕ) (bodies operators numbers : List ℕ) (more bit : ℕ) → v < size f → i < length bodies → i < length operators → v < length numbers
-    → more ≡ one (isFixpoint (formulaNode f v)) → bit ≡ one (eqb (kind f v) 6) → Listing f v i bodies operators numbers
-    → Listing f (suc v) (i + more) (set bodies i (suc v)) (set operators i bit) (set numbers v i)
-listing-suc f v i bodies operators numbers more bit h lb lo ln m b s =
-    let q = s .count in
-    record {
-      count = omega (arith, q, m, number-next f v);
-      body = rw q (shows-next (λ e. e .body) f v bodies (suc v) h (omega arith) (λ e. refl) (λ e. refl) (s .body));
-      operator = rw q (shows-next (λ e. leastBit (e .operator)) f v operators bit h (omega arith) (six-bit (kind f v) bit b) (seven-bit (kind f v) bit b) (s .operator));
-      number = λ u l. go u l (ℕ-discrete u v);
-    }
-  where
-    go : (u : ℕ) → u < suc v → Dec (u ≡ v) → word (set numbers v i) u ≡ equationNumber f u
-    go u l (yes e) = rw e (getD-set-same {A = ℕ} numbers v i 0 ln ∙ s .count)
-    go u l (no d) = getD-set-other {A = ℕ} numbers v u i 0 d ∙ s .number u (omega arith)
+-- the words of node v are written, and those of equation i
+module _ (f : List ℕ) (v i : ℕ) (table : List ℕ) (l k bit : ℕ) (h : v < size f) (few : v < 1_024) (room : i < 1_025) (s : Listing f v i table) where
+  abbrev noded : List ℕ
+  noded = withNode table v l k
 
--- the same for a loop that adds 1
-pub listing-next : (f : List ℕ) (v i : ℕ) (bodies operators numbers : List ℕ) (more bit : ℕ) → v < size f → i < length bodies → i < length operators → v < length numbers
-    → more ≡ one (isFixpoint (formulaNode f v)) → bit ≡ one (eqb (kind f v) 6) → Listing f v i bodies operators numbers
-    → Listing f (v + 1) (i + more) (set bodies i (v + 1)) (set operators i bit) (set numbers v i)
-listing-next f v i bodies operators numbers more bit h lb lo ln m b s = rw add-one (listing-suc f v i bodies operators numbers more bit h lb lo ln m b s)
+  abbrev listed : List ℕ
+  listed = withEquation noded i (suc v) bit
 
-pub listing-last : (f : List ℕ) (i : ℕ) (bodies operators numbers : List ℕ) → Good f → 1025 ≤ length bodies → 1025 ≤ length operators → 1024 ≤ length numbers
-    → Listing f (size f) i bodies operators numbers → (i ≡ equationCount f) × Listed f bodies operators numbers
+  noded-long : length noded ≡ 4_098
+  noded-long = set-length table v l (1_024 + v) k ∙ s .long
+
+  -- an equation's words leave the nodes' alone, and a node's the equations'
+  nodes-kept : (u : ℕ) → u < 2_048 → word listed u ≡ word noded u
+  nodes-kept u b = kept noded (2_048 + i) (suc v) (3_073 + i) bit u (λ p. omega arith) (λ p. omega arith)
+
+  bodies-kept : Stays (equationNumber f v) (bodyIn table) (bodyIn listed)
+  bodies-kept j b =
+      let q = s .count in
+      kept noded (2_048 + i) (suc v) (3_073 + i) bit (2_048 + j) (λ p. omega arith) (λ p. omega arith)
+      ∙ kept table v l (1_024 + v) k (2_048 + j) (λ p. omega arith) (λ p. omega arith)
+
+  operators-kept : Stays (equationNumber f v) (leastIn table) (leastIn listed)
+  operators-kept j b =
+      let q = s .count in
+      kept noded (2_048 + i) (suc v) (3_073 + i) bit (3_073 + j) (λ p. omega arith) (λ p. omega arith)
+      ∙ kept table v l (1_024 + v) k (3_073 + j) (λ p. omega arith) (λ p. omega arith)
+
+  body-written : bodyIn listed (equationNumber f v) ≡ suc v
+  body-written = ap (bodyIn listed) (sym (s .count)) ∙ written-first noded (2_048 + i) (suc v) (3_073 + i) bit (omega (arith, room, noded-long)) (λ p. omega arith)
+
+  operator-written : leastIn listed (equationNumber f v) ≡ bit
+  operator-written = ap (leastIn listed) (sym (s .count)) ∙ written-last noded (2_048 + i) (suc v) (3_073 + i) bit (omega (arith, room, noded-long))
+
+  links-next : Link f v l → Linked f (suc v) listed
+  links-next link u b = go (ℕ-discrete u v)
+    where
+      go : Dec (u ≡ v) → Link f u (linkIn listed u)
+      go (yes q) = rw (q, nodes-kept v (omega arith), written-first table v l (1_024 + v) k (omega (arith, few, s .long)) (λ p. omega arith)) link
+      go (no d) = rw (nodes-kept u (omega arith), kept table v l (1_024 + v) k u d (λ p. omega arith)) (s .link u (omega arith))
+
+  kinds-next : k ≡ kind f v → (u : ℕ) → u < suc v → kindIn listed u ≡ kind f u
+  kinds-next e u b = go (ℕ-discrete u v)
+    where
+      go : Dec (u ≡ v) → kindIn listed u ≡ kind f u
+      go (yes q) = rw q (nodes-kept (1_024 + v) (omega arith) ∙ written-last table v l (1_024 + v) k (omega (arith, few, s .long)) ∙ e)
+      go (no d) = nodes-kept (1_024 + u) (omega arith) ∙ kept table v l (1_024 + v) k (1_024 + u) (λ p. omega arith) (λ p. omega arith) ∙ s .kinds u (omega arith)
+
+  listing-suc : (more : ℕ) → Link f v l → k ≡ kind f v → more ≡ one (isFixpoint (formulaNode f v)) → bit ≡ one (eqb (kind f v) 6) → Listing f (suc v) (i + more) listed
+  listing-suc more link e m b =
+      record {
+        count = omega (arith, s .count, m, number-next f v);
+        link = links-next link;
+        kinds = kinds-next e;
+        body = shows-next (λ e. e .body) f v (bodyIn table) (bodyIn listed) h bodies-kept (λ e. body-written) (λ e. body-written) (s .body);
+        operator = shows-next (λ e. leastBit (e .operator)) f v (leastIn table) (leastIn listed) h operators-kept (λ e. operator-written ∙ six-bit (kind f v) bit b e) (λ e. operator-written ∙ seven-bit (kind f v) bit b e) (s .operator);
+        long = set-length noded (2_048 + i) (suc v) (3_073 + i) bit ∙ noded-long;
+      }
+
+-- the same for a loop that adds 1, and for what its calls ensure
+pub listing-next : (f : List ℕ) (v i : ℕ) (table noded listed : List ℕ) (l k bit more : ℕ) → v < size f → v < 1_024 → i < 1_025 → Link f v l → k ≡ kind f v
+    → noded ≡ withNode table v l k → bit ≡ one (eqb (kind f v) 6) → listed ≡ withEquation noded i (v + 1) bit → more ≡ one (isFixpoint (formulaNode f v))
+    → Listing f v i table → Listing f (v + 1) (i + more) listed
+listing-next f v i table noded listed l k bit more h few room link e w b x m s = rw (x, w, add-one) (listing-suc f v i table l k bit h few room s more link e m b)
+
+pub listing-last : (f : List ℕ) (i : ℕ) (table : List ℕ) → Good f → Listing f (size f) i table → (i ≡ equationCount f) × Listed f table
 unfolding equationCount equations equationOf equationNumber
-listing-last f i bodies operators numbers good lb lo ln s = (
-  s .count,
-  record {
-    good = good;
-    body = s .body;
-    operator = s .operator;
-    number = s .number;
-    bodies-long = omega (arith, count-limit (good .actions) f (good .formula));
-    operators-long = omega (arith, count-limit (good .actions) f (good .formula));
-    numbers-long = omega (arith, good .formula .few);
-  },
-)
+listing-last f i table good s = (s .count, record { good = good; link = s .link; kinds = s .kinds; body = s .body; operator = s .operator; long = s .long })

@@ -5,15 +5,14 @@ use player::Priority;
 use words::at;
 ghost use mathlib.Core.Path.{_≡_};
 ghost use mathlib.Core.Bool.{not};
-ghost use mathlib.Core.List.{[], _∷_};
 ghost use Prim.Native.Nat.{_≤_, _<_, max};
 ghost use lib.ListN.{length};
 ghost use lib.Dec.{eqb};
-ghost use Rattle.rules.specs.Lists.{word, one};
-ghost use Rattle.rules.specs.Table.{size, kind, formulaNode};
-ghost use Rattle.rules.specs.Formula.{isFixpoint, equationCount, formulaTree};
-ghost use Rattle.rules.specs.Depth.{references, reading, depth, byDepth};
-ghost use Rattle.modal_equation_system.specs.System.{formulaOnly, Good, Listed, bodyReading, Ranked};
+ghost use Rattle.rules.specs.Lists.{one};
+ghost use Rattle.rules.specs.Table.{size, formulaNode};
+ghost use Rattle.rules.specs.Formula.{isFixpoint, equationNumber, equationCount};
+ghost use Rattle.rules.specs.Depth.{depth, byDepth};
+ghost use Rattle.modal_equation_system.specs.System.{formulaOnly, Good, linkIn, kindIn, bodyIn, leastIn, withNode, withEquation, Link, Linked, Listed, ListedNode, ListedEquation, ReadsBody, ReadsEquation, Ranked};
 
 // 1 if a node is a fixpoint, else 0.
 pub fn fixpoints_at(formula: &[u32], node: usize) -> usize
@@ -31,34 +30,112 @@ pub fn fixpoints_at(formula: &[u32], node: usize) -> usize
     1
 }
 
-// Lists the equations: for each the first node of its body, and 1 if it is a least one; for each node the number of the equations before it.
-// Returns how many equations there are.
-pub fn list_equations(
-    formula: &[u32],
-    bodies: &mut [u32; 1025],
-    operators: &mut [u32; 1025],
-    numbers: &mut [u32; 1024],
-) -> usize
+// ---- the table of the equations: for each node its link and its kind, for each equation the first node of its body and 1 if it is a least one. It is one array
+// of fixed length, so that the readers below keep one pointer to all they read. These six functions alone index it; the links stand in front, where
+// whoever wants the equations of the fixpoints alone may read them.
+
+// The link of a node: the right operand of an and or an or, the equation that a fixpoint or a reference stands for.
+fn link_of(table: &[u32; 4098], node: usize) -> usize
+    requires { ⌜ node < 1024 ⌝ }
+    ensures { λ r. ⌜ r ≡ linkIn (now (table .entry)) node ⌝ }
+{
+    wide(table[node])
+}
+
+// The kind of a node.
+fn kind_of(table: &[u32; 4098], node: usize) -> u32
+    requires { ⌜ node < 1024 ⌝ }
+    ensures { λ r. ⌜ r ≡ kindIn (now (table .entry)) node ⌝ }
+{
+    table[1024 + node]
+}
+
+// The first node of an equation's body.
+pub fn body_of(table: &[u32; 4098], equation: usize) -> usize
+    requires { ⌜ equation < 1025 ⌝ }
+    ensures { λ r. ⌜ r ≡ bodyIn (now (table .entry)) equation ⌝ }
+{
+    wide(table[2048 + equation])
+}
+
+// 1 if an equation is a least one, else 0.
+pub fn operator_of(table: &[u32; 4098], equation: usize) -> u32
+    requires { ⌜ equation < 1025 ⌝ }
+    ensures { λ r. ⌜ r ≡ leastIn (now (table .entry)) equation ⌝ }
+{
+    table[3073 + equation]
+}
+
+// Writes the words of a node.
+fn put_node(table: &mut [u32; 4098], node: usize, link: u32, kind: u32)
+    requires { ⌜ node < 1024 ⌝ }
+    ensures { λ _. ⌜ now (table .exit) ≡ withNode (now (table .entry)) node link kind ⌝ }
+{
+    table[node] = link;
+    table[1024 + node] = kind;
+}
+
+// Writes the words of an equation.
+fn put_equation(table: &mut [u32; 4098], equation: usize, body: u32, least: u32)
+    requires { ⌜ equation < 1025 ⌝ }
+    ensures { λ _. ⌜ now (table .exit) ≡ withEquation (now (table .entry)) equation body least ⌝ }
+{
+    table[2048 + equation] = body;
+    table[3073 + equation] = least;
+}
+
+// A word as a usize.
+fn wide(x: u32) -> usize
+    ensures { λ r. ⌜ r ≡ x ⌝ }
+{
+    x as usize
+}
+
+// ---- listing
+
+// The link that a node gets once the earlier ones have theirs. `number` equations come before it.
+fn link_at(formula: &[u32], table: &[u32; 4098], node: usize, number: usize) -> u32
     requires { ⌜ Good (now formula) ⌝ }
-    requires { ⌜ (length (now bodies) ≡ 1025) × (length (now operators) ≡ 1025) × (length (now numbers) ≡ 1024) ⌝ }
+    requires { ⌜ (node < size (now formula)) × (number ≡ equationNumber (now formula) node) ⌝ }
+    requires { ⌜ Linked (now formula) node (now table) ⌝ }
+    ensures { λ r. ⌜ Link (now (formula .entry)) node r ⌝ }
+{
+    let k = kind_at(formula, node);
+    if k <= 1 {
+        return 0;
+    }
+    if k <= 3 {
+        return operand_at(formula, node) as u32;
+    }
+    if k <= 5 {
+        return 0;
+    }
+    if k <= 7 {
+        return number as u32;
+    }
+    let fixpoint = operand_at(formula, node);
+    link_of(table, fixpoint) as u32
+}
+
+// Lists the equations in the table. Returns how many there are.
+pub fn list_equations(formula: &[u32], table: &mut [u32; 4098]) -> usize
+    requires { ⌜ Good (now formula) ⌝ }
+    requires { ⌜ length (now table) ≡ 4098 ⌝ }
     ensures { λ r. ⌜ r ≡ equationCount (now (formula .entry)) ⌝ }
-    ensures { λ r. ⌜ Listed (now (formula .entry)) (now (bodies .exit)) (now (operators .exit)) (now (numbers .exit)) ⌝ }
-    ensures { λ _. ⌜ (length (now (bodies .exit)) ≡ 1025) × (length (now (operators .exit)) ≡ 1025) × (length (now (numbers .exit)) ≡ 1024) ⌝ }
+    ensures { λ _. ⌜ Listed (now (formula .entry)) (now (table .exit)) ⌝ }
 {
     let n = at(formula, 0);
     // the placeholder's entry stays only if node 0 is no fixpoint
-    bodies[0] = 0;
-    operators[0] = 1;
+    put_equation(table, 0, 0, 1);
     let mut i = 1 - fixpoints_at(formula, 0);
     let mut v: usize = 0;
     while v < n {
-        // the entry of v stays only if v is a fixpoint: else i is not moved past it
         let k = kind_at(formula, v);
-        let more = fixpoints_at(formula, v);
-        numbers[v] = i as u32;
-        bodies[i] = v as u32 + 1;
-        operators[i] = is(k, 6);
-        i += more;
+        let link = link_at(formula, table, v, i);
+        put_node(table, v, link, k as u32);
+        // the equation's entry stays only if v is a fixpoint: else i is not moved past it
+        put_equation(table, i, v as u32 + 1, is(k, 6));
+        i += fixpoints_at(formula, v);
         v += 1;
     }
     i
@@ -71,43 +148,17 @@ fn is(a: usize, b: usize) -> u32
     if a == b { 1 } else { 0 }
 }
 
+// ---- reading. The two readers are given the table and not the formula, which would be copied to the stack at each call: what they promise holds for
+// every formula that the table is of.
+
 // 1 if the operators of two equations differ, else 0.
-fn differing(operators: &[u32; 1025], i: usize, j: usize) -> u32
+fn differing(table: &[u32; 4098], i: usize, j: usize) -> u32
     requires { ⌜ (i < 1025) × (j < 1025) ⌝ }
-    ensures { λ r. ⌜ r ≡ one (not (eqb (word (now (operators .entry)) i) (word (now (operators .entry)) j))) ⌝ }
+    ensures { λ r. ⌜ (r ≡ one (not (eqb (leastIn (now (table .entry)) i) (leastIn (now (table .entry)) j)))) × (r ≤ 1) ⌝ }
 {
-    let a = operators[i];
-    let b = operators[j];
+    let a = operator_of(table, i);
+    let b = operator_of(table, j);
     if a == b { 0 } else { 1 }
-}
-
-// The equation that a fixpoint or a reference in a body stands for.
-fn referred(
-    formula: &[u32],
-    bodies: &[u32; 1025],
-    operators: &[u32; 1025],
-    numbers: &[u32; 1024],
-    node: usize,
-) -> usize
-    requires { ⌜ Listed (now formula) (now bodies) (now operators) (now numbers) ⌝ }
-    requires { ⌜ (node < size (now formula)) × (6 ≤ kind (now formula) node) ⌝ }
-    ensures { λ r. ⌜ references (formulaTree (formulaOnly (now (formula .entry))) node) ≡ r ∷ [] ⌝ }
-    ensures { λ r. ⌜ r < equationCount (now (formula .entry)) ⌝ }
-{
-    let k = kind_at(formula, node);
-    if k <= 7 {
-        wide(numbers[node])
-    } else {
-        let fixpoint = operand_at(formula, node);
-        wide(numbers[fixpoint])
-    }
-}
-
-// A word as a usize.
-fn wide(x: u32) -> usize
-    ensures { λ r. ⌜ r ≡ x ⌝ }
-{
-    x as usize
 }
 
 // The larger of two numbers.
@@ -118,110 +169,75 @@ fn larger(a: u32, b: u32) -> u32
 }
 
 // Reads the subformula of `node` for `target`, in the body of `equation`.
-fn read_body(
-    formula: &[u32],
-    bodies: &[u32; 1025],
-    operators: &[u32; 1025],
-    numbers: &[u32; 1024],
-    node: usize,
-    equation: usize,
-    target: usize,
-) -> u32
-    requires { ⌜ Listed (now formula) (now bodies) (now operators) (now numbers) ⌝ }
-    requires { ⌜ (node < size (now formula)) × (equation < equationCount (now formula)) ⌝ }
-    ensures { λ r. ⌜ r ≡ bodyReading (now (formula .entry)) target equation node ⌝ }
+fn read_body(table: &[u32; 4098], node: usize, equation: usize, target: usize) -> u32
+    requires { ⌜ ListedNode (now table) node equation ⌝ }
+    ensures { λ r. ⌜ ReadsBody (now (table .entry)) node equation target r ⌝ }
 {
-    let k = kind_at(formula, node);
+    let k = kind_of(table, node);
+    // First of all, and with nothing but a sum after the call: compiled, nested fixpoints are then a loop.
+    if 6 <= k {
+        let j = link_of(table, node);
+        if j == target {
+            return 1;
+        }
+        if j <= equation {
+            return 0;
+        }
+        let more = differing(table, equation, j);
+        let inner = read_equation(table, j, target);
+        return inner + more;
+    }
     if k <= 1 {
         return 0;
     }
     let next = node + 1;
-    if k <= 3 {
-        // read first, so that less is kept on the stack over the first call
-        let o = operand_at(formula, node);
-        let left = read_body(formula, bodies, operators, numbers, next, equation, target);
-        let right = read_body(formula, bodies, operators, numbers, o, equation, target);
-        return larger(left, right);
+    if 4 <= k {
+        return read_body(table, next, equation, target);
     }
-    if k <= 5 {
-        return read_body(formula, bodies, operators, numbers, next, equation, target);
-    }
-    let j = referred(formula, bodies, operators, numbers, node);
-    if j == target {
-        return 1;
-    }
-    if j <= equation {
-        return 0;
-    }
-    let inner = read_equation(formula, bodies, operators, numbers, j, target);
-    let more = differing(operators, equation, j);
-    inner + more
+    // read before the first call, so that less is kept over it
+    let o = link_of(table, node);
+    let left = read_body(table, next, equation, target);
+    let right = read_body(table, o, equation, target);
+    larger(left, right)
 }
 
 // Reads an equation for `target`.
-fn read_equation(
-    formula: &[u32],
-    bodies: &[u32; 1025],
-    operators: &[u32; 1025],
-    numbers: &[u32; 1024],
-    equation: usize,
-    target: usize,
-) -> u32
-    requires { ⌜ Listed (now formula) (now bodies) (now operators) (now numbers) ⌝ }
-    requires { ⌜ equation < equationCount (now formula) ⌝ }
-    ensures { λ r. ⌜ r ≡ reading (formulaOnly (now (formula .entry))) target equation ⌝ }
+fn read_equation(table: &[u32; 4098], equation: usize, target: usize) -> u32
+    requires { ⌜ ListedEquation (now table) equation ⌝ }
+    ensures { λ r. ⌜ ReadsEquation (now (table .entry)) equation target r ⌝ }
 {
-    let first = wide(bodies[equation]);
-    read_body(formula, bodies, operators, numbers, first, equation, target)
+    let first = body_of(table, equation);
+    read_body(table, first, equation, target)
 }
 
 // The alternation depth of an equation.
-pub fn alternation_depth(
-    formula: &[u32],
-    bodies: &[u32; 1025],
-    operators: &[u32; 1025],
-    numbers: &[u32; 1024],
-    equation: usize,
-) -> u32
-    requires { ⌜ Listed (now formula) (now bodies) (now operators) (now numbers) ⌝ }
+pub fn alternation_depth(formula: &[u32], table: &[u32; 4098], equation: usize) -> u32
+    requires { ⌜ Listed (now formula) (now table) ⌝ }
     requires { ⌜ equation < equationCount (now formula) ⌝ }
     ensures { λ r. ⌜ r ≡ depth (formulaOnly (now (formula .entry))) equation ⌝ }
 {
-    read_equation(formula, bodies, operators, numbers, equation, equation)
+    read_equation(table, equation, equation)
 }
 
 // The priority of an equation: its depth made even, plus 1 for a least equation.
-pub fn priority_of(
-    formula: &[u32],
-    bodies: &[u32; 1025],
-    operators: &[u32; 1025],
-    numbers: &[u32; 1024],
-    equation: usize,
-) -> Priority
-    requires { ⌜ Listed (now formula) (now bodies) (now operators) (now numbers) ⌝ }
+pub fn priority_of(formula: &[u32], table: &[u32; 4098], equation: usize) -> Priority
+    requires { ⌜ Listed (now formula) (now table) ⌝ }
     requires { ⌜ equation < equationCount (now formula) ⌝ }
     ensures { λ r. ⌜ r .0 ≡ byDepth (formulaOnly (now (formula .entry))) equation ⌝ }
 {
-    let d = alternation_depth(formula, bodies, operators, numbers, equation);
-    Priority(2 * (d / 2) + operators[equation])
+    let d = alternation_depth(formula, table, equation);
+    Priority(2 * (d / 2) + operator_of(table, equation))
 }
 
 // Lists the priorities of all equations at the front of a table, and leaves the rest of it as it is.
-pub fn list_priorities(
-    formula: &[u32],
-    bodies: &[u32; 1025],
-    operators: &[u32; 1025],
-    numbers: &[u32; 1024],
-    count: usize,
-    priorities: &mut [u32],
-)
-    requires { ⌜ Listed (now formula) (now bodies) (now operators) (now numbers) ⌝ }
+pub fn list_priorities(formula: &[u32], table: &[u32; 4098], count: usize, priorities: &mut [u32])
+    requires { ⌜ Listed (now formula) (now table) ⌝ }
     requires { ⌜ (count ≡ equationCount (now formula)) × (count ≤ length (now priorities)) ⌝ }
     ensures { λ _. ⌜ Ranked (now (formula .entry)) count (now (priorities .entry)) (now (priorities .exit)) ⌝ }
 {
     let mut i: usize = 0;
     while i < count {
-        let p = priority_of(formula, bodies, operators, numbers, i);
+        let p = priority_of(formula, table, i);
         priorities[i] = p.0;
         i += 1;
     }

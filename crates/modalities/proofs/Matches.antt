@@ -1,11 +1,12 @@
 -- The targets that transitions give: none, one, and some after others; all of a state's are its successors. Assumes nothing.
-use mathlib.Core.Path.{_≡_, refl, sym, ap, _∙_}
+use mathlib.Core.Path.{_≡_, refl, ap}
 use mathlib.Core.Bool.{Bool, true, false, cond}
 use mathlib.Core.List.{List, [], _∷_, _++_, map}
-use Prim.Native.Nat.{ℕ, _+_, _-_}
+use Prim.Native.Nat.{ℕ, zero, suc, _+_, _-_}
 use native.Mathlib.Omega.{arith}
 use lib.Dec.{eqb}
-use Rattle.rules.specs.Lists.{from, once}
+use borrow.Author.Tests.{ne-eqb}
+use Rattle.rules.specs.Lists.{word, one, from, once}
 use Rattle.rules.specs.Words.{Input}
 use Rattle.rules.specs.Labels.{multiset}
 use Rattle.rules.specs.System.{degree, transitionLabel, transitionTarget, firstTransition, transitions}
@@ -13,43 +14,61 @@ use Rattle.rules.specs.Actions.{Action, matches}
 use Rattle.rules.specs.Pairs.{matching, successors}
 use Rattle.lists.proofs.Inserts.{once-map}
 use Rattle.lists.proofs.Equalities.{number-equality}
-use Rattle.lists.proofs.Members.{map-append}
 use Rattle.pairs.specs.Slot.{keyOf}
-use Rattle.modalities.specs.Matched.{matchedKeys}
+use Rattle.modalities.specs.Matched.{Answered, matchedKeys, answeredKeys}
 
-matching-append : (ls : List ℕ) (a : Action) (ts us : List (ℕ × ℕ)) → matching ls a (ts ++ us) ≡ matching ls a ts ++ matching ls a us
-unfolding matching
-matching-append ls a [] us = refl
-matching-append ls a (t ∷ ts) us = go (matches (multiset ls (t .0)) a) (matching-append ls a ts us)
-  where
-    go : (b : Bool) → matching ls a (ts ++ us) ≡ matching ls a ts ++ matching ls a us
-        → cond b (t .1 ∷ matching ls a (ts ++ us)) (matching ls a (ts ++ us)) ≡ cond b (t .1 ∷ matching ls a ts) (matching ls a ts) ++ matching ls a us
-    go true e = ap (λ (l : List ℕ). t .1 ∷ l) e
-    go false e = e
+module _ (ss answers : List ℕ) (row item : ℕ) where
+  pub answered-none : answeredKeys ss answers row item [] ≡ []
+  unfolding answeredKeys
+  answered-none = refl
 
-module _ (ls ss : List ℕ) (a : Action) (item : ℕ) where
-  pub matched-none : matchedKeys ls ss a item [] ≡ []
-  unfolding matchedKeys matching
-  matched-none = refl
+  pub answered-append : (ts us : List ℕ) → answeredKeys ss answers row item (ts ++ us) ≡ answeredKeys ss answers row item ts ++ answeredKeys ss answers row item us
+  unfolding answeredKeys
+  answered-append [] us = refl
+  answered-append (t ∷ ts) us = go (eqb (word answers (row + transitionLabel ss t)) 1) (answered-append ts us)
+    where
+      keys : List ℕ → List ℕ
+      keys = answeredKeys ss answers row item
 
-  pub matched-append : (ts us : List ℕ) → matchedKeys ls ss a item (ts ++ us) ≡ matchedKeys ls ss a item ts ++ matchedKeys ls ss a item us
-  unfolding matchedKeys
-  matched-append ts us =
-      let pair : ℕ → ℕ × ℕ = λ t. (transitionLabel ss t, transitionTarget ss t) in
-      ap (λ (l : List (ℕ × ℕ)). map (λ t. keyOf t item) (matching ls a l)) (map-append pair ts us)
-      ∙ ap (map (λ t. keyOf t item)) (matching-append ls a (map pair ts) (map pair us))
-      ∙ map-append (λ t. keyOf t item) (matching ls a (map pair ts)) (matching ls a (map pair us))
+      go : (b : Bool) → keys (ts ++ us) ≡ keys ts ++ keys us
+          → cond b (keyOf (transitionTarget ss t) item ∷ keys (ts ++ us)) (keys (ts ++ us)) ≡ cond b (keyOf (transitionTarget ss t) item ∷ keys ts) (keys ts) ++ keys us
+      go true e = ap (λ (l : List ℕ). keyOf (transitionTarget ss t) item ∷ l) e
+      go false e = e
 
-  matched-one : (t : ℕ) → matches (multiset ls (transitionLabel ss t)) a ≡ true → matchedKeys ls ss a item (t ∷ []) ≡ keyOf (transitionTarget ss t) item ∷ []
-  unfolding matchedKeys matching
-  matched-one t e = rw e
+  -- one transition: the answer for its label says whether it gives a target
+  module _ (t label : ℕ) (e : label ≡ transitionLabel ss t) where
+    pub one-target : (target : ℕ) → word answers (row + label) ≡ 1 → target ≡ transitionTarget ss t → answeredKeys ss answers row item (t ∷ []) ≡ keyOf target item ∷ []
+    unfolding answeredKeys
+    one-target target y z = rw (z, ← e, y) refl
 
-  matched-not : (t : ℕ) → matches (multiset ls (transitionLabel ss t)) a ≡ false → matchedKeys ls ss a item (t ∷ []) ≡ []
-  unfolding matchedKeys matching
-  matched-not t e = rw e
+    pub no-target : ¬ (word answers (row + label) ≡ 1) → answeredKeys ss answers row item (t ∷ []) ≡ []
+    unfolding answeredKeys
+    no-target y = rw (← e, ne-eqb (word answers (row + label)) 1 y) refl
+
+tells : (r : Bool) (byte : ℕ) → byte ≡ one r → eqb byte 1 ≡ r
+tells true byte e = rw e refl
+tells false byte e = rw e refl
+
+-- right answers choose the transitions that match
+module _ (ls ss : List ℕ) (a : Action) (answers : List ℕ) (row item : ℕ) where
+  chosen : (n first : ℕ) → Answered ls ss a answers row first (first + n) → answeredKeys ss answers row item (from first n) ≡ matchedKeys ls ss a item (from first n)
+  unfolding answeredKeys matchedKeys matching from
+  chosen zero first k = refl
+  chosen (suc n) first k =
+      rw (tells (matches (multiset ls (transitionLabel ss first)) a) (word answers (row + transitionLabel ss first)) (k first (omega arith) (omega arith)))
+      (go (transitionTarget ss first) (matching ls a (map (λ t. (transitionLabel ss t, transitionTarget ss t)) (from (suc first) n))) (answeredKeys ss answers row item (from (suc first) n))
+      (matches (multiset ls (transitionLabel ss first)) a) (chosen n (suc first) (λ t p q. k t (omega arith) (omega arith))))
+    where
+      go : (u : ℕ) (us ks : List ℕ) (b : Bool) → ks ≡ map (λ t. keyOf t item) us → cond b (keyOf u item ∷ ks) ks ≡ map (λ t. keyOf t item) (cond b (u ∷ us) us)
+      go u us ks true e = ap (λ (l : List ℕ). keyOf u item ∷ l) e
+      go u us ks false e = e
+
+  pub answered-matched : (first end : ℕ) → Answered ls ss a answers row first end
+      → answeredKeys ss answers row item (from first (end - first)) ≡ matchedKeys ls ss a item (from first (end - first))
+  answered-matched first end k = chosen (end - first) first (λ t p q. k t p (omega arith))
 
 -- the keys of a state's successors: keys of one item are alike only for one state
-pub matched-all : (x : Input) (a : Action) (item s : ℕ)
+matched-all : (x : Input) (a : Action) (item s : ℕ)
     → once eqb (matchedKeys (x .labels) (x .system) a item (from (firstTransition (x .system) s) (degree (x .system) s))) ≡ map (λ t. keyOf t item) (successors x a s)
 unfolding matchedKeys successors transitions
 matched-all x a item s =
@@ -61,14 +80,3 @@ pub matched-state : (x : Input) (a : Action) (item s first end : ℕ) → first 
 matched-state x a item s first end e d =
     let z : end - first ≡ degree (x .system) s = omega arith in
     rw (z, e) (matched-all x a item s)
-
--- one transition: whether the action formula matches its label says whether it gives a target
-module _ (ls ss : List ℕ) (a : Action) (item t label : ℕ) (e : label ≡ transitionLabel ss t) (r : Bool) (q : r ≡ matches (multiset ls label) a) where
-  answered : matches (multiset ls (transitionLabel ss t)) a ≡ r
-  answered = ap (λ (l : ℕ). matches (multiset ls l) a) (sym e) ∙ sym q
-
-  pub one-target : (target : ℕ) → r ≡ true → target ≡ transitionTarget ss t → matchedKeys ls ss a item (t ∷ []) ≡ keyOf target item ∷ []
-  one-target target y z = rw z (matched-one ls ss a item t (answered ∙ y))
-
-  pub no-target : r ≡ false → matchedKeys ls ss a item (t ∷ []) ≡ []
-  no-target y = matched-not ls ss a item t (answered ∙ y)

@@ -6,32 +6,31 @@ use native.Mathlib.Omega.{arith}
 use lib.Dec.{eqb}
 use lib.ListN.{length}
 use Rattle.rules.specs.Lists.{from, once}
-use Rattle.rules.specs.Actions.{Action}
 use Rattle.lists.proofs.Ranges.{from-append, from-snoc}
 use Rattle.settling.specs.declared.Counters.{Counters}
 use Rattle.settling.specs.declared.Stepped.the-variants.{Room, Full}
 use Rattle.settling.specs.Made.{Marks, Ready, Made, TooMany, Marked, Turned}
 use Rattle.settling.proofs.Marking.{marked-none, made-first, turned-made, turned-marked, turned-many}
-use Rattle.modalities.specs.Matched.{matchedKeys}
-use Rattle.modalities.proofs.Matches.{matched-none, matched-append}
+use Rattle.modalities.specs.Matched.{answeredKeys}
+use Rattle.modalities.proofs.Matches.{answered-none, answered-append}
 
 -- the transitions from `first` up to t have given their targets, each once
-pub record Turning (ls ss : List ℕ) (a : Action) (v e item first end : ℕ) (w₀ : List ℕ) (c₀ : Counters) (w : List ℕ) (c : Counters) (t : ℕ) : Type 0 where
+pub record Turning (ss answers : List ℕ) (row v e item first end : ℕ) (w₀ : List ℕ) (c₀ : Counters) (w : List ℕ) (c : Counters) (t : ℕ) : Type 0 where
   pub since : first ≤ t
   pub until : t ≤ end
   pub same : length w ≡ length w₀
-  pub made : Made w₀ v e c₀ w c (once eqb (matchedKeys ls ss a item (from first (t - first))))
-  pub marked : Marked w v c (once eqb (matchedKeys ls ss a item (from first (t - first))))
+  pub made : Made w₀ v e c₀ w c (once eqb (answeredKeys ss answers row item (from first (t - first))))
+  pub marked : Marked w v c (once eqb (answeredKeys ss answers row item (from first (t - first))))
 
-module _ (ls ss : List ℕ) (a : Action) (v e item first end : ℕ) (w₀ : List ℕ) (c₀ : Counters) where
+module _ (ss answers : List ℕ) (row v e item first end : ℕ) (w₀ : List ℕ) (c₀ : Counters) where
   given : ℕ → List ℕ
-  given t = matchedKeys ls ss a item (from first (t - first))
+  given t = answeredKeys ss answers row item (from first (t - first))
 
   nothing : given first ≡ []
   unfolding given from
-  nothing = let z : first - first ≡ 0 = omega arith in rw z (matched-none ls ss a item)
+  nothing = let z : first - first ≡ 0 = omega arith in rw z (answered-none ss answers row item)
 
-  pub turning-start : first ≤ end → Ready w₀ v e c₀ → Marks w₀ v (c₀ .settled) → Turning ls ss a v e item first end w₀ c₀ w₀ c₀ first
+  pub turning-start : first ≤ end → Ready w₀ v e c₀ → Marks w₀ v (c₀ .settled) → Turning ss answers row v e item first end w₀ c₀ w₀ c₀ first
   unfolding given
   turning-start h r k =
       record {
@@ -42,48 +41,48 @@ module _ (ls ss : List ℕ) (a : Action) (v e item first end : ℕ) (w₀ : List
         marked = subst (λ (l : List ℕ). Marked w₀ v c₀ (once eqb l)) (sym nothing) (marked-none w₀ v c₀ k);
       }
 
-  module _ (w w′ : List ℕ) (c : Counters) (t : ℕ) (k : Turning ls ss a v e item first end w₀ c₀ w c t) (h : t < end) where
+  module _ (w w′ : List ℕ) (c : Counters) (t : ℕ) (k : Turning ss answers row v e item first end w₀ c₀ w c t) (h : t < end) where
     -- one transition more
-    more : given t ++ matchedKeys ls ss a item (t ∷ []) ≡ given (t + 1)
+    more : given t ++ answeredKeys ss answers row item (t ∷ []) ≡ given (t + 1)
     unfolding given
     more =
         let d : t + 1 - first ≡ suc (t - first) = omega (arith, k .since) in
         let y : first + (t - first) ≡ t = omega (arith, k .since) in
-        sym (matched-append ls ss a item (from first (t - first)) (t ∷ []))
-        ∙ ap (matchedKeys ls ss a item) (ap (λ (i : ℕ). from first (t - first) ++ (i ∷ [])) (sym y) ∙ sym (from-snoc first (t - first)) ∙ ap (from first) (sym d))
+        sym (answered-append ss answers row item (from first (t - first)) (t ∷ []))
+        ∙ ap (answeredKeys ss answers row item) (ap (λ (i : ℕ). from first (t - first) ++ (i ∷ [])) (sym y) ∙ sym (from-snoc first (t - first)) ∙ ap (from first) (sym d))
 
     -- and all those after it
-    rest : given (t + 1) ++ matchedKeys ls ss a item (from (t + 1) (end - (t + 1))) ≡ given end
+    rest : given (t + 1) ++ answeredKeys ss answers row item (from (t + 1) (end - (t + 1))) ≡ given end
     unfolding given
     rest =
         let d : t + 1 - first + (end - (t + 1)) ≡ end - first = omega (arith, k .since) in
         let y : first + (t + 1 - first) ≡ t + 1 = omega (arith, k .since) in
-        sym (matched-append ls ss a item (from first (t + 1 - first)) (from (t + 1) (end - (t + 1))))
-        ∙ ap (matchedKeys ls ss a item)
+        sym (answered-append ss answers row item (from first (t + 1 - first)) (from (t + 1) (end - (t + 1))))
+        ∙ ap (answeredKeys ss answers row item)
         (ap (λ (i : ℕ). from first (t + 1 - first) ++ from i (end - (t + 1))) (sym y) ∙ sym (from-append first (t + 1 - first) (end - (t + 1))) ∙ ap (from first) d)
 
-    pub turning-on : (c′ : Counters) → length w′ ≡ length w → Turned w v e c (once eqb (matchedKeys ls ss a item (from first (t - first)))) (matchedKeys ls ss a item (t ∷ [])) w′ (Room c′)
-        → Turning ls ss a v e item first end w₀ c₀ w′ c′ (t + 1)
+    pub turning-on : (c′ : Counters) → length w′ ≡ length w → Turned w v e c (once eqb (answeredKeys ss answers row item (from first (t - first)))) (answeredKeys ss answers row item (t ∷ [])) w′ (Room c′)
+        → Turning ss answers row v e item first end w₀ c₀ w′ c′ (t + 1)
     unfolding given
     turning-on c′ l b =
         record {
           since = omega (arith, k .since);
           until = omega arith;
           same = l ∙ k .same;
-          made = subst (λ (l : List ℕ). Made w₀ v e c₀ w′ c′ (once eqb l)) more (turned-made v e w₀ c₀ w w′ c (given t) (matchedKeys ls ss a item (t ∷ [])) (k .made) c′ b);
-          marked = subst (λ (l : List ℕ). Marked w′ v c′ (once eqb l)) more (turned-marked v e w₀ c₀ w w′ c (given t) (matchedKeys ls ss a item (t ∷ [])) (k .made) c′ b);
+          made = subst (λ (l : List ℕ). Made w₀ v e c₀ w′ c′ (once eqb l)) more (turned-made v e w₀ c₀ w w′ c (given t) (answeredKeys ss answers row item (t ∷ [])) (k .made) c′ b);
+          marked = subst (λ (l : List ℕ). Marked w′ v c′ (once eqb l)) more (turned-marked v e w₀ c₀ w w′ c (given t) (answeredKeys ss answers row item (t ∷ [])) (k .made) c′ b);
         }
 
-    pub turning-many : Turned w v e c (once eqb (matchedKeys ls ss a item (from first (t - first)))) (matchedKeys ls ss a item (t ∷ [])) w′ Full
-        → TooMany w₀ v e c₀ (once eqb (matchedKeys ls ss a item (from first (end - first))))
+    pub turning-many : Turned w v e c (once eqb (answeredKeys ss answers row item (from first (t - first)))) (answeredKeys ss answers row item (t ∷ [])) w′ Full
+        → TooMany w₀ v e c₀ (once eqb (answeredKeys ss answers row item (from first (end - first))))
     unfolding given
     turning-many b =
-        let later = matchedKeys ls ss a item (from (t + 1) (end - (t + 1))) in
+        let later = answeredKeys ss answers row item (from (t + 1) (end - (t + 1))) in
         subst (λ (l : List ℕ). TooMany w₀ v e c₀ (once eqb l)) (ap (λ (l : List ℕ). l ++ later) more ∙ rest)
-        (turned-many v e w₀ c₀ w w′ c (given t) (matchedKeys ls ss a item (t ∷ [])) (k .made) later b)
+        (turned-many v e w₀ c₀ w w′ c (given t) (answeredKeys ss answers row item (t ∷ [])) (k .made) later b)
 
-  pub turning-end : (w : List ℕ) (c : Counters) (t : ℕ) → Turning ls ss a v e item first end w₀ c₀ w c t → end ≤ t
-      → Made w₀ v e c₀ w c (once eqb (matchedKeys ls ss a item (from first (end - first))))
+  pub turning-end : (w : List ℕ) (c : Counters) (t : ℕ) → Turning ss answers row v e item first end w₀ c₀ w c t → end ≤ t
+      → Made w₀ v e c₀ w c (once eqb (answeredKeys ss answers row item (from first (end - first))))
   turning-end w c t k h =
       let z : t ≡ end = omega (arith, k .until) in
-      subst (λ (y : ℕ). Made w₀ v e c₀ w c (once eqb (matchedKeys ls ss a item (from first (y - first))))) z (k .made)
+      subst (λ (y : ℕ). Made w₀ v e c₀ w c (once eqb (answeredKeys ss answers row item (from first (y - first))))) z (k .made)

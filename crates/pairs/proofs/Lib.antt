@@ -1,7 +1,8 @@
 pub mod Bytes
 pub mod Wrap
 pub mod Parts
-pub mod Chain
+pub mod Slots
+pub mod Search
 pub mod OneMore
 pub mod Begin
 pub mod Uses

@@ -4,7 +4,7 @@ use mathlib.Core.List.{List, [], _∷_}
 use mathlib.Core.Logic.{⊎-elim}
 use Prim.Native.Nat.{ℕ, _+_, _*_, _/_, _%_, _<_}
 use native.Mathlib.Omega.{arith}
-use lib.Dec.{eqb}
+use lib.Dec.{eqb, lit<}
 use lib.ListN.{length, length-append}
 use Rattle.player.specs.declared.VertexIndex.{VertexIndex}
 use Rattle.rules.specs.Lists.{word, In, place, insert}
@@ -17,8 +17,8 @@ use Rattle.pairs.specs.declared.Numbered.the-variants.{Vertex, NoRoom}
 use Rattle.pairs.specs.Slot.{keyOf}
 use Rattle.pairs.specs.Table.{keyAt, keysOf, Table}
 use Rattle.pairs.specs.Answers.{Numbers, Full, Numbering}
-use Rattle.pairs.proofs.Chain.{length-keysIn, getD-keysIn}
-use Rattle.pairs.proofs.Parts.{heads-kept, entries-kept}
+use Rattle.pairs.proofs.Slots.{length-keysIn, getD-keysIn}
+use Rattle.pairs.proofs.Parts.{slots-kept}
 
 -- ---- a key says its pair
 
@@ -40,21 +40,21 @@ key-item-below k = omega arith
 -- ---- the words of the first four regions hold the table
 
 pub keys-kept : (w w′ : List ℕ) (v n : ℕ) → ((r : ℕ) → r < 4 → region r v w′ ≡ region r v w) → keysOf w′ v n ≡ keysOf w v n
-keys-kept w w′ v n e = rw (entries-kept w w′ v e)
+keys-kept w w′ v n e = rw (e 3 (lit< tt))
 
 pub table-kept : (w w′ : List ℕ) (v n : ℕ) → ((r : ℕ) → r < 4 → region r v w′ ≡ region r v w) → Table w v n → Table w′ v n
 table-kept w w′ v n e t =
     record {
-      chains = rw (heads-kept w w′ v e, entries-kept w w′ v e) (t .chains);
-      small = rw (entries-kept w w′ v e) (t .small);
+      slots = rw (slots-kept w w′ v e, e 3 (lit< tt)) (t .slots);
+      small = rw (e 3 (lit< tt)) (t .small);
     }
 
 pub length-keys : (w : List ℕ) (v n : ℕ) → length (keysOf w v n) ≡ n
-length-keys w v n = length-keysIn (region 1 (2 * v) w) n
+length-keys w v n = length-keysIn (region 3 v w) n
 
 -- the key of vertex i
 pub key-word : (w : List ℕ) (v n i : ℕ) → i < n → word (keysOf w v n) i ≡ keyAt w v i
-key-word w v n i h = getD-keysIn (region 1 (2 * v) w) n i h
+key-word w v n i h = getD-keysIn (region 3 v w) n i h
 
 -- ---- which answer it was
 
@@ -87,4 +87,4 @@ module _ (w w′ : List ℕ) (v n k i m : ℕ) (p : Numbers w w′ v n k i m) wh
   more-count d h = d (known-old h)
 
   pub room-new : (¬ In k (keysOf w v n)) → n < v
-  room-new h = omega (arith, known-new h, p .table .chains .room)
+  room-new h = omega (arith, known-new h, p .table .slots .room)

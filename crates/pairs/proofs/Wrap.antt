@@ -1,7 +1,7 @@
 -- A product modulo 2^32 is a wrapping sum of the byte multiples, and a slot is below the room. Assumes nothing.
 use mathlib.Core.Path.{_≡_, sym, _∙_, ap}
 use Prim.Native.Nat.{ℕ, _+_, _*_, _/_, _%_, _<_}
-use native.Mathlib.Nat.{mod-add-div, mod-add-mod, add-mod-mod, add-mul-mod-self-left, add-mul, mul-assoc, mod-lt, mul-lt-mul-of-pos-right, mul-le-mul-left, lt-of-le-of-lt, le-of-lt, div-lt-iff-lt-mul, mul-comm}
+use native.Mathlib.Nat.{mod-add-div, mod-add-mod, add-mod-mod, add-mul-mod-self-left, add-mul, mul-assoc, mod-lt, mul-lt-mul-of-pos-right, div-lt-iff-lt-mul, mul-comm}
 use native.Mathlib.Omega.{arith}
 use Rattle.pairs.specs.Slot.{keyOf, slotOf}
 
@@ -32,14 +32,6 @@ key-product s q =
 pub below-room : (p v : ℕ) → p < 4294967296 → 0 < v → p * v / 4294967296 < v
 below-room p v hp hv =
     div-lt-iff-lt-mul {k = 4294967296} {x = p * v} {y = v} (omega arith) .1 (rw (mul-comm v 4294967296) (mul-lt-mul-of-pos-right hp hv))
-
-pub wide : (p v : ℕ) → p < 4294967296 → v < 4294967296 → p * v < 18446744073709551616
-wide p v hp hv = lt-of-le-of-lt (mul-le-mul-left p (le-of-lt hv)) (mul-lt-mul-of-pos-right {k = 4294967296} hp (omega arith))
-
--- p below 2^32 scaled to v of at most 32 bits still fits them
-pub scaled-fits : (p v : ℕ) → p < 4294967296 → v < 4294967296 → p * v / 4294967296 < 4294967296
-scaled-fits p v hp hv =
-    div-lt-iff-lt-mul {k = 4294967296} {x = p * v} {y = 4294967296} (omega arith) .1 (wide p v hp hv)
 
 pub slot-below : (k v : ℕ) → 0 < v → slotOf k v < v
 unfolding slotOf

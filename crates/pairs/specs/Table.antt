@@ -1,26 +1,40 @@
--- The known pairs, in the first four regions of the work words, which are read as two parts of 2v words: the heads, one for each of 2v slots, and the entries, two words for each
--- vertex i: its key, word 2i, and its link, word 2i + 1. A head or a link is 0, or a vertex and 1. Assumes nothing: these are definitions.
+-- The known pairs, in the first four regions of the work words. The first three hold the slots, two words each: a key, and the vertex for which it stands and 1, or 0 in an empty
+-- slot. There is half as much again of them as of vertices, so that some are always empty and a search is short. The fourth region has the key of each vertex. Assumes nothing:
+-- these are definitions.
 use mathlib.Core.Path.{_≡_}
+use mathlib.Core.Bool.{Bool}
 use mathlib.Core.List.{List, [], _∷_, _++_}
 use Prim.Native.Nat.{ℕ, zero, suc, _+_, _-_, _*_, _/_, _%_, _≤_, _<_}
+use lib.Dec.{ltb}
 use lib.ListN.{length, drop}
-use Rattle.rules.specs.Lists.{word, Distinct}
+use Rattle.rules.specs.Lists.{word, tally, Distinct}
 use Rattle.words.specs.Regions.{region}
 use Rattle.pairs.specs.Slot.{slotOf}
 
--- the key and the link of vertex i, by the entries
+-- ---- the words
+
+-- how many slots there are
+abbrev pub slotCount : ℕ → ℕ
+slotCount v = v + v / 2
+
+-- the words of the slots
+abbrev pub slotsOf : List ℕ → ℕ → List ℕ
+slotsOf w v = region 0 (3 * v) w
+
+-- what slot p has: a key, and what it holds, which is 0 or a vertex and 1
 abbrev pub keyIn : List ℕ → ℕ → ℕ
-keyIn entries i = word entries (2 * i)
+keyIn slots p = word slots (2 * p)
 
-abbrev pub linkIn : List ℕ → ℕ → ℕ
-linkIn entries i = word entries (2 * i + 1)
+abbrev pub heldIn : List ℕ → ℕ → ℕ
+heldIn slots p = word slots (2 * p + 1)
 
--- the same by the words
+-- slot p holds a vertex
+abbrev pub taken : List ℕ → ℕ → Bool
+taken slots p = ltb 0 (heldIn slots p)
+
+-- the key of vertex i
 abbrev pub keyAt : List ℕ → ℕ → ℕ → ℕ
-keyAt w v i = keyIn (region 1 (2 * v) w) i
-
-abbrev pub linkAt : List ℕ → ℕ → ℕ → ℕ
-linkAt w v i = linkIn (region 1 (2 * v) w) i
+keyAt w v i = word (region 3 v w) i
 
 -- the state and the item of vertex i, as its key shows them
 abbrev pub stateAt : List ℕ → ℕ → ℕ → ℕ
@@ -31,40 +45,51 @@ itemAt w v i = keyAt w v i % 2048
 
 -- the keys of the first n vertices
 unfoldable pub keysIn : List ℕ → ℕ → List ℕ
-keysIn entries zero = []
-keysIn entries (suc n) = keysIn entries n ++ (keyIn entries n ∷ [])
+keysIn keys zero = []
+keysIn keys (suc n) = keysIn keys n ++ (word keys n ∷ [])
 
 abbrev pub keysOf : List ℕ → ℕ → ℕ → List ℕ
-keysOf w v n = keysIn (region 1 (2 * v) w) n
+keysOf w v n = keysIn (region 3 v w) n
 
--- the slot of vertex i, by its key
-abbrev pub slotAt : List ℕ → ℕ → ℕ → ℕ
-slotAt ks v i = slotOf (word ks i) (2 * v)
+-- ---- what they say
 
--- l is 1 more than the last of the first n vertices that is in slot s, or 0 if none is
-pub record Last (ks : List ℕ) (v n s l : ℕ) : Type 0 where
-  pub before : l ≤ n
-  pub same : 0 < l → slotAt ks v (l - 1) ≡ s
-  pub last : (j : ℕ) → j < n → slotAt ks v j ≡ s → j < l
+-- Of so many slots, all that a search from slot h upwards passes before it comes to slot p are taken. After the last slot it goes on from slot 0
+pub record Path (slots : List ℕ) (size h p : ℕ) : Type 0 where
+  pub within : p < size
+  pub up : (q : ℕ) → h ≤ q → q < p → 0 < heldIn slots q
+  pub on : p < h → (q : ℕ) → h ≤ q → q < size → 0 < heldIn slots q
+  pub again : p < h → (q : ℕ) → q < p → 0 < heldIn slots q
 
--- each slot's head is its last vertex, and each vertex's link the last one of its slot before it
-pub record Chains (heads entries ks : List ℕ) (v n : ℕ) : Type 0 where
-  pub count : length ks ≡ n
+-- vertex i stands in a slot that a search from slot h comes to
+pub record Reached (slots : List ℕ) (size h i : ℕ) : Type 0 where
+  pub slot : ℕ
+  pub path : Path slots size h slot
+  pub holds : heldIn slots slot ≡ i + 1
+
+-- slot p, if it is taken, holds one of the first n vertices, beside its key
+pub record Holding (slots keys : List ℕ) (n p : ℕ) : Type 0 where
+  pub known : heldIn slots p ≤ n
+  pub key : keyIn slots p ≡ word keys (heldIn slots p - 1)
+
+-- the slots hold n vertices with these keys, which are distinct: each is reached from the slot of its key, and no other slot is taken
+pub record Slots (slots keys : List ℕ) (v n : ℕ) : Type 0 where
   pub room : n ≤ v
-  pub distinct : Distinct ks
-  pub head : (s : ℕ) → s < 2 * v → Last ks v n s (word heads s)
-  pub link : (i : ℕ) → i < n → Last ks v i (slotAt ks v i) (linkIn entries i)
+  pub distinct : Distinct keys
+  pub vertex : (i : ℕ) → i < n → Reached slots (slotCount v) (slotOf (word keys i) (slotCount v)) i
+  pub holding : (p : ℕ) → p < slotCount v → 0 < heldIn slots p → Holding slots keys n p
+  pub count : tally (taken slots) 0 (slotCount v) ≡ n
 
 -- the words hold n known pairs, whose keys are within the limits: a state is below 65,535
 pub record Table (w : List ℕ) (v n : ℕ) : Type 0 where
-  pub chains : Chains (region 0 (2 * v) w) (region 1 (2 * v) w) (keysOf w v n) v n
+  pub slots : Slots (slotsOf w v) (keysOf w v n) v n
   pub small : (i : ℕ) → i < n → keyAt w v i < 65535 * 2048
 
--- word i of part r, 0 the heads and 1 the entries, is a word of the first four regions of eight, which stand in a slice of this size
-pub record InPart (v r i size : ℕ) : Type 0 where
+-- ---- what calls ask and do
+
+-- word i of the slots is a word of the first three regions of eight, which stand in a slice of this size
+pub record InSlots (v i size : ℕ) : Type 0 where
   pub whole : 8 * v ≤ size
-  pub part : r < 2
-  pub word : i < 2 * v
+  pub word : i < 3 * v
 
 -- what a call asks that looks a pair up
 pub record Asks (w : List ℕ) (v n state item : ℕ) : Type 0 where
@@ -75,7 +100,7 @@ pub record Asks (w : List ℕ) (v n state item : ℕ) : Type 0 where
   pub item-fits : item < 2048
   pub table : Table w v n
 
--- the words w′ hold no pair, and are as w behind the heads
+-- the words w′ hold no pair, and are as w behind the slots
 pub record Started (w w′ : List ℕ) (v : ℕ) : Type 0 where
   pub table : Table w′ v 0
-  pub rest : drop (2 * v) w′ ≡ drop (2 * v) w
+  pub rest : drop (3 * v) w′ ≡ drop (3 * v) w

@@ -1,13 +1,15 @@
 // The table of known pairs in the lent work slice: looking a pair up, and numbering it.
 use player::VertexIndex;
+use words::put_word;
+use words::region_word;
 ghost use mathlib.Core.Path.{_≡_};
-ghost use Prim.Native.Nat.{_*_, _≤_, _<_, _%_, _^_};
+ghost use Prim.Native.Nat.{_+_, _*_, _≤_, _<_, _%_, _^_};
 ghost use lib.ListN.{length};
 ghost use Rattle.rules.specs.Lists.{word};
-ghost use Rattle.words.specs.Regions.{region, putWord};
-ghost use Rattle.pairs.specs.Slot.{keyOf, slotOf, Multiples};
-ghost use Rattle.pairs.specs.Table.{keyAt, linkAt, stateAt, itemAt, keysOf, InPart, Asks, Started};
-ghost use Rattle.pairs.specs.Answers.{foundIn, Numbering};
+ghost use Rattle.words.specs.Regions.{putWord};
+ghost use Rattle.pairs.specs.Slot.{keyOf, slotOf, Multiples, Scaled};
+ghost use Rattle.pairs.specs.Table.{slotCount, slotsOf, keyIn, heldIn, keyAt, stateAt, itemAt, InSlots, Asks, Started};
+ghost use Rattle.pairs.specs.Answers.{Probed, Finding, Numbering};
 
 // Each byte times 2,654,435,761, with everything above 32 bits dropped.
 const MULTIPLES: [u32; 256] = [
@@ -285,7 +287,7 @@ fn multiple(multiples: &[u32; 256], b: usize) -> u32
 }
 
 // x times 2,654,435,761, with everything above 32 bits dropped: a wrapping sum of the multiples of its two bytes.
-fn product(multiples: &[u32; 256], x: u32) -> u32
+pub fn product(multiples: &[u32; 256], x: u32) -> u32
     requires { ⌜ Multiples (now multiples) ⌝ }
     requires { ⌜ x < 65536 ⌝ }
     ensures { λ r. ⌜ r ≡ x * 2654435761 % 2 ^ 32 ⌝ }
@@ -295,27 +297,26 @@ fn product(multiples: &[u32; 256], x: u32) -> u32
     std::num::wrapping_add_u32(low, high)
 }
 
-// The slot from which the chain of a pair starts, where there are v slots. The product of the key is that of the state, times 2,048, and that of the item; the item's is the same for
-// all targets of a modality.
-pub fn slot_of(multiples: &[u32; 256], state: u32, item: u32, v: u32) -> u32
-    requires { ⌜ Multiples (now multiples) ⌝ }
+// The slot from which the search for a pair starts, where there are v slots. The product of the key is that of the state, times 2,048, and that of the item, which is handed
+// over: it is the same for all targets of a modality.
+fn slot_of(multiples: &[u32; 256], state: u32, item: u32, scaled: u32, v: u32) -> u32
+    requires { ⌜ Scaled (now multiples) item scaled ⌝ }
     requires { ⌜ (state < 65535) × (item < 2048) ⌝ }
     ensures { λ r. ⌜ r ≡ slotOf (keyOf state item) v ⌝ }
 {
-    let by_item = product(multiples, item);
     let by_state = product(multiples, state) << 11;
-    let p = std::num::wrapping_add_u32(by_state, by_item);
+    let p = std::num::wrapping_add_u32(by_state, scaled);
     ((p as u64) * (v as u64) / 4294967296) as u32
 }
 
-// The parts of the table, each of 2v words: a head for each slot, and for each vertex its key and its link, side by side so that one look at memory shows both.
-const HEADS: u32 = 0;
+// The region that has the key of each vertex.
+const KEYS: u32 = 3;
 
-const ENTRIES: u32 = 1;
-
-pub enum Found {
-    At(VertexIndex),
-    Nothing,
+// Where a pair stands: the vertex that it has, or the empty slot that is for it, or nowhere, because no slot is empty.
+pub enum Place {
+    Known(VertexIndex),
+    Free(usize),
+    Nowhere,
 }
 
 pub enum Numbered {
@@ -323,40 +324,40 @@ pub enum Numbered {
     NoRoom,
 }
 
-// ---- the words of the table: only these two functions index them
+// ---- the words of the slots: only these two functions index them
 
-// Word i of a part.
-fn part_word(work: &[u32], v: u32, part: u32, i: usize) -> u32
-    requires { ⌜ InPart v part i (length (now work)) ⌝ }
-    ensures { λ r. ⌜ r ≡ word (region part (2 * v) (now (work .entry))) i ⌝ }
+// Word i of the slots.
+fn slot_word(work: &[u32], v: u32, i: usize) -> u32
+    requires { ⌜ InSlots v i (length (now work)) ⌝ }
+    ensures { λ r. ⌜ r ≡ word (slotsOf (now (work .entry)) v) i ⌝ }
 {
-    work[(part as usize) * (2 * (v as usize)) + i]
+    work[i]
 }
 
-// Word i of a part becomes x.
-fn put_part_word(work: &mut [u32], v: u32, part: u32, i: usize, x: u32)
-    requires { ⌜ InPart v part i (length (now work)) ⌝ }
-    ensures { λ _. ⌜ now (work .exit) ≡ putWord part (2 * v) i x (now (work .entry)) ⌝ }
+// Word i of the slots becomes x.
+fn put_slot_word(work: &mut [u32], v: u32, i: usize, x: u32)
+    requires { ⌜ InSlots v i (length (now work)) ⌝ }
+    ensures { λ _. ⌜ now (work .exit) ≡ putWord 0 (3 * v) i x (now (work .entry)) ⌝ }
 {
-    work[(part as usize) * (2 * (v as usize)) + i] = x;
+    work[i] = x;
 }
 
-// ---- one vertex
+// ---- one slot, one vertex
 
-// The key of a vertex.
-fn key_at(work: &[u32], v: u32, i: u32) -> u32
-    requires { ⌜ (8 * v ≤ length (now work)) × (i < v) ⌝ }
-    ensures { λ r. ⌜ r ≡ keyAt (now (work .entry)) v i ⌝ }
+// The key in slot p.
+fn key_in(work: &[u32], v: u32, p: usize) -> u32
+    requires { ⌜ (8 * v ≤ length (now work)) × (p < slotCount v) ⌝ }
+    ensures { λ r. ⌜ r ≡ keyIn (slotsOf (now (work .entry)) v) p ⌝ }
 {
-    part_word(work, v, ENTRIES, 2 * (i as usize))
+    slot_word(work, v, 2 * p)
 }
 
-// The link of a vertex.
-fn link_at(work: &[u32], v: u32, i: u32) -> u32
-    requires { ⌜ (8 * v ≤ length (now work)) × (i < v) ⌝ }
-    ensures { λ r. ⌜ r ≡ linkAt (now (work .entry)) v i ⌝ }
+// What slot p holds: 0, or a vertex and 1.
+fn held_in(work: &[u32], v: u32, p: usize) -> u32
+    requires { ⌜ (8 * v ≤ length (now work)) × (p < slotCount v) ⌝ }
+    ensures { λ r. ⌜ r ≡ heldIn (slotsOf (now (work .entry)) v) p ⌝ }
 {
-    part_word(work, v, ENTRIES, 2 * (i as usize) + 1)
+    slot_word(work, v, 2 * p + 1)
 }
 
 // The state of a vertex's pair.
@@ -364,7 +365,7 @@ pub fn state_of(work: &[u32], v: u32, i: u32) -> u32
     requires { ⌜ (8 * v ≤ length (now work)) × (i < v) ⌝ }
     ensures { λ r. ⌜ r ≡ stateAt (now (work .entry)) v i ⌝ }
 {
-    key_at(work, v, i) / 2048
+    region_word(work, v, KEYS, i) / 2048
 }
 
 // The item of a vertex's pair.
@@ -372,35 +373,52 @@ pub fn item_of(work: &[u32], v: u32, i: u32) -> u32
     requires { ⌜ (8 * v ≤ length (now work)) × (i < v) ⌝ }
     ensures { λ r. ⌜ r ≡ itemAt (now (work .entry)) v i ⌝ }
 {
-    key_at(work, v, i) % 2048
+    region_word(work, v, KEYS, i) % 2048
 }
 
-// ---- all vertices
+// ---- all slots
 
-// The vertex that stands for a pair, by the chain of the pair's slot.
-pub fn find(
+// Goes along the slots from `from` up to `end` until one has the key or is empty.
+fn probe(work: &[u32], v: u32, key: u32, from: usize, end: usize) -> Place
+    requires { ⌜ (8 * v ≤ length (now work)) × (end ≤ slotCount v) ⌝ }
+    ensures { λ r. ⌜ Probed (slotsOf (now (work .entry)) v) from end key r ⌝ }
+{
+    let mut p = from;
+    while p < end {
+        let held = held_in(work, v, p);
+        if held == 0 {
+            return Place::Free(p);
+        }
+        if key_in(work, v, p) == key {
+            return Place::Known(VertexIndex(held - 1));
+        }
+        p += 1;
+    }
+    Place::Nowhere
+}
+
+// Where a pair stands, searched from the slot of its key up to the last, and then from the first.
+fn find(
     multiples: &[u32; 256],
     work: &[u32],
     v: u32,
     known: u32,
     state: u32,
     item: u32,
-) -> Found
-    requires { ⌜ Multiples (now multiples) ⌝ }
+    scaled: u32,
+) -> Place
+    requires { ⌜ Scaled (now multiples) item scaled ⌝ }
     requires { ⌜ Asks (now work) v known state item ⌝ }
-    ensures { λ r. ⌜ r ≡ foundIn (keyOf state item) (keysOf (now (work .entry)) v known) ⌝ }
+    ensures { λ r. ⌜ Finding (now (work .entry)) v known (keyOf state item) r ⌝ }
 {
     let key = state * 2048 + item;
-    let slot = slot_of(multiples, state, item, 2 * v) as usize;
-    let mut link = part_word(work, v, HEADS, slot);
-    while link != 0 {
-        let vertex = link - 1;
-        if key_at(work, v, vertex) == key {
-            return Found::At(VertexIndex(vertex));
-        }
-        link = link_at(work, v, vertex);
+    let slots = v + v / 2;
+    let home = slot_of(multiples, state, item, scaled, slots) as usize;
+    match probe(work, v, key, home, slots as usize) {
+        Place::Known(vertex) => Place::Known(vertex),
+        Place::Free(slot) => Place::Free(slot),
+        Place::Nowhere => probe(work, v, key, 0, home),
     }
-    Found::Nothing
 }
 
 // The vertex that stands for a pair, which is numbered first if it is new.
@@ -411,40 +429,40 @@ pub fn number(
     known: u32,
     state: u32,
     item: u32,
+    scaled: u32,
 ) -> Numbered
-    requires { ⌜ Multiples (now multiples) ⌝ }
+    requires { ⌜ Scaled (now multiples) item scaled ⌝ }
     requires { ⌜ Asks (now work) v known state item ⌝ }
     ensures { λ r. ⌜ Numbering (now (work .entry)) (now (work .exit)) v known (keyOf state item) r ⌝ }
 {
-    match find(multiples, work, v, known, state, item) {
-        Found::At(vertex) => Numbered::Vertex { vertex, known },
-        Found::Nothing => {
+    match find(multiples, work, v, known, state, item, scaled) {
+        Place::Known(vertex) => Numbered::Vertex { vertex, known },
+        Place::Free(slot) => {
             if known == v {
                 return Numbered::NoRoom;
             }
-            let slot = slot_of(multiples, state, item, 2 * v) as usize;
-            let head = part_word(work, v, HEADS, slot);
-            let entry = 2 * (known as usize);
-            put_part_word(work, v, ENTRIES, entry, state * 2048 + item);
-            put_part_word(work, v, ENTRIES, entry + 1, head);
-            put_part_word(work, v, HEADS, slot, known + 1);
+            let key = state * 2048 + item;
+            put_slot_word(work, v, 2 * slot, key);
+            put_slot_word(work, v, 2 * slot + 1, known + 1);
+            put_word(work, v, KEYS, known, key);
             Numbered::Vertex {
                 vertex: VertexIndex(known),
                 known: known + 1,
             }
         }
+        Place::Nowhere => Numbered::NoRoom,
     }
 }
 
-// An empty table, whatever the words hold: every slot's head becomes 0.
+// An empty table, whatever the words hold: every word of the slots becomes 0.
 pub fn start(work: &mut [u32], v: u32)
     requires { ⌜ (v ≤ 1048576) × (8 * v ≤ length (now work)) ⌝ }
     ensures { λ _. ⌜ Started (now (work .entry)) (now (work .exit)) v ⌝ }
 {
-    let slots = 2 * (v as usize);
+    let end = 3 * (v as usize);
     let mut i = 0;
-    while i < slots {
-        put_part_word(work, v, HEADS, i, 0);
+    while i < end {
+        put_slot_word(work, v, i, 0);
         i += 1;
     }
 }

@@ -8,11 +8,11 @@ use Rattle.rules.specs.Game.{Vertex, edgeCount, offsets, edgeTargets, gameOf, p
 use Rattle.words.specs.Stretches.{Wrote}
 
 -- the header
-pub three : (a b c : ℕ) (out : List ℕ) → 3 ≤ length out → take 3 (set (set (set out 0 a) 1 b) 2 c) ≡ a ∷ b ∷ c ∷ []
+pub three : (a b c : ℕ) (out : List ℕ) → 3 ≤ length out → Wrote 0 (a ∷ b ∷ c ∷ []) out (set (set (set out 0 a) 1 b) 2 c) 3
 three a b c [] h = absurd (omega arith)
 three a b c (x ∷ []) h = absurd (omega arith)
 three a b c (x ∷ y ∷ []) h = absurd (omega arith)
-three a b c (x ∷ y ∷ z ∷ out) h = refl
+three a b c (x ∷ y ∷ z ∷ out) h = record { past = refl; words = refl; rest = refl }
 
 -- the whole game, by the counts and the arrays that are written
 pub game-stretches : (vs : List Vertex) (n m : ℕ) (os ps : List ℕ) → n ≡ length vs → m ≡ edgeCount vs → os ≡ map (λ v. v .owner) vs → ps ≡ map (λ v. v .priority) vs

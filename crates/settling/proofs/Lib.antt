@@ -3,3 +3,4 @@ pub mod Meetings
 pub mod Make
 pub mod Marking
 pub mod Ending
+pub mod Operands

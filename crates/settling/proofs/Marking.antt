@@ -96,7 +96,7 @@ module _ (v e : ℕ) (w w₁ : List ℕ) (c : Counters) (t u n m : ℕ) (r : Rea
   met-known = omega (arith, place-below number-equality t (keysOf w₁ v n) holds₁, long₁, p .vertex)
 
   pub met-below : u < v
-  met-below = omega (arith, met-known, p .table .chains .room)
+  met-below = omega (arith, met-known, p .table .slots .room)
 
   met-at : word (keysOf w₁ v n) u ≡ t
   met-at = ap (word (keysOf w₁ v n)) (p .vertex) ∙ place-at number-equality t (keysOf w₁ v n) 0 holds₁
@@ -173,7 +173,7 @@ module _ (v e : ℕ) (w w₁ : List ℕ) (c : Counters) (t u n m : ℕ) (r : Rea
         subst₂ (λ (a b : List ℕ). MarkedIn a b v n s (insertAll eqb ts (t ∷ []))) (sym seven₃) (sym keys)
             (rw (inserts-one ts t)
             (mark-more (region 7 v w) (keysOf w v (c .known)) (keysOf w₁ v n) v (c .known) n s t u ts long long₁ (p .keys) met-at met-known (omega (arith, wide, met-below))
-            (p .table .chains .distinct) k)),
+            (p .table .slots .distinct) k)),
       )
     where
       mark-bound : (l : List ℕ) (y s i : ℕ) → word l i ≤ s → Dec (i ≡ y) → y < length l → word (set l y s) i ≤ s

@@ -1,4 +1,4 @@
--- What is read off the work words: the known pairs, the waiting vertices, and the edges made so far. Regions of v words: 0 heads, 1 links, 2 states, 3 items, 4 stack, 5 starts,
+-- What is read off the work words: the known pairs, the waiting vertices, and the edges made so far. Regions of v words: 0 to 2 slots, 3 keys, 4 stack, 5 starts,
 -- 6 counts, 7 marks; then the edge buffer. Assumes nothing: these are definitions.
 use mathlib.Core.List.{List, [], _∷_}
 use Prim.Native.Nat.{ℕ, zero, suc, _+_, _*_}

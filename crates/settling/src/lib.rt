@@ -4,8 +4,9 @@ use player::VertexIndex;
 ghost use mathlib.Core.Path.{_≡_};
 ghost use mathlib.Core.List.{List, [], _∷_};
 ghost use Prim.Native.Nat.{ℕ, _+_, _*_, _≤_, _<_};
-ghost use lib.ListN.{length};
-ghost use Rattle.pairs.specs.Slot.{keyOf, Multiples};
+ghost use lib.ListN.{length, take};
+ghost use Rattle.rules.specs.Lists.{word};
+ghost use Rattle.pairs.specs.Slot.{keyOf, Multiples, Scaled};
 ghost use Rattle.settling.specs.Stand.{putEdge};
 ghost use Rattle.settling.specs.Made.{Ready, Fitting, MeetAnswer, Answer, Marked, Turned, CloseAnswer};
 
@@ -57,14 +58,15 @@ pub fn meet(
     c: Counters,
     state: u32,
     item: u32,
+    scaled: u32,
 ) -> Met
-    requires { ⌜ Multiples (now multiples) ⌝ }
+    requires { ⌜ Scaled (now multiples) item scaled ⌝ }
     requires { ⌜ Ready (now work) v e c × Fitting state item ⌝ }
     ensures { λ r. ⌜ MeetAnswer (now (work .entry)) (now (work .exit)) v (c .known) (c .waiting) (keyOf state item) r ⌝ }
 {
     let before = c.known;
     let waiting = c.waiting;
-    match pairs::number(multiples, work, v, before, state, item) {
+    match pairs::number(multiples, work, v, before, state, item, scaled) {
         Numbered::Vertex { vertex, known } => {
             if known == before {
                 return Met::Meets {
@@ -85,7 +87,7 @@ pub fn meet(
 }
 
 // One target is met and gets an edge.
-pub fn number_target(
+fn number_target(
     c: Counters,
     multiples: &[u32; 256],
     work: &mut [u32],
@@ -93,13 +95,14 @@ pub fn number_target(
     e: u32,
     state: u32,
     item: u32,
+    scaled: u32,
 ) -> Stepped
-    requires { ⌜ Multiples (now multiples) ⌝ }
+    requires { ⌜ Scaled (now multiples) item scaled ⌝ }
     requires { ⌜ Ready (now work) v e c × Fitting state item ⌝ }
     ensures { λ r. ⌜ Answer (now (work .entry)) v e c (keyOf state item ∷ []) (now (work .exit)) r ⌝ }
 {
     let edges = c.edges;
-    match meet(multiples, work, v, e, c, state, item) {
+    match meet(multiples, work, v, e, c, state, item, scaled) {
         Met::Meets {
             vertex,
             known,
@@ -129,15 +132,16 @@ pub fn target_once(
     e: u32,
     state: u32,
     item: u32,
+    scaled: u32,
 ) -> Stepped
-    requires { ⌜ Multiples (now multiples) ⌝ }
+    requires { ⌜ Scaled (now multiples) item scaled ⌝ }
     requires { ⌜ Ready (now work) v e c × Fitting state item ⌝ }
     requires { ⌜ c .settled < c .known ⌝ }
     ensures { λ r. ⌜ ((ts : List ℕ) → Marked (now (work .entry)) v c ts → Turned (now (work .entry)) v e c ts (keyOf state item ∷ []) (now (work .exit)) r) ⌝ }
 {
     let edges = c.edges;
     let mark = c.settled + 1;
-    match meet(multiples, work, v, e, c, state, item) {
+    match meet(multiples, work, v, e, c, state, item, scaled) {
         Met::Meets {
             vertex,
             known,
@@ -167,8 +171,20 @@ pub fn target_once(
     }
 }
 
-// Two targets with the same state, in order: a target named twice gets two edges.
-pub fn settle_two(
+// Operand i of an item, 0 the left one and 1 the right one.
+fn operand(left: u32, right: u32, i: usize) -> u32
+    requires { ⌜ i < 2 ⌝ }
+    ensures { λ r. ⌜ r ≡ word (left ∷ right ∷ []) i ⌝ }
+{
+    if i == 0 {
+        return left;
+    }
+    right
+}
+
+// The first targets, so many of two with the same state, in order: a target named twice gets two edges. One loop for one operand and for two, so that a target is numbered at
+// one place of the code.
+pub fn settle_operands(
     c: Counters,
     multiples: &[u32; 256],
     work: &mut [u32],
@@ -177,15 +193,29 @@ pub fn settle_two(
     state: u32,
     left: u32,
     right: u32,
+    count: usize,
 ) -> Stepped
     requires { ⌜ Multiples (now multiples) ⌝ }
-    requires { ⌜ Ready (now work) v e c × Fitting state left × Fitting state right ⌝ }
-    ensures { λ r. ⌜ Answer (now (work .entry)) v e c (keyOf state left ∷ keyOf state right ∷ []) (now (work .exit)) r ⌝ }
+    requires { ⌜ Ready (now work) v e c × Fitting state left × (count ≤ 2) ⌝ }
+    requires { ⌜ (1 < count → Fitting state right) ⌝ }
+    ensures { λ r. ⌜ Answer (now (work .entry)) v e c (take count (keyOf state left ∷ keyOf state right ∷ [])) (now (work .exit)) r ⌝ }
 {
-    match number_target(c, multiples, work, v, e, state, left) {
-        Stepped::Room(next) => number_target(next, multiples, work, v, e, state, right),
-        Stepped::Full => Stepped::Full,
+    let mut so_far = c;
+    let mut i = 0;
+    while i < count {
+        let item = operand(left, right, i);
+        let scaled = pairs::product(multiples, item);
+        match number_target(so_far, multiples, work, v, e, state, item, scaled) {
+            Stepped::Room(next) => {
+                so_far = next;
+            }
+            Stepped::Full => {
+                return Stepped::Full;
+            }
+        }
+        i += 1;
     }
+    Stepped::Room(so_far)
 }
 
 // The edges of a vertex are counted, after one to itself if it has none.

@@ -2,8 +2,9 @@
 use mathlib.Core.Path.{_≡_, refl, _∙_, ap}
 use mathlib.Core.List.{List, [], _∷_, map}
 use Prim.Native.Nat.{ℕ, _≤_, _<_}
+use native.Mathlib.Decide.{decLt}
 use native.Mathlib.Omega.{arith}
-use lib.ListN.{length}
+use lib.ListN.{length, take}
 use Rattle.rules.specs.Lists.{word}
 use Rattle.rules.specs.Words.{Input}
 use Rattle.rules.specs.Table.{size}
@@ -75,3 +76,18 @@ module _ (x : Input) (multiples classes samples matched kinds lefts rights prior
 
         pub action-there : 4 ≤ k → k < 6 → r < size (x .actions)
         action-there a b = entry-action x q k l r (word priorities q) s both a (omega arith)
+
+        -- how many operands there are says which targets
+        module _ (n : ℕ) (two : k < 4 → n ≡ 2) (one : 4 ≤ k → n ≡ 1) (some : 2 ≤ k) (operands : 4 ≤ k → 6 ≤ k) where
+          pub kind-operands : map pairKey (targets x (s, q)) ≡ take n (keyOf s l ∷ keyOf s r ∷ [])
+          kind-operands = go (decLt k 4)
+            where
+              go : Dec (k < 4) → map pairKey (targets x (s, q)) ≡ take n (keyOf s l ∷ keyOf s r ∷ [])
+              go (yes h) = rw (two h) (kind-two some h)
+              go (no h) = rw (one (omega arith)) (kind-one (operands (omega arith)))
+
+          pub operands-few : n ≤ 2
+          operands-few = elim (decLt k 4) [ yes h ↦ omega (arith, two h) | no h ↦ omega (arith, one (omega arith)) ]
+
+          pub second-fits : 1 < n → Fitting s r
+          second-fits h = elim (decLt k 4) [ yes b ↦ right-fits some b | no b ↦ absurd (omega (arith, one (omega arith))) ]

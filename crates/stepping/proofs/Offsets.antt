@@ -36,7 +36,7 @@ module _ (targets : ℕ → List ℕ) (root v e : ℕ) (w : List ℕ) (c : Count
 
   -- a vertex waits exactly if its count is 0
   pub waits-none : (u : ℕ) → u < c .known → In u (waitingOf w v (c .waiting)) → word (region 6 v w) u ≡ 0
-  waits-none u h m = omega (arith, g .unsettled u (omega (arith, g .ready .table .chains .room)) (λ s. s .1 m))
+  waits-none u h m = omega (arith, g .unsettled u (omega (arith, g .ready .table .slots .room)) (λ s. s .1 m))
 
   pub none-waits : (u : ℕ) → u < c .known → word (region 6 v w) u ≡ 0 → In u (waitingOf w v (c .waiting))
   none-waits u h z = go (settled-or-waits (standOf w v c) u (omega (arith, count)))

@@ -129,7 +129,7 @@ module _ (x : Input) (good : GoodInput x) where
     unfolding exceeds
     made-fits rank =
         rw (
-          le-ltb v (length (verticesOf rank x (walkOf x k))) (omega (arith, vertices-counted rank k v e, known-count, m .good .ready .table .chains .room)),
+          le-ltb v (length (verticesOf rank x (walkOf x k))) (omega (arith, vertices-counted rank k v e, known-count, m .good .ready .table .slots .room)),
           le-ltb e (edgeCount (verticesOf rank x (walkOf x k))) (omega (arith, edges-counted rank k v e, edges-count, m .good .ready .buffer)),
         ) refl
 

@@ -57,9 +57,9 @@ module _ (w₀ : List ℕ) (v area : ℕ) where
 
 -- ---- the root
 
-no-keys : (entries : List ℕ) → keysIn entries 0 ≡ []
+no-keys : (keys : List ℕ) → keysIn keys 0 ≡ []
 unfolding keysIn
-no-keys entries = refl
+no-keys keys = refl
 
 no-sum : (weight : ℕ → ℕ) (root : ℕ) → sumSettled weight root (stateOf (root ∷ []) (0 ∷ [])) ≡ 0
 unfolding sumSettled sumBelow has
@@ -87,7 +87,7 @@ module _ (w w₁ wₘ w₂ : List ℕ) (v e : ℕ) (z : Sized w v e) (s : Starte
 
   module _ (targets : ℕ → List ℕ) (root : ℕ) where
     first-keys : insert eqb (keysOf w₂ v 0) root ≡ root ∷ []
-    first-keys = ap (λ (a : List ℕ). insert eqb a root) (no-keys (region 1 (2 * v) w₂)) ∙ insert-new number-equality [] root (λ m. m)
+    first-keys = ap (λ (a : List ℕ). insert eqb a root) (no-keys (region 3 v w₂)) ∙ insert-new number-equality [] root (λ m. m)
 
     pub start-full : v < length (insert eqb (keysOf w₂ v 0) root) → Exceeding targets root v e (walk eqb targets root 0)
     unfolding walk

@@ -87,7 +87,7 @@ module _ (targets : ℕ → List ℕ) (root v e : ℕ) (w : List ℕ) (c : Count
     top-known = omega (arith, sound-top .falling .0, count)
 
     pub top-below : u < v
-    top-below = omega (arith, top-known, g .ready .table .chains .room)
+    top-below = omega (arith, top-known, g .ready .table .slots .room)
 
     pub top-key : here ≡ keyOf (stateAt w v u) (itemAt w v u)
     top-key = at-any keys u root 0 (omega (arith, top-known, count)) ∙ key-word w v (c .known) u top-known ∙ key-pair (keyAt w v u)

@@ -6,7 +6,8 @@ use settling::Met;
 use settling::Stepped;
 ghost use mathlib.Core.Path.{_≡_};
 ghost use mathlib.Core.List.{map};
-ghost use Prim.Native.Nat.{_*_, _≤_, _<_};
+ghost use Prim.Native.Nat.{_*_, _/_, _≤_, _<_};
+ghost use lib.Dec.{eqb};
 ghost use lib.ListN.{length};
 ghost use Rattle.rules.specs.Lists.{word};
 ghost use Rattle.rules.specs.Words.{inputOf};
@@ -35,6 +36,23 @@ fn entry(table: &[u32], item: u32) -> u32
     ensures { λ r. ⌜ r ≡ word (now (table .entry)) item ⌝ }
 {
     table[item as usize]
+}
+
+// Is an item a box or a diamond?
+fn is_modality(kind: u32) -> bool
+    ensures { λ r. ⌜ r ≡ eqb (kind / 2) 2 ⌝ }
+{
+    kind / 2 == 2
+}
+
+// How many operands an item has that is no constant and no modality: `and` and `or` have two.
+fn operand_count(kind: u32) -> usize
+    ensures { λ r. ⌜ (kind < 4 → r ≡ 2) × (4 ≤ kind → r ≡ 1) ⌝ }
+{
+    if kind < 4 {
+        return 2;
+    }
+    1
 }
 
 // The targets of a pair are met and get their edges. Kinds: 0 true, 1 false; 2 and, 3 or; 4 box, 5 diamond; 6 least, 7 greatest, 8 reference.
@@ -69,30 +87,28 @@ fn settle(
         return Stepped::Room(c);
     }
     let left = entry(lefts, item);
-    if 6 <= kind {
-        return settling::number_target(c, multiples, work, v, e, state, left);
-    }
     let right = entry(rights, item);
-    if kind < 4 {
-        return settling::settle_two(c, multiples, work, v, e, state, left, right);
+    if is_modality(kind) {
+        return modalities::settle_modality(
+            c,
+            multiples,
+            work,
+            labels,
+            system,
+            actions,
+            formula,
+            classes,
+            samples,
+            matched,
+            v,
+            e,
+            state,
+            right,
+            left,
+        );
     }
-    modalities::settle_modality(
-        c,
-        multiples,
-        work,
-        labels,
-        system,
-        actions,
-        formula,
-        classes,
-        samples,
-        matched,
-        v,
-        e,
-        state,
-        right,
-        left,
-    )
+    let count = operand_count(kind);
+    settling::settle_operands(c, multiples, work, v, e, state, left, right, count)
 }
 
 // The waiting vertex that was numbered last is settled.
@@ -424,7 +440,8 @@ pub fn begin(
         edges: 0,
         waiting: 0,
     };
-    match settling::meet(multiples, work, v, e, none, initial, 0) {
+    let scaled = pairs::product(multiples, 0);
+    match settling::meet(multiples, work, v, e, none, initial, 0, scaled) {
         Met::Meets {
             vertex: _,
             known,

@@ -125,7 +125,7 @@ module _ (x : Input) (v e k : ℕ) (game work : List ℕ) (passed : refusal x (r
     pub showable : Showable kinds priorities work v (c .known) (c .edges) (length game)
     unfolding gameLength
     showable =
-        let n = made .good .ready .table .chains .room in
+        let n = made .good .ready .table .slots .room in
         let m = made .good .ready .buffer in
         let s = made .good .ready .whole in
         let l = accepted-lengths x (roomOf v e) (length game) (length work) passed .0 in

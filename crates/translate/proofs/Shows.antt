@@ -170,7 +170,7 @@ module _ (x : Input) (good : GoodInput x) (k : ℕ) (kinds lefts rights prioriti
 
   waits-none : (u : ℕ) → u < c .known → In u (st .waiting) → countIn w v u ≡ 0
   waits-none u h m =
-      let l = g .ready .table .chains .room in
+      let l = g .ready .table .slots .room in
       let z = g .unsettled u (omega arith) (λ s. s .1 (subst (In u) (sym same-waiting) m)) in
       omega arith
 

@@ -76,14 +76,18 @@ pub rest-put : (k s v i x : ℕ) (w : List ℕ) → i < v → s < k → drop (k 
 unfolding putWord
 rest-put k s v i x w h l = drop-set-lt (k * v) w (s * v + i) x (omega (arith, rise s k v l))
 
+-- where all from p on is as it was, all from a later place on is
+pub same-later : (p q : ℕ) (w w′ : List ℕ) → drop p w′ ≡ drop p w → p ≤ q → drop q w′ ≡ drop q w
+same-later p q w w′ e h = sym (split w′) ∙ ap (drop (q - p)) e ∙ split w
+  where
+    split : (u : List ℕ) → drop (q - p) (drop p u) ≡ drop q u
+    split u =
+        let e′ : p + (q - p) ≡ q = omega arith in
+        drop-drop (q - p) p u ∙ ap (λ (m : ℕ). drop m u) e′
+
 -- where all from region k on is as it was, each later region is, and all from there on
 pub rest-later : (k r v : ℕ) (w w′ : List ℕ) → drop (k * v) w′ ≡ drop (k * v) w → k ≤ r → drop (r * v) w′ ≡ drop (r * v) w
-rest-later k r v w w′ e h = sym (split w′) ∙ ap (drop (r * v - k * v)) e ∙ split w
-  where
-    split : (u : List ℕ) → drop (r * v - k * v) (drop (k * v) u) ≡ drop (r * v) u
-    split u =
-        let e′ : k * v + (r * v - k * v) ≡ r * v = omega (arith, mul-le-mul-right v h) in
-        drop-drop (r * v - k * v) (k * v) u ∙ ap (λ (m : ℕ). drop m u) e′
+rest-later k r v w w′ e h = same-later (k * v) (r * v) w w′ e (mul-le-mul-right v h)
 
 pub rest-region : (k r v : ℕ) (w w′ : List ℕ) → drop (k * v) w′ ≡ drop (k * v) w → k ≤ r → region r v w′ ≡ region r v w
 unfolding region

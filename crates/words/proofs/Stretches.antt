@@ -4,19 +4,21 @@ use mathlib.Core.List.{List, [], _∷_, _++_, map, append-assoc, append-nil}
 use Prim.Native.Nat.{ℕ, suc, _+_, _-_, _≤_, _<_}
 use native.Mathlib.Numerals.{add-one}
 use native.Mathlib.Omega.{arith}
-use lib.ListN.{length, take, set, replicate, length-append, length-set, length-take, length-map, drop-of-length-le}
-use lib.Seq.{take-suc-set, slice, slice-cons, take-all, length-slice, length-take-le}
+use lib.ListN.{length, take, drop, set, replicate, length-append, length-set, length-take, length-map, drop-of-length-le}
+use lib.Seq.{take-suc-set, drop-set-lt, slice, slice-cons, take-all, length-slice, length-take-le}
 use Rattle.rules.specs.Lists.{word, zeros}
 use Rattle.words.specs.Stretches.{Wrote}
+use Rattle.words.proofs.Regions.{same-later}
 
--- of the stretch that is to stand from at₀ on, the words in front of `at` are written, and `left` is left to write
+-- of the stretch that is to stand from at₀ on, the words in front of `at` are written, and `left` is left to write; the words from `at` on are as they were
 pub record Writing (at : ℕ) (left out : List ℕ) (at₀ : ℕ) (stretch out₀ : List ℕ) : Type 0 where
   pub long : length out ≡ length out₀
   pub last : at + length left ≡ at₀ + length stretch
   pub words : take at out ++ left ≡ take at₀ out₀ ++ stretch
+  pub rest : drop at out ≡ drop at out₀
 
 pub start : {at : ℕ} {stretch out : List ℕ} → Writing at stretch out at stretch out
-start = record { long = refl; last = refl; words = refl }
+start = record { long = refl; last = refl; words = refl; rest = refl }
 
 -- what is left, said otherwise
 pub turn : {at : ℕ} {left left′ out : List ℕ} {at₀ : ℕ} {stretch out₀ : List ℕ} → left ≡ left′ → Writing at left out at₀ stretch out₀ → Writing at left′ out at₀ stretch out₀
@@ -25,25 +27,27 @@ turn {at} {out} {at₀} {stretch} {out₀} e w = subst (λ l. Writing at l out a
 -- one word is written
 pub put : {at x : ℕ} {left out : List ℕ} {at₀ : ℕ} {stretch out₀ : List ℕ} → at < length out → Writing at (x ∷ left) out at₀ stretch out₀
     → Writing (at + 1) left (set out at x) at₀ stretch out₀
-put {at} {x} {left} {out} h w =
+put {at} {x} {left} {out} {out₀ = out₀} h w =
     record {
       long = length-set out at x ∙ w .long;
       last = omega (arith, w .last);
       words = rw (add-one at, take-suc-set out at x h) (append-assoc (take at out) (x ∷ []) left ∙ w .words);
+      rest = drop-set-lt (at + 1) out at x (omega arith) ∙ same-later at (at + 1) out₀ out (w .rest) (omega arith);
     }
 
 -- a stretch is written by a call
 pub called : {at r : ℕ} {s left out out′ : List ℕ} {at₀ : ℕ} {stretch out₀ : List ℕ} → length out′ ≡ length out → Wrote at s out out′ r
     → Writing at (s ++ left) out at₀ stretch out₀ → Writing r left out′ at₀ stretch out₀
-called {at} {r} {s} {left} {out} k c w =
+called {at} {r} {s} {left} {out} {out₀ = out₀} k c w =
     record {
       long = k ∙ w .long;
       last = omega (arith, c .past, length-append s left, w .last);
       words = rw (c .words) (append-assoc (take at out) s left ∙ w .words);
+      rest = c .rest ∙ same-later at r out₀ out (w .rest) (omega (arith, c .past));
     }
 
 pub done : {at : ℕ} {out : List ℕ} {at₀ : ℕ} {stretch out₀ : List ℕ} → Writing at [] out at₀ stretch out₀ → Wrote at₀ stretch out₀ out at
-done {at} {out} w = record { past = omega (arith, w .last); words = sym (append-nil (take at out)) ∙ w .words }
+done {at} {out} w = record { past = omega (arith, w .last); words = sym (append-nil (take at out)) ∙ w .words; rest = w .rest }
 
 -- the next word is within the slice
 pub inside : {at x : ℕ} {left out : List ℕ} {at₀ : ℕ} {stretch out₀ : List ℕ} → at₀ + length stretch ≤ length out₀ → Writing at (x ∷ left) out at₀ stretch out₀

@@ -14,14 +14,14 @@ read-full-requires c κs = search needs
 array-share-prefix-bytes : tie.Need-array-share-prefix-bytes
 array-share-prefix-bytes c = search needs
 
-slice-aggregate-gate : tie.Need-slice-aggregate-gate
-slice-aggregate-gate c = search needs
+slice-aggregate-put-text : tie.Need-slice-aggregate-put-text
+slice-aggregate-put-text c = search needs
 
-slice-aggregate-gate-2 : tie.Need-slice-aggregate-gate-2
-slice-aggregate-gate-2 c = search needs
+slice-aggregate-put-text-2 : tie.Need-slice-aggregate-put-text-2
+slice-aggregate-put-text-2 c = search needs
 
-gate-requires : tie.Need-gate-requires
-gate-requires c κs = search needs
+put-text-requires : tie.Need-put-text-requires
+put-text-requires c κs = search needs
 
 array-share-prefix-text : tie.Need-array-share-prefix-text
 array-share-prefix-text c = search needs
@@ -42,9 +42,9 @@ main-spec =
     slice-aggregate-read-full
     read-full-requires
     array-share-prefix-bytes
-    slice-aggregate-gate
-    slice-aggregate-gate-2
-    gate-requires
+    slice-aggregate-put-text
+    slice-aggregate-put-text-2
+    put-text-requires
     array-share-prefix-text
     slice-aggregate-write-all
     write-all-requires

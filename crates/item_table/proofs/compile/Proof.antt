@@ -1,5 +1,5 @@
--- `compile` meets its contract, by what the four calls ensure. A local table keeps its length over a call. Assumes nothing.
-use mathlib.Core.Path.{refl, sym, _∙_}
+-- `compile` meets its contract, by what the four calls ensure. Assumes nothing.
+use mathlib.Core.Path.{refl, _∙_}
 use native.Mathlib.Omega.{arith}
 use Rattle.rules.specs.Words.{inputOf}
 use Rattle.rules.specs.Table.{size}
@@ -14,89 +14,78 @@ use Rattle.item_table.proofs.put_items.Reads as put-items-reads
 use Rattle.item_table.proofs.put_priorities.Reads as put-priorities-reads
 use Rattle.modal_equation_system.proofs.list_equations.Reads as list-equations-reads
 
--- src/lib.rt:310:9
+-- src/lib.rt:297:9
 list-equations-requires : tie.Need-list-equations-requires
-list-equations-requires c κs = let s = c .before .before .before .before .before .before .before .before .before .before .before .before .before in (record { actions = size (s .args .actions .now); formula = s .pre .0 .formula }, search needs)
+list-equations-requires c κs = let s = c .before .before .before .before .before .before .before .before .before .before .before in (record { actions = size (s .args .actions .now); formula = s .pre .0 .formula }, search needs)
 
--- src/lib.rt:318:9
+-- src/lib.rt:305:9
 slice-aggregate-number-all : tie.Need-slice-aggregate-number-all
-slice-aggregate-number-all c = sym (c .before .list-equations .ensures .1 .1 .2)
+slice-aggregate-number-all c = search needs
 
--- src/lib.rt:320:9
+-- src/lib.rt:307:9
 slice-aggregate-number-all-2 : tie.Need-slice-aggregate-number-all-2
 slice-aggregate-number-all-2 c = search needs
 
--- src/lib.rt:312:9
+-- src/lib.rt:299:9
 number-all-requires : tie.Need-number-all-requires
 number-all-requires c κs =
-    let s = c .before .before .before .before .before .before .before .before .before .before .before .before .before .before .before .before .before .before .before .before .before in
+    let s = c .before .before .before .before .before .before .before .before .before .before .before .before .before .before .before .before .before .before .before in
     let rooms = s .pre .1 .1 .0 in
     let listed = c .before .before .before .before .before .before .before .list-equations .ensures in
-    (s .pre .0, (s .pre .1 .0, (listed-numbers (inputOf (s .args .labels .now) (s .args .system .now) (s .args .actions .now) (s .args .formula .now)) (s .pre .0) _ _ _ (listed .1 .0), ((listed .0, s .pre .1 .1 .1), ((omega (arith, rooms .0), omega (arith, rooms .1), omega (arith, rooms .2), search needs), omega (arith, rooms .3))))))
+    (s .pre .0, (s .pre .1 .0, (listed-numbers (inputOf (s .args .labels .now) (s .args .system .now) (s .args .actions .now) (s .args .formula .now)) (s .pre .0) _ (listed .1), ((listed .0, s .pre .1 .1 .1), ((omega (arith, rooms .0), omega (arith, rooms .1), omega (arith, rooms .2), search needs), omega (arith, rooms .3))))))
 
--- src/lib.rt:332:9
+-- src/lib.rt:320:9
 slice-aggregate-put-items : tie.Need-slice-aggregate-put-items
-slice-aggregate-put-items c = sym (c .before .before .before .before .before .before .before .before .before .before .before .before .before .before .before .before .before .before .before .before .list-equations .ensures .1 .1 .0)
+slice-aggregate-put-items c = search needs
 
--- src/lib.rt:333:9
-slice-aggregate-put-items-2 : tie.Need-slice-aggregate-put-items-2
-slice-aggregate-put-items-2 c = sym (c .before .before .before .before .before .before .before .before .before .before .before .before .before .before .before .before .before .before .before .before .before .list-equations .ensures .1 .1 .1)
-
--- src/lib.rt:334:9
-slice-aggregate-put-items-3 : tie.Need-slice-aggregate-put-items-3
-slice-aggregate-put-items-3 c = sym (c .before .before .before .before .before .before .before .before .before .before .before .before .before .before .before .before .before .before .before .before .before .before .list-equations .ensures .1 .1 .2)
-
--- src/lib.rt:335:9
-slice-aggregate-put-items-4 : tie.Need-slice-aggregate-put-items-4
-slice-aggregate-put-items-4 c = sym (c .before .before .before .before .before .before .before .before .before .before .before .before .before .before .before .number-all .kept .1 .1 .1 .1 .1 .1 .1 .0)
-
--- src/lib.rt:327:5
+-- src/lib.rt:314:5
 put-items-requires : tie.Need-put-items-requires
 put-items-requires c κs =
-    let s = c .before .before .before .before .before .before .before .before .before .before .before .before .before .before .before .before .before .before .before .before .before .before .before .before .before .before .before .before .before .before .before .before .before .before .before .before .before .before .before .before .before in
+    let s = c .before .before .before .before .before .before .before .before .before .before .before .before .before .before .before .before .before .before .before .before .before .before .before .before .before .before .before .before .before .before .before .before .before .before .before .before .before in
     let rooms = s .pre .1 .1 .0 in
-    let listed = c .before .before .before .before .before .before .before .before .before .before .before .before .before .before .before .before .before .before .before .before .before .before .before .before .before .before .before .list-equations .ensures in
-    let k = c .before .before .before .before .before .before .before .before .before .before .before .before .before .before .before .before .before .before .before .number-all .kept .1 .1 .1 .1 .1 .1 .1 .1 .1 in
-    (s .pre .0, (listed .1 .0, (c .before .before .before .before .before .before .before .before .before .before .before .before .before .before .before .before .before .before .before .number-all .ensures .1 .0, (c .before .before .before .before .before .before .before .before .before .before .before .before .before .before .before .before .before .before .before .number-all .ensures .1 .1, (listed .0, omega (arith, rooms .0, k .0), omega (arith, rooms .1, k .1 .0), omega (arith, rooms .2, k .1 .1 .0))))))
+    let listed = c .before .before .before .before .before .before .before .before .before .before .before .before .before .before .before .before .before .before .before .before .before .before .before .before .before .list-equations .ensures in
+    let numbered = c .before .before .before .before .before .before .before .before .before .before .before .before .before .before .before .before .before .number-all in
+    let k = numbered .kept .1 .1 .1 .1 .1 .1 .1 .1 .1 in
+    (s .pre .0, (listed .1, (numbered .ensures .1 .0, (numbered .ensures .1 .1, (listed .0, omega (arith, rooms .0, k .0), omega (arith, rooms .1, k .1 .0), omega (arith, rooms .2, k .1 .1 .0))))))
 
--- src/lib.rt:342:5
+-- src/lib.rt:327:5
 put-priorities-requires : tie.Need-put-priorities-requires
 put-priorities-requires c κs =
-    let s = c .before .before .before .before .before .before .before .before .before .before .before .before .before .before .before .before .before .before .before .before .before .before .before .before .before .before .before .before .before .before .before .before .before .before .before .before .before .before .before .before .before .before .before .before .before .before .before .before .before .before .before .before in
-    let listed = c .before .before .before .before .before .before .before .before .before .before .before .before .before .before .before .before .before .before .before .before .before .before .before .before .before .before .before .before .before .before .before .before .before .before .before .before .before .before .list-equations .ensures in
-    (listed .1 .0, (listed .0, omega (arith, s .pre .1 .1 .0 .3, c .before .before .before .before .before .before .before .before .before .before .before .before .before .before .before .before .before .before .before .before .before .before .before .before .before .before .before .before .before .before .number-all .kept .1 .1 .1 .1 .1 .1 .1 .1 .0)))
+    let s = c .before .before .before .before .before .before .before .before .before .before .before .before .before .before .before .before .before .before .before .before .before .before .before .before .before .before .before .before .before .before .before .before .before .before .before .before .before .before .before .before .before .before .before .before .before .before in
+    let listed = c .before .before .before .before .before .before .before .before .before .before .before .before .before .before .before .before .before .before .before .before .before .before .before .before .before .before .before .before .before .before .before .before .before .before .list-equations .ensures in
+    (listed .1, (listed .0, omega (arith, s .pre .1 .1 .0 .3, c .before .before .before .before .before .before .before .before .before .before .before .before .before .before .before .before .before .before .before .before .before .before .before .before .before .before .number-all .kept .1 .1 .1 .1 .1 .1 .1 .1 .0)))
 
--- src/lib.rt:286:1
+-- src/lib.rt:275:1
 same-length : tie.Need-same-length
-same-length c = c .before .before .before .before .before .before .before .before .before .before .before .before .before .put-items .kept .1 .1 .1 .1 .1 .1 .1 .1 .1 .1 .0 ∙ c .before .before .before .before .before .before .before .before .before .before .before .before .before .before .before .before .before .before .before .before .before .before .before .before .before .before .before .before .before .before .before .before .before .number-all .kept .1 .1 .1 .1 .1 .1 .1 .1 .1 .0
+same-length c = c .before .before .before .before .before .before .before .before .before .before .before .put-items .kept .1 .1 .1 .1 .1 .1 .1 .1 .0 ∙ c .before .before .before .before .before .before .before .before .before .before .before .before .before .before .before .before .before .before .before .before .before .before .before .before .before .before .before .before .before .number-all .kept .1 .1 .1 .1 .1 .1 .1 .1 .1 .0
 
--- src/lib.rt:286:1
+-- src/lib.rt:275:1
 same-length-2 : tie.Need-same-length-2
-same-length-2 c = c .before .before .before .before .before .before .before .before .before .before .before .before .before .put-items .kept .1 .1 .1 .1 .1 .1 .1 .1 .1 .1 .1 .0 ∙ c .before .before .before .before .before .before .before .before .before .before .before .before .before .before .before .before .before .before .before .before .before .before .before .before .before .before .before .before .before .before .before .before .before .number-all .kept .1 .1 .1 .1 .1 .1 .1 .1 .1 .1 .0
+same-length-2 c = c .before .before .before .before .before .before .before .before .before .before .before .put-items .kept .1 .1 .1 .1 .1 .1 .1 .1 .1 .0 ∙ c .before .before .before .before .before .before .before .before .before .before .before .before .before .before .before .before .before .before .before .before .before .before .before .before .before .before .before .before .before .number-all .kept .1 .1 .1 .1 .1 .1 .1 .1 .1 .1 .0
 
--- src/lib.rt:286:1
+-- src/lib.rt:275:1
 same-length-3 : tie.Need-same-length-3
-same-length-3 c = c .before .before .before .before .before .before .before .before .before .before .before .before .before .put-items .kept .1 .1 .1 .1 .1 .1 .1 .1 .1 .1 .1 .1 .0 ∙ c .before .before .before .before .before .before .before .before .before .before .before .before .before .before .before .before .before .before .before .before .before .before .before .before .before .before .before .before .before .before .before .before .before .number-all .kept .1 .1 .1 .1 .1 .1 .1 .1 .1 .1 .1 .0
+same-length-3 c = c .before .before .before .before .before .before .before .before .before .before .before .put-items .kept .1 .1 .1 .1 .1 .1 .1 .1 .1 .1 .0 ∙ c .before .before .before .before .before .before .before .before .before .before .before .before .before .before .before .before .before .before .before .before .before .before .before .before .before .before .before .before .before .number-all .kept .1 .1 .1 .1 .1 .1 .1 .1 .1 .1 .1 .0
 
--- src/lib.rt:286:1
+-- src/lib.rt:275:1
 same-length-4 : tie.Need-same-length-4
-same-length-4 c = c .before .before .put-priorities .kept .1 .1 .1 .1 .1 .0 ∙ c .before .before .before .before .before .before .before .before .before .before .before .before .before .before .before .before .before .before .before .before .before .before .before .before .before .before .before .before .before .before .before .before .before .number-all .kept .1 .1 .1 .1 .1 .1 .1 .1 .0
+same-length-4 c = c .before .before .put-priorities .kept .1 .1 .1 .0 ∙ c .before .before .before .before .before .before .before .before .before .before .before .before .before .before .before .before .before .before .before .before .before .before .before .before .before .before .before .before .before .number-all .kept .1 .1 .1 .1 .1 .1 .1 .1 .0
 
--- src/lib.rt:286:1
+-- src/lib.rt:275:1
 same-length-5 : tie.Need-same-length-5
-same-length-5 c = c .before .before .before .before .before .before .before .before .before .before .before .before .before .before .before .before .before .before .before .before .before .before .before .before .before .before .before .before .before .before .before .before .before .number-all .kept .1 .1 .1 .1 .1 .1 .1 .1 .1 .1 .1 .1 .0
+same-length-5 c = c .before .before .before .before .before .before .before .before .before .before .before .before .before .before .before .before .before .before .before .before .before .before .before .before .before .before .before .before .before .number-all .kept .1 .1 .1 .1 .1 .1 .1 .1 .1 .1 .1 .1 .0
 
--- src/lib.rt:286:1
+-- src/lib.rt:275:1
 returns : tie.Need-returns
 returns c =
-    let s = c .before .before .before .before .before .before .before .before .before .before .before .before .before .before .before .before .before .before .before .before .before .before .before .before .before .before .before .before .before .before .before .before .before .before .before .before .before .before .before .before .before .before .before .before .before .before .before .before .before .before .before .before .before .before .before in
+    let s = c .before .before .before .before .before .before .before .before .before .before .before .before .before .before .before .before .before .before .before .before .before .before .before .before .before .before .before .before .before .before .before .before .before .before .before .before .before .before .before .before .before .before .before .before .before .before .before .before .before in
     let rooms = s .pre .1 .1 .0 in
-    let listed = c .before .before .before .before .before .before .before .before .before .before .before .before .before .before .before .before .before .before .before .before .before .before .before .before .before .before .before .before .before .before .before .before .before .before .before .before .before .before .before .before .before .list-equations in
-    let numbered = c .before .before .before .before .before .before .before .before .before .before .before .before .before .before .before .before .before .before .before .before .before .before .before .before .before .before .before .before .before .before .before .before .before .number-all in
+    let listed = c .before .before .before .before .before .before .before .before .before .before .before .before .before .before .before .before .before .before .before .before .before .before .before .before .before .before .before .before .before .before .before .before .before .before .before .before .before .list-equations in
+    let numbered = c .before .before .before .before .before .before .before .before .before .before .before .before .before .before .before .before .before .before .before .before .before .before .before .before .before .before .before .before .before .number-all in
     let k = numbered .kept .1 .1 .1 .1 .1 .1 .1 .1 in
-    let l = c .before .before .before .before .before .before .before .before .before .before .before .before .before .put-items .kept .1 .1 .1 .1 .1 .1 .1 .1 .1 .1 in
-    let m = c .before .before .put-priorities .kept .1 .1 .1 .1 .1 in
-    let made = table-made (inputOf (s .args .labels .now) (s .args .system .now) (s .args .actions .now) (s .args .formula .now)) (s .pre .0) (listed .result) _ _ _ (numbered .last .1 .1 .1 .1 .1 .1 .1 .1 .0) _ _ (listed .ensures .0) (omega (arith, rooms .0, k .1 .0, l .0)) (omega (arith, rooms .1, k .1 .1 .0, l .1 .0)) (omega (arith, rooms .2, k .1 .1 .1 .0, l .1 .1 .0)) (omega (arith, rooms .3, k .0, m .0)) (c .before .before .before .before .before .before .before .before .before .before .before .before .before .put-items .ensures) refl (c .before .before .put-priorities .ensures) in
+    let l = c .before .before .before .before .before .before .before .before .before .before .before .put-items .kept .1 .1 .1 .1 .1 .1 .1 .1 in
+    let m = c .before .before .put-priorities .kept .1 .1 .1 in
+    let made = table-made (inputOf (s .args .labels .now) (s .args .system .now) (s .args .actions .now) (s .args .formula .now)) (s .pre .0) (listed .result) _ _ _ (numbered .last .1 .1 .1 .1 .1 .1 .1 .1 .0) _ _ (listed .ensures .0) (omega (arith, rooms .0, k .1 .0, l .0)) (omega (arith, rooms .1, k .1 .1 .0, l .1 .0)) (omega (arith, rooms .2, k .1 .1 .1 .0, l .1 .1 .0)) (omega (arith, rooms .3, k .0, m .0)) (c .before .before .before .before .before .before .before .before .before .before .before .put-items .ensures) refl (c .before .before .put-priorities .ensures) in
     (numbered .ensures .0, (made, numbered .ensures .1 .1))
 
 pub compile-spec : {M : Type 1} → statement M
@@ -108,9 +97,6 @@ compile-spec =
     slice-aggregate-number-all-2
     number-all-requires
     slice-aggregate-put-items
-    slice-aggregate-put-items-2
-    slice-aggregate-put-items-3
-    slice-aggregate-put-items-4
     put-items-requires
     put-priorities-requires
     same-length

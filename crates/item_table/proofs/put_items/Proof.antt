@@ -10,30 +10,31 @@ use Rattle.item_table.proofs.put_items.Lts as lts
 use Rattle.item_table.proofs.put_equations.Reads as put-equations-reads
 use Rattle.item_table.proofs.put_subformulas.Reads as put-subformulas-reads
 
--- src/lib.rt:210:5
+-- src/lib.rt:231:5
 put-equations-requires : tie.Need-put-equations-requires
-put-equations-requires c κs = let s = c .before .before .before .before .before .before .before .before .before .before .before .before .before .before .before in (s .pre .0, (s .pre .1 .0, (s .pre .1 .1 .1 .0, s .pre .1 .1 .1 .1)))
+put-equations-requires c κs = let s = c .before .before .before .before .before .before .before .before .before .before .before .before in (s .pre .0, (s .pre .1 .0, (s .pre .1 .1 .1 .0, s .pre .1 .1 .1 .1)))
 
--- src/lib.rt:211:5
+-- src/lib.rt:243:5
 put-subformulas-requires : tie.Need-put-subformulas-requires
-put-subformulas-requires c κs = let s = c .before .before .before .before .before .before .before .before .before .before .before .before .before .before .before .before .before .before .before .before .before .before .before .before .before in
-    let k = c .before .before .before .before .before .before .before .before .before .put-equations .kept .1 .1 .1 .1 .1 .1 .1 .1 .1 in
+put-subformulas-requires c κs =
+    let s = c .before .before .before .before .before .before .before .before .before .before .before .before .before .before .before .before .before .before .before .before .before .before .before in
+    let k = c .before .before .before .before .before .before .before .before .before .before .put-equations .kept .1 .1 .1 .1 .1 .1 .1 in
     let rooms = s .pre .1 .1 .1 .1 in
-    (s .pre .0, (s .pre .1 .1 .0, (listed-numbers (inputOf (s .args .labels .now) (s .args .system .now) (s .args .actions .now) (s .args .formula .now)) (s .pre .0) (s .args .bodies .now) (s .args .operators .now) (s .args .equations .now) (s .pre .1 .0), (s .pre .1 .1 .1 .0, ((rooms .0, omega (arith, rooms .1, k .0), omega (arith, rooms .2, k .1 .0), omega (arith, rooms .3, k .1 .1 .0)), c .before .before .before .before .before .before .before .before .before .put-equations .ensures)))))
+    (s .pre .0, (s .pre .1 .1 .0, (listed-numbers (inputOf (s .args .labels .now) (s .args .system .now) (s .args .actions .now) (s .args .formula .now)) (s .pre .0) (s .args .table .now) (s .pre .1 .0), (s .pre .1 .1 .1 .0, ((rooms .0, omega (arith, rooms .1, k .0), omega (arith, rooms .2, k .1 .0), omega (arith, rooms .3, k .1 .1 .0)), c .before .before .before .before .before .before .before .before .before .before .put-equations .ensures)))))
 
--- src/lib.rt:188:1
+-- src/lib.rt:211:1
 same-length : tie.Need-same-length
-same-length c = c .before .before .before .before .before .before .put-subformulas .kept .1 .1 .1 .1 .1 .1 .1 .1 .0 ∙ c .before .before .before .before .before .before .before .before .before .before .before .before .before .before .before .before .put-equations .kept .1 .1 .1 .1 .1 .1 .1 .1 .1 .0
+same-length c = c .before .before .before .before .before .before .put-subformulas .kept .1 .1 .1 .1 .1 .1 .1 .1 .0 ∙ c .before .before .before .before .before .before .before .before .before .before .before .before .before .before .before .before .before .put-equations .kept .1 .1 .1 .1 .1 .1 .1 .0
 
--- src/lib.rt:188:1
+-- src/lib.rt:211:1
 same-length-2 : tie.Need-same-length-2
-same-length-2 c = c .before .before .before .before .before .before .put-subformulas .kept .1 .1 .1 .1 .1 .1 .1 .1 .1 .0 ∙ c .before .before .before .before .before .before .before .before .before .before .before .before .before .before .before .before .put-equations .kept .1 .1 .1 .1 .1 .1 .1 .1 .1 .1 .0
+same-length-2 c = c .before .before .before .before .before .before .put-subformulas .kept .1 .1 .1 .1 .1 .1 .1 .1 .1 .0 ∙ c .before .before .before .before .before .before .before .before .before .before .before .before .before .before .before .before .before .put-equations .kept .1 .1 .1 .1 .1 .1 .1 .1 .0
 
--- src/lib.rt:188:1
+-- src/lib.rt:211:1
 same-length-3 : tie.Need-same-length-3
-same-length-3 c = c .before .before .before .before .before .before .put-subformulas .kept .1 .1 .1 .1 .1 .1 .1 .1 .1 .1 .0 ∙ c .before .before .before .before .before .before .before .before .before .before .before .before .before .before .before .before .put-equations .kept .1 .1 .1 .1 .1 .1 .1 .1 .1 .1 .1 .0
+same-length-3 c = c .before .before .before .before .before .before .put-subformulas .kept .1 .1 .1 .1 .1 .1 .1 .1 .1 .1 .0 ∙ c .before .before .before .before .before .before .before .before .before .before .before .before .before .before .before .before .before .put-equations .kept .1 .1 .1 .1 .1 .1 .1 .1 .1 .0
 
--- src/lib.rt:188:1
+-- src/lib.rt:211:1
 returns : tie.Need-returns
 returns c = c .before .before .before .before .before .before .put-subformulas .ensures
 

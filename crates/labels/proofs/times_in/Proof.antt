@@ -28,7 +28,9 @@ action-at-requires c κs = search needs
 
 -- src/lib.rt:40:13
 add-n : tie.Need-add-n Inv-loop μ-loop
-add-n c = omega arith
+add-n c =
+    let s = c .before .before .before .before .before in
+    omega (arith, s .pre .0 .small)
 
 -- src/lib.rt:42:9
 add-i : tie.Need-add-i Inv-loop μ-loop

@@ -7,14 +7,14 @@ use Rattle.modal_equation_system.proofs.alternation_depth.Reads as read
 use Rattle.modal_equation_system.proofs.alternation_depth.Lts as lts
 use Rattle.modal_equation_system.proofs.read_equation.Reads as read-equation-reads
 
--- src/lib.rt:181:5
+-- src/lib.rt:216:5
 read-equation-requires : tie.Need-read-equation-requires
 read-equation-requires c κs = search needs
 
--- src/lib.rt:170:1
+-- src/lib.rt:211:1
 returns : tie.Need-returns
 unfolding depth
-returns c = c .read-equation .ensures
+returns c = let s = c .before .before in c .read-equation .ensures (s .args .formula .now) (s .pre .0) (s .pre .1)
 
 pub alternation-depth-spec : {M : Type 1} → statement M
 alternation-depth-spec = tie.close (tie.spec read-equation-requires returns)

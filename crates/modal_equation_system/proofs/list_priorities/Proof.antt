@@ -13,10 +13,10 @@ use Rattle.modal_equation_system.proofs.list_priorities.Lts as lts
 use Rattle.modal_equation_system.proofs.priority_of.Reads as priority-of-reads
 
 abbrev Inv-loop : tie.InvT-loop
-Inv-loop formula bodies operators numbers count priorities₀ i₀ priorities i = (i ≤ count) × (length priorities ≡ length priorities₀) × Ranked formula i priorities₀ priorities
+Inv-loop formula table count priorities₀ i₀ priorities i = (i ≤ count) × (length priorities ≡ length priorities₀) × Ranked formula i priorities₀ priorities
 
 abbrev μ-loop : tie.MeasureT-loop
-μ-loop formula bodies operators numbers count priorities₀ i₀ priorities i = count - i
+μ-loop formula table count priorities₀ i₀ priorities i = count - i
 
 -- src/lib.rt:214:5
 loop-holds : tie.Need-loop-holds Inv-loop μ-loop

@@ -1,79 +1,104 @@
 use Prim.Native.Nat.{_*_}
 use native.Mathlib.Omega.{arith}
+use mathlib.Core.Path.{subst}
 use Rattle.pairs.specs.Slot.{keyOf}
-use Rattle.pairs.proofs.Wrap.{slot-below}
-use Rattle.pairs.proofs.OneMore.{there, full, added-by}
+use Rattle.pairs.proofs.OneMore.{there, full, nowhere-full, added-by, free-within}
 use borrow.Author.Needs.{needs}
 use Rattle.pairs.proofs.number.Statement.{statement}
 use Rattle.pairs.proofs.number.Tie as tie
+use Rattle.pairs.proofs.number.Reads as reads
+use Rattle.pairs.proofs.number.Lts as lts
+use Rattle.pairs.proofs.find.Reads as find-reads
+use Rattle.pairs.proofs.put_slot_word.Reads as put-slot-word-reads
+use Rattle.words.proofs.put_word.Reads as put-word-reads
 
+-- src/lib.rt:430:11
 find-requires : tie.Need-find-requires
 find-requires c κs = search needs
 
+-- src/lib.rt:431:22
 enum-known-vertex : tie.Need-enum-known-vertex
 enum-known-vertex c = search needs
 
-enum-told : tie.Need-enum-told
-enum-told c = search needs
+-- src/lib.rt:432:21
+enum-known-slot : tie.Need-enum-known-slot
+enum-known-slot c = search needs
 
+-- src/lib.rt:434:17
 same-length : tie.Need-same-length
 same-length c = search needs
 
+-- src/lib.rt:434:17
 returns : tie.Need-returns
-returns c = full _ _ _ _ _ (c .before .before .before .before .before .before .pre .1) _ (c .before .before .before .find .ensures) (c .before .enum-told .given .1) (c .if1 .taken)
+returns c = full _ _ _ _ _ (c .before .before .before .before .before .before .before .pre .1) _ _ (c .before .before .before .before .find .ensures) (c .before .before .slot .given .1) (c .if1 .taken)
 
-mul-slot-of : tie.Need-mul-slot-of
-mul-slot-of c = search needs
+-- src/lib.rt:436:23
+mul-key : tie.Need-mul-key
+mul-key c = search needs
 
-slot-of-requires : tie.Need-slot-of-requires
-slot-of-requires c κs = search needs
+-- src/lib.rt:436:23
+add-key : tie.Need-add-key
+add-key c = search needs
 
-cast-slot : tie.Need-cast-slot
-cast-slot c = search needs
+-- src/lib.rt:437:36
+mul-put-slot-word : tie.Need-mul-put-slot-word
+mul-put-slot-word c = omega (arith, c .before .before .before .before .before .before .before .before .pre .1 .most, free-within _ _ _ _ _ (c .before .before .before .before .before .before .before .before .pre .1) _ _ (c .before .before .before .before .before .find .ensures) (c .before .before .before .slot .given .1))
 
-part-word-requires : tie.Need-part-word-requires
-part-word-requires c κs = let s = c .before .before .before .before .before .before .before .before in omega (arith, slot-below (keyOf (s .args .state) (s .args .item)) (2 * s .args .v) (omega (arith, s .pre .1 .some)))
+-- src/lib.rt:437:13
+put-slot-word-requires : tie.Need-put-slot-word-requires
+put-slot-word-requires c κs = omega (arith, c .before .before .before .before .before .before .before .before .pre .1 .whole, free-within _ _ _ _ _ (c .before .before .before .before .before .before .before .before .pre .1) _ _ (c .before .before .before .before .before .find .ensures) (c .before .before .before .slot .given .1))
 
-mul-entry : tie.Need-mul-entry
-mul-entry c = search needs
+-- src/lib.rt:438:36
+mul-put-slot-word-2 : tie.Need-mul-put-slot-word-2
+mul-put-slot-word-2 c = omega (arith, c .before .before .before .before .before .before .before .before .before .before .before .before .pre .1 .most, free-within _ _ _ _ _ (c .before .before .before .before .before .before .before .before .before .before .before .before .pre .1) _ _ (c .before .before .before .before .before .before .before .before .before .find .ensures) (c .before .before .before .before .before .before .before .slot .given .1))
 
-mul-put-part-word : tie.Need-mul-put-part-word
-mul-put-part-word c = search needs
+-- src/lib.rt:438:36
+add-put-slot-word : tie.Need-add-put-slot-word
+add-put-slot-word c = omega (arith, c .before .before .before .before .before .before .before .before .before .before .before .before .pre .1 .most, free-within _ _ _ _ _ (c .before .before .before .before .before .before .before .before .before .before .before .before .pre .1) _ _ (c .before .before .before .before .before .before .before .before .before .find .ensures) (c .before .before .before .before .before .before .before .slot .given .1))
 
-add-put-part-word : tie.Need-add-put-part-word
-add-put-part-word c = search needs
+-- src/lib.rt:438:50
+add-put-slot-word-2 : tie.Need-add-put-slot-word-2
+add-put-slot-word-2 c = search needs
 
-put-part-word-requires : tie.Need-put-part-word-requires
-put-part-word-requires c κs = search needs
+-- src/lib.rt:438:13
+put-slot-word-requires-2 : tie.Need-put-slot-word-requires-2
+put-slot-word-requires-2 c κs = omega (arith, c .before .before .before .before .before .before .before .before .before .before .before .before .pre .1 .whole, free-within _ _ _ _ _ (c .before .before .before .before .before .before .before .before .before .before .before .before .pre .1) _ _ (c .before .before .before .before .before .before .before .before .before .find .ensures) (c .before .before .before .before .before .before .before .slot .given .1))
 
-add-put-part-word-2 : tie.Need-add-put-part-word-2
-add-put-part-word-2 c = search needs
+-- src/lib.rt:439:13
+put-word-requires : tie.Need-put-word-requires
+put-word-requires c κs = search needs
 
-put-part-word-requires-2 : tie.Need-put-part-word-requires-2
-put-part-word-requires-2 c κs = search needs
+-- src/lib.rt:442:24
+add-t16 : tie.Need-add-t16
+add-t16 c = search needs
 
-add-put-part-word-3 : tie.Need-add-put-part-word-3
-add-put-part-word-3 c = search needs
+-- src/lib.rt:445:27
+enum-told : tie.Need-enum-told
+enum-told c = search needs
 
-put-part-word-requires-3 : tie.Need-put-part-word-requires-3
-put-part-word-requires-3 c κs = let s = c .before .before .before .before .before .before .before .before .before .before .before .before .before .before .before .before .before .before in omega (arith, slot-below (keyOf (s .args .state) (s .args .item)) (2 * s .args .v) (omega (arith, s .pre .1 .some)), c .before .before .before .before .before .before .before .before .before .before .before .slot-of .ensures, s .pre .1 .whole)
-
-add-t17 : tie.Need-add-t17
-add-t17 c = let s = c .before .before .before .before .before .before .before .before .before .before .before .before .before .before .before .before .before .before .before .before .before in omega (arith, s .pre .1 .most, s .pre .1 .table .chains .room)
-
+-- src/lib.rt:418:1
 same-length-2 : tie.Need-same-length-2
 same-length-2 c = search needs
 
+-- src/lib.rt:418:1
 returns-2 : tie.Need-returns-2
 returns-2 c = there _ _ _ _ _ (c .before .before .before .before .before .before .pre .1) _ _ (c .before .before .before .find .ensures) (c .before .vertex .given .1)
 
+-- src/lib.rt:418:1
 same-length-3 : tie.Need-same-length-3
 same-length-3 c = search needs
 
+-- src/lib.rt:418:1
 returns-3 : tie.Need-returns-3
-returns-3 c = let s = c .before .before .before .before .before .before .before .before .before .before .before .before .before .before .before .before .before .before .before .before .before in
-    added-by _ _ _ _ _ (s .pre .1) (omega (arith, c .before .before .before .before .before .before .before .before .before .before .before .before .before .before .before .if1 .left, s .pre .1 .table .chains .room)) _ _ _ _ _ _ (c .before .before .before .before .before .before .before .before .before .before .before .before .before .before .before .before .before .before .find .ensures) (c .before .before .before .before .before .before .before .before .before .before .before .before .before .before .before .before .enum-told .given .1) (c .before .before .before .before .before .before .before .before .before .before .before .before .before .before .slot-of .ensures) (c .before .before .before .before .before .before .before .before .before .before .before .before .part-word .ensures)
-    (c .before .before .before .before .before .before .before .before .before .before .put-part-word .ensures) (c .before .before .before .before .before .before .put-part-word2 .ensures) (c .before .before .put-part-word3 .ensures)
+returns-3 c = added-by _ _ _ _ _ (c .before .before .before .before .before .before .before .before .before .before .before .before .before .before .before .before .before .before .before .pre .1) _ _ _ _ _ (omega (arith, c .before .before .before .before .before .before .before .before .before .before .before .before .if1 .left, c .before .before .before .before .before .before .before .before .before .before .before .before .before .before .before .before .before .before .before .pre .1 .table .slots .room)) (c .before .before .before .before .before .before .before .before .before .before .before .before .before .before .before .before .find .ensures) (c .before .before .before .before .before .before .before .before .before .before .before .before .before .before .slot .given .1) (c .before .before .before .before .before .before .before .before .before .before .put-slot-word .ensures) (c .before .before .before .before .before .before .put-slot-word2 .ensures) (c .before .before .put-word .ensures)
+
+-- src/lib.rt:418:1
+same-length-4 : tie.Need-same-length-4
+same-length-4 c = search needs
+
+-- src/lib.rt:418:1
+returns-4 : tie.Need-returns-4
+returns-4 c = nowhere-full _ _ _ _ _ (c .before .before .before .before .before .pre .1) _ (c .before .before .find .ensures) (c .enum-told .given .1)
 
 pub number-spec : {M : Type 1} → statement M
 number-spec =
@@ -81,23 +106,23 @@ number-spec =
     (tie.spec
     find-requires
     enum-known-vertex
-    enum-told
+    enum-known-slot
     same-length
     returns
-    mul-slot-of
-    slot-of-requires
-    cast-slot
-    part-word-requires
-    mul-entry
-    mul-put-part-word
-    add-put-part-word
-    put-part-word-requires
-    add-put-part-word-2
-    put-part-word-requires-2
-    add-put-part-word-3
-    put-part-word-requires-3
-    add-t17
+    mul-key
+    add-key
+    mul-put-slot-word
+    put-slot-word-requires
+    mul-put-slot-word-2
+    add-put-slot-word
+    add-put-slot-word-2
+    put-slot-word-requires-2
+    put-word-requires
+    add-t16
+    enum-told
     same-length-2
     returns-2
     same-length-3
-    returns-3)
+    returns-3
+    same-length-4
+    returns-4)

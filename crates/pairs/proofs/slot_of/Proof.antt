@@ -2,16 +2,14 @@
 use mathlib.Core.Path.{ap}
 use Prim.Native.Nat.{ℕ, _*_, _/_, _^_}
 use Rattle.pairs.specs.Slot.{slotOf}
-use Rattle.pairs.proofs.Wrap.{key-product, wide, scaled-fits}
+use Rattle.lists.proofs.Products.{wide, scaled-fits}
+use Rattle.pairs.proofs.Wrap.{key-product}
 use borrow.Author.Needs.{needs}
 use Rattle.pairs.proofs.slot_of.Statement.{statement}
 use Rattle.pairs.proofs.slot_of.Tie as tie
 
 product-requires : tie.Need-product-requires
 product-requires c κs = search needs
-
-product-requires-2 : tie.Need-product-requires-2
-product-requires-2 c κs = search needs
 
 wrapping-add-u32-requires : tie.Need-wrapping-add-u32-requires
 wrapping-add-u32-requires c κs = search needs
@@ -20,16 +18,16 @@ cast-result : tie.Need-cast-result
 cast-result c = search needs
 
 mul-result : tie.Need-mul-result
-mul-result c = record { fits = wide (c .wrapping-add-u32 .result) (c .before .before .before .args .v) (c .wrapping-add-u32 .ok) (c .before .before .before .fits .v .fits) }
+mul-result c = record { fits = wide (c .wrapping-add-u32 .result) (c .before .before .args .v) (c .wrapping-add-u32 .ok) (c .before .before .fits .v .fits) }
 
 cast-result-2 : tie.Need-cast-result-2
-cast-result-2 c = record { fits = scaled-fits (c .wrapping-add-u32 .result) (c .before .before .before .args .v) (c .wrapping-add-u32 .ok) (c .before .before .before .fits .v .fits) }
+cast-result-2 c = record { fits = scaled-fits (c .wrapping-add-u32 .result) (c .before .before .args .v) (c .wrapping-add-u32 .ok) (c .before .before .fits .v .fits) }
 
 returns : tie.Need-returns
 unfolding slotOf
 returns c =
-    let s = c .before .before .before in
-    ap (λ (p : ℕ). p * s .args .v / 2 ^ 32) (cc (key-product (s .args .state) (s .args .item)))
+    let s = c .before .before in
+    ap (λ (p : ℕ). p * s .args .v / 2 ^ 32) (let e = s .pre .0 .product in cc (key-product (s .args .state) (s .args .item)))
 
 pub slot-of-spec : {M : Type 1} → statement M
-slot-of-spec = tie.close (tie.spec product-requires product-requires-2 wrapping-add-u32-requires cast-result mul-result cast-result-2 returns)
+slot-of-spec = tie.close (tie.spec product-requires wrapping-add-u32-requires cast-result mul-result cast-result-2 returns)

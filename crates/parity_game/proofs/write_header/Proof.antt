@@ -1,6 +1,5 @@
 use denote.Ref.{now}
 use native.Mathlib.Omega.{arith}
-use mathlib.Core.Path.{refl}
 use lib.ListN.{length-set}
 use Rattle.parity_game.proofs.Stretches.{three}
 use borrow.Author.Needs.{needs}
@@ -27,7 +26,7 @@ same-length c = simp length-set
 
 -- src/lib.rt:130:1
 returns : tie.Need-returns
-returns c = record { past = refl; words = three (c .args .vertices) (c .args .edges) 0 (now (c .args .out)) (c .pre) }
+returns c = three (c .args .vertices) (c .args .edges) 0 (now (c .args .out)) (c .pre)
 
 pub write-header-spec : {M : Type 1} → statement M
 write-header-spec =

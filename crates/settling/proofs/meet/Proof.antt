@@ -39,8 +39,8 @@ put-word-requires c κs =
     }
 
 -- src/lib.rt:80:26
-add-t20 : tie.Need-add-t20
-add-t20 c = search needs
+add-t21 : tie.Need-add-t21
+add-t21 c = search needs
 
 -- src/lib.rt:83:29
 enum-told : tie.Need-enum-told
@@ -74,7 +74,7 @@ meet-spec =
     same-length
     returns
     put-word-requires
-    add-t20
+    add-t21
     enum-told
     same-length-2
     returns-2

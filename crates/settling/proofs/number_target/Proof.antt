@@ -32,8 +32,8 @@ put-edge-requires : tie.Need-put-edge-requires
 put-edge-requires c κs = search needs
 
 -- src/lib.rt:115:24
-add-t20 : tie.Need-add-t20
-add-t20 c = search needs
+add-t21 : tie.Need-add-t21
+add-t21 c = search needs
 
 -- src/lib.rt:119:25
 enum-told : tie.Need-enum-told
@@ -66,7 +66,7 @@ number-target-spec =
     same-length
     returns
     put-edge-requires
-    add-t20
+    add-t21
     enum-told
     same-length-2
     returns-2

@@ -69,8 +69,8 @@ put-edge-requires : tie.Need-put-edge-requires
 put-edge-requires c κs = search needs
 
 -- src/lib.rt:162:24
-add-t17 : tie.Need-add-t17
-add-t17 c = omega (arith, c .before .before .before .before .before .before .before .before .before .before .before .before .before .before .before .before .before .before .before .before .before .pre .1 .0 .0 .buffer, c .before .before .before .before .before .before .before .before .before .before .before .before .before .before .before .before .before .before .before .before .before .pre .1 .0 .0 .most-edges)
+add-t18 : tie.Need-add-t18
+add-t18 c = omega (arith, c .before .before .before .before .before .before .before .before .before .before .before .before .before .before .before .before .before .before .before .before .before .pre .1 .0 .0 .buffer, c .before .before .before .before .before .before .before .before .before .before .before .before .before .before .before .before .before .before .before .before .before .pre .1 .0 .0 .most-edges)
 
 -- src/lib.rt:166:25
 enum-told : tie.Need-enum-told
@@ -93,7 +93,7 @@ same-length-4 c = search needs
 -- src/lib.rt:124:1
 returns-4 : tie.Need-returns-4
 returns-4 c =
-    λ ts k. once-crowded _ _ _ (c .before .before .before .before .before .before .before .before .args .c) _ ts (c .before .before .before .before .before .before .before .before .pre .1 .0 .0 .table .chains .room) (subst (MeetAnswer _ _ _ _ _ _) (c .enum-told .given .1) (c .before .before .before .before .meet .ensures)) k
+    λ ts k. once-crowded _ _ _ (c .before .before .before .before .before .before .before .before .args .c) _ ts (c .before .before .before .before .before .before .before .before .pre .1 .0 .0 .table .slots .room) (subst (MeetAnswer _ _ _ _ _ _) (c .enum-told .given .1) (c .before .before .before .before .meet .ensures)) k
 
 pub target-once-spec : {M : Type 1} → statement M
 target-once-spec =
@@ -109,7 +109,7 @@ target-once-spec =
     returns-2
     put-word-requires
     put-edge-requires
-    add-t17
+    add-t18
     enum-told
     same-length-3
     returns-3

@@ -29,13 +29,15 @@ clear-region-requires-2 c κs = search needs
 shared-slice-read-initial : tie.Need-shared-slice-read-initial
 shared-slice-read-initial c = search needs
 
--- src/lib.rt:293:11
+product-requires : tie.Need-product-requires
+product-requires c κs = search needs
+
 meet-requires : tie.Need-meet-requires
 meet-requires c κs =
-    let s = c .before .before .before .before .before .before .before .before .before .before .before .before .before .before .before .before .before .before .before in (
-      s .pre .0 .0,
+    let s = c .before .before .before .before .before .before .before .before .before .before .before .before .before .before .before .before .before .before .before .before in (
+      record { multiples = s .pre .0 .0; product = c .before .product .ensures },
       (
-        empty-ready _ _ _ _ _ _ (s .pre .1) (c .before .before .before .before .before .before .before .before .before .before .before .before .start .ensures) (c .before .before .before .before .before .before .before .before .clear-region .ensures) (c .before .before .before .before .clear-region2 .ensures) (c .before .before .before .before .clear-region2 .kept .0 ∙ c .before .before .before .before .before .before .before .before .clear-region .kept .0 ∙ c .before .before .before .before .before .before .before .before .before .before .before .before .start .kept .0),
+        empty-ready _ _ _ _ _ _ (s .pre .1) (c .before .before .before .before .before .before .before .before .before .before .before .before .before .start .ensures) (c .before .before .before .before .before .before .before .before .before .clear-region .ensures) (c .before .before .before .before .before .clear-region2 .ensures) (c .before .before .before .before .before .clear-region2 .kept .0 ∙ c .before .before .before .before .before .before .before .before .before .clear-region .kept .0 ∙ c .before .before .before .before .before .before .before .before .before .before .before .before .before .start .kept .0),
         record { state-fits = omega (arith, s .pre .0 .1 .system .initial, s .pre .0 .1 .system .states); item-fits = omega arith },
       ),
     )
@@ -55,9 +57,9 @@ same-length c = search needs
 -- src/lib.rt:268:1
 returns : tie.Need-returns
 returns c =
-    let s = c .before .before .before .before .before .before .before .before .before .before .before .before .before .before .before .before .before .before .before .before .before .before .before .before .before in
+    let s = c .before .before .before .before .before .before .before .before .before .before .before .before .before .before .before .before .before .before .before .before .before .before .before .before .before .before in
     let p = subst (MeetAnswer _ _ _ _ _ _) (c .before .known .given .1) (c .before .before .before .before .before .meet .ensures) in
-    start-made _ _ _ _ _ _ (s .pre .1) (c .before .before .before .before .before .before .before .before .before .before .before .before .before .before .before .before .before .before .start .ensures) (c .before .before .before .before .before .before .before .before .before .before .before .before .before .before .clear-region .ensures) (c .before .before .before .before .before .before .before .before .before .before .clear-region2 .ensures) (c .before .before .before .before .before .before .before .before .before .before .clear-region2 .kept .0 ∙ c .before .before .before .before .before .before .before .before .before .before .before .before .before .before .clear-region .kept .0 ∙ c .before .before .before .before .before .before .before .before .before .before .before .before .before .before .before .before .before .before .start .kept .0) _ _ _ _ _ _ p (c .before .before .before .before .before .meet .kept .1 .0)
+    start-made _ _ _ _ _ _ (s .pre .1) (c .before .before .before .before .before .before .before .before .before .before .before .before .before .before .before .before .before .before .before .start .ensures) (c .before .before .before .before .before .before .before .before .before .before .before .before .before .before .before .clear-region .ensures) (c .before .before .before .before .before .before .before .before .before .before .before .clear-region2 .ensures) (c .before .before .before .before .before .before .before .before .before .before .before .clear-region2 .kept .0 ∙ c .before .before .before .before .before .before .before .before .before .before .before .before .before .before .before .clear-region .kept .0 ∙ c .before .before .before .before .before .before .before .before .before .before .before .before .before .before .before .before .before .before .before .start .kept .0) _ _ _ _ _ _ p (c .before .before .before .before .before .meet .kept .1 .0)
 
 -- src/lib.rt:268:1
 same-length-2 : tie.Need-same-length-2
@@ -66,10 +68,10 @@ same-length-2 c = search needs
 -- src/lib.rt:268:1
 returns-2 : tie.Need-returns-2
 returns-2 c =
-    let s = c .before .before .before .before .before .before .before .before .before .before .before .before .before .before .before .before .before .before .before .before .before .before .before .before in
+    let s = c .before .before .before .before .before .before .before .before .before .before .before .before .before .before .before .before .before .before .before .before .before .before .before .before .before in
     let x = inputOf (s .args .labels .now) (s .args .system .now) (s .args .actions .now) (s .args .formula .now) in
     let p = subst (MeetAnswer _ _ _ _ _ _) (c .enum-told .given .1) (c .before .before .before .before .meet .ensures) in
-    start-full _ _ _ _ _ _ (s .pre .1) (c .before .before .before .before .before .before .before .before .before .before .before .before .before .before .before .before .before .start .ensures) (c .before .before .before .before .before .before .before .before .before .before .before .before .before .clear-region .ensures) (c .before .before .before .before .before .before .before .before .before .clear-region2 .ensures) (c .before .before .before .before .before .before .before .before .before .clear-region2 .kept .0 ∙ c .before .before .before .before .before .before .before .before .before .before .before .before .before .clear-region .kept .0 ∙ c .before .before .before .before .before .before .before .before .before .before .before .before .before .before .before .before .before .start .kept .0) (keyTargets x) (rootKey x) p
+    start-full _ _ _ _ _ _ (s .pre .1) (c .before .before .before .before .before .before .before .before .before .before .before .before .before .before .before .before .before .before .start .ensures) (c .before .before .before .before .before .before .before .before .before .before .before .before .before .before .clear-region .ensures) (c .before .before .before .before .before .before .before .before .before .before .clear-region2 .ensures) (c .before .before .before .before .before .before .before .before .before .before .clear-region2 .kept .0 ∙ c .before .before .before .before .before .before .before .before .before .before .before .before .before .before .clear-region .kept .0 ∙ c .before .before .before .before .before .before .before .before .before .before .before .before .before .before .before .before .before .before .start .kept .0) (keyTargets x) (rootKey x) p
 
 pub begin-spec : {M : Type 1} → statement M
 begin-spec =
@@ -79,6 +81,7 @@ begin-spec =
     clear-region-requires
     clear-region-requires-2
     shared-slice-read-initial
+    product-requires
     meet-requires
     enum-known-known
     enum-told

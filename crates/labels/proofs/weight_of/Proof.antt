@@ -1,0 +1,30 @@
+-- `weight_of` meets its contract: the product of two numbers below 2^32 fits. Assumes nothing.
+use mathlib.Core.Path.{refl}
+use Rattle.labels.specs.Marks.{stirred, weight}
+use Rattle.labels.proofs.Marks.{square-fits}
+use borrow.Author.Needs.{needs}
+use Rattle.labels.proofs.weight_of.Statement.{statement}
+use Rattle.labels.proofs.weight_of.Tie as tie
+use Rattle.labels.proofs.weight_of.Reads as reads
+use Rattle.labels.proofs.weight_of.Lts as lts
+
+-- src/lib.rt:109:14
+mul-t : tie.Need-mul-t
+mul-t c = search needs
+
+-- src/lib.rt:109:14
+add-t : tie.Need-add-t
+add-t c = search needs
+
+-- src/lib.rt:110:5
+mul-result : tie.Need-mul-result
+unfolding stirred
+mul-result c = record { fits = square-fits (c .args .action) }
+
+-- src/lib.rt:106:1
+returns : tie.Need-returns
+unfolding stirred weight
+returns c = refl
+
+pub weight-of-spec : {M : Type 1} → statement M
+weight-of-spec = tie.close (tie.spec mul-t add-t mul-result returns)

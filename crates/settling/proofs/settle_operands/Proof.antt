@@ -1,0 +1,95 @@
+use mathlib.Core.Path.{sym, subst}
+use mathlib.Core.List.{[], _∷_}
+use Prim.Native.Nat.{_-_, _<_}
+use native.Mathlib.Omega.{arith}
+use Rattle.pairs.specs.Slot.{keyOf}
+use Rattle.settling.specs.Made.{Fitting, Answer}
+use Rattle.settling.proofs.Operands.{Settling, settling-start, settling-on, settling-many, settling-end, operand-fits}
+use borrow.Author.Needs.{needs}
+use Rattle.settling.proofs.settle_operands.Statement.{statement}
+use Rattle.settling.proofs.settle_operands.Tie as tie
+use Rattle.settling.proofs.settle_operands.Reads as reads
+use Rattle.settling.proofs.settle_operands.Lts as lts
+use Rattle.pairs.proofs.product.Reads as product-reads
+use Rattle.settling.proofs.number_target.Reads as number-target-reads
+use Rattle.settling.proofs.operand.Reads as operand-reads
+
+abbrev Inv-loop : tie.InvT-loop
+Inv-loop multiples work₀ v e state left right count so-far₀ i₀ work so-far i = Settling work₀ v e so-far₀ (keyOf state left ∷ keyOf state right ∷ []) count work so-far i
+
+abbrev μ-loop : tie.MeasureT-loop
+μ-loop multiples work₀ v e state left right count so-far₀ i₀ work so-far i = count - i
+
+-- src/lib.rt:205:5
+loop-holds : tie.Need-loop-holds Inv-loop μ-loop
+loop-holds c = settling-start _ _ _ _ _ _ (c .before .pre .1 .0 .0)
+
+-- src/lib.rt:206:13
+operand-requires : tie.Need-operand-requires Inv-loop μ-loop
+operand-requires c κs = omega (arith, c .loop-test .taken, c .before .before .before .pre .1 .0 .2)
+
+-- src/lib.rt:207:13
+product-requires : tie.Need-product-requires Inv-loop μ-loop
+product-requires c κs = (c .before .before .before .before .pre .0, omega (arith, c .operand .ensures, operand-fits (c .before .before .before .before .args .state) _ _ _ _ (c .before .loop-test .taken) (c .before .before .before .before .pre .1 .0 .2) (c .before .before .before .before .pre .1 .0 .1) (c .before .before .before .before .pre .1 .1) .item-fits))
+
+-- src/lib.rt:208:15
+number-target-requires : tie.Need-number-target-requires Inv-loop μ-loop
+number-target-requires c κs = (record { multiples = c .before .before .before .before .before .before .pre .0; product = c .before .product .ensures }, (c .before .before .before .before .loop .inv .made .ready, subst (Fitting (c .before .before .before .before .before .before .args .state)) (sym (c .before .before .operand .ensures)) (operand-fits _ _ _ _ _ (c .before .before .before .loop-test .taken) (c .before .before .before .before .before .before .pre .1 .0 .2) (c .before .before .before .before .before .before .pre .1 .0 .1) (c .before .before .before .before .before .before .pre .1 .1))))
+
+-- src/lib.rt:209:27
+enum-known-next : tie.Need-enum-known-next Inv-loop μ-loop
+enum-known-next c = search needs
+
+-- src/lib.rt:213:17
+enum-told : tie.Need-enum-told Inv-loop μ-loop
+enum-told c = search needs
+
+-- src/lib.rt:213:17
+same-length : tie.Need-same-length Inv-loop μ-loop
+same-length c = search needs
+
+-- src/lib.rt:213:17
+returns : tie.Need-returns Inv-loop μ-loop
+returns c = settling-many _ _ _ _ _ _ _ _ (c .before .before .before .before .before .before .before .before .before .before .before .pre .1 .0 .2) _ (c .before .before .before .before .number-target .last .1 .1 .0) _ _ (c .before .before .before .before .before .before .before .before .before .loop .inv) (c .before .before .before .before .before .before .before .before .loop-test .taken) _ (c .before .before .before .before .before .before .before .operand .ensures)
+    (subst (Answer _ _ _ _ _ _) (c .enum-told .given .1) (c .before .before .before .before .number-target .ensures))
+
+-- src/lib.rt:216:9
+add-i : tie.Need-add-i Inv-loop μ-loop
+add-i c = search needs
+
+-- src/lib.rt:205:5
+loop-less : tie.Need-loop-less Inv-loop μ-loop
+loop-less c = search needs
+
+-- src/lib.rt:205:5
+loop-again : tie.Need-loop-again Inv-loop μ-loop
+loop-again c = settling-on _ _ _ _ _ _ _ _ (c .before .before .before .before .before .before .before .before .before .before .before .before .pre .1 .0 .2) _ _ _ _ (c .before .before .before .before .before .before .before .before .before .before .loop .inv) (c .before .before .before .before .before .before .before .before .before .loop-test .taken) _ (c .before .before .before .before .before .before .before .before .operand .ensures) _ (c .before .before .before .before .before .number-target .kept .1 .1 .0)
+    (subst (Answer _ _ _ _ _ _) (c .before .next .given .1) (c .before .before .before .before .before .number-target .ensures))
+
+-- src/lib.rt:187:1
+same-length-2 : tie.Need-same-length-2 Inv-loop μ-loop
+same-length-2 c = c .before .loop .inv .same
+
+-- src/lib.rt:187:1
+returns-2 : tie.Need-returns-2 Inv-loop μ-loop
+returns-2 c = settling-end _ _ _ _ _ _ _ _ (c .before .before .before .pre .1 .0 .2) _ _ _ (c .before .loop .inv) (c .loop-test .left)
+
+pub settle-operands-spec : {M : Type 1} → statement M
+settle-operands-spec =
+    tie.close
+    (tie.spec
+    Inv-loop
+    μ-loop
+    loop-holds
+    operand-requires
+    product-requires
+    number-target-requires
+    enum-known-next
+    enum-told
+    same-length
+    returns
+    add-i
+    loop-less
+    loop-again
+    same-length-2
+    returns-2)
