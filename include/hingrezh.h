@@ -72,7 +72,7 @@
  * hingrezh_compute_reachable in the order 51, 52, 53, 2; of faults with one number the one with the smallest place.
  * In 34 and 44 a right-child operand isn't judged if its left tree is unfinished.
  *
- * Stack: the deepest inputs (1,023 nested negations in an action formula) have run in 180 KB as a whole process; give the
+ * Stack: the deepest inputs (1,023 nested negations in an action formula) have run in 184 KB as a whole process; give the
  * calling thread at least 256 KB.
  */
 #ifndef HINGREZH_H
