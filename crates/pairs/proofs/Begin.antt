@@ -1,7 +1,7 @@
 -- An empty table: slots that are all 0. Assumes nothing.
-use mathlib.Core.Path.{_≡_, refl, _∙_, ap, subst}
+use mathlib.Core.Path.{_≡_, _∙_, ap, subst}
 use mathlib.Core.List.{List}
-use Prim.Native.Nat.{ℕ, _+_, _*_, _/_, _≤_, _<_}
+use Prim.Native.Nat.{ℕ, _+_, _*_, _≤_, _<_}
 use native.Mathlib.Nat.{not-suc-le-zero}
 use native.Mathlib.Decide.{ℕ-discrete}
 use native.Mathlib.Omega.{arith}

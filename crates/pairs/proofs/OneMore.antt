@@ -1,7 +1,7 @@
 -- Numbering a pair: what holds of the words in each case. Assumes nothing.
 use mathlib.Core.Path.{_≡_, refl, sym, _∙_, ap, subst, subst₂}
 use mathlib.Core.List.{List, [], _∷_, _++_}
-use Prim.Native.Nat.{ℕ, _+_, _*_, _/_, _<_}
+use Prim.Native.Nat.{ℕ, _+_, _*_, _<_}
 use native.Mathlib.Decide.{ℕ-discrete}
 use native.Mathlib.Omega.{arith}
 use lib.Dec.{eqb, lit<}
@@ -13,11 +13,11 @@ use Rattle.lists.proofs.Members.{place-out}
 use Rattle.lists.proofs.Inserts.{insert-old, insert-new}
 use Rattle.lists.proofs.Equalities.{number-equality}
 use Rattle.words.specs.Regions.{region, putWord}
-use Rattle.words.proofs.Regions.{region-past, region-same, rest-put, length-region, length-putWord}
+use Rattle.words.proofs.Regions.{region-past, region-same, rest-put, length-region}
 use Rattle.pairs.specs.declared.Place.{Place}
 use Rattle.pairs.specs.declared.Place.the-variants.{Known, Free, Nowhere}
-use Rattle.pairs.specs.Slot.{keyOf, slotOf}
-use Rattle.pairs.specs.Table.{slotCount, slotsOf, keysIn, keysOf, Slots, Asks}
+use Rattle.pairs.specs.Slot.{keyOf}
+use Rattle.pairs.specs.Table.{slotsOf, keysIn, keysOf, Slots, Asks}
 use Rattle.pairs.specs.Answers.{Fresh, Finding, Numbers, Full}
 use Rattle.pairs.proofs.Slots.{length-keysIn, keysIn-more, filled, more}
 

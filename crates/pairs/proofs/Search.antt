@@ -1,7 +1,7 @@
 -- The search for a key: along a stretch of slots, and over all of them from the key's own slot. Assumes nothing.
 use mathlib.Core.Path.{_≡_, subst}
 use mathlib.Core.List.{List}
-use Prim.Native.Nat.{ℕ, _+_, _*_, _/_, _≤_, _<_}
+use Prim.Native.Nat.{ℕ, _+_, _≤_, _<_}
 use native.Mathlib.Decide.{decLt, ℕ-discrete}
 use native.Mathlib.Omega.{arith}
 use lib.ListN.{length}
@@ -10,7 +10,7 @@ use Rattle.pairs.specs.declared.Place.{Place}
 use Rattle.pairs.specs.declared.Place.the-variants.{Known, Free, Nowhere}
 use Rattle.pairs.specs.Slot.{slotOf}
 use Rattle.pairs.specs.Table.{slotCount, slotsOf, keyIn, heldIn, keysOf, Path, Table}
-use Rattle.pairs.specs.Answers.{Others, Has, Ends, Probed, Fresh, Finding}
+use Rattle.pairs.specs.Answers.{Others, Has, Ends, Probed, Finding}
 use Rattle.pairs.proofs.Slots.{length-keysIn, found-at, absent, crowded}
 
 -- ---- along a stretch

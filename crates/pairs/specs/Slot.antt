@@ -1,4 +1,4 @@
--- The key of a pair, and the slot from which its chain starts (document 01, "Modules": "wrapping sums of byte multiples .. giving the starting slot of a pair"). Assumes nothing:
+-- The key of a pair, and the slot from which the search for it starts (document 01, "Modules": "wrapping sums of byte multiples .. giving the starting slot of a pair"). Assumes nothing:
 -- these are definitions.
 use mathlib.Core.Path.{_≡_}
 use mathlib.Core.List.{List}
