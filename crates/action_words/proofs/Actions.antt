@@ -1,8 +1,7 @@
 -- The refusals 31 to 34 of the action formulas, one law for each answer of the code, and what words that passed have. Assumes nothing.
-use Prim.Native.Nat.{ℕ, suc, _+_, _*_, _<_, _≤_}
+use Prim.Native.Nat.{ℕ, _+_, _*_, _<_, _≤_}
 use native.Mathlib.Omega.{arith}
 use native.Mathlib.Numerals.{add-one}
-use native.Mathlib.Decide.{ℕ-discrete}
 use mathlib.Core.Path.{_≡_, refl, sym, ap, _∙_}
 use mathlib.Core.Bool.{Bool, true, false, not}
 use mathlib.Core.List.{List, [], _∷_}
@@ -13,10 +12,10 @@ use Rattle.rules.specs.declared.Check.the-variants.{Passed, Fault}
 use Rattle.rules.specs.Answers.{faultIf, firstFault}
 use Rattle.rules.specs.Words.{mostNodes}
 use Rattle.rules.specs.Labels.{labelCount}
-use Rattle.rules.specs.Table.{size, kind, operand, actionNode, actionChildren, treeEnd, isNotEnd, onRow}
-use Rattle.rules.specs.Refusal.{faultFrom, differ, wrongActionOperand, badActionOperand, refusal31, refusal32, refusal33, refusal34}
+use Rattle.rules.specs.Table.{size, kind, operand, actionChildren, treeEnd, isNotEnd, onRow}
+use Rattle.rules.specs.Refusal.{faultFrom, differ, badActionOperand, refusal31, refusal32, refusal33, refusal34}
 use Rattle.tables.proofs.Faults.{if-true, if-false, if-passed, first-passed}
-use Rattle.tables.proofs.Decode.{action-true, action-false, action-multi, action-union, action-intersection, action-negation, action-none}
+use Rattle.tables.proofs.Operands.{action-zero, action-label, action-right, action-negated, action-other}
 use Rattle.lists.proofs.Tests.{or-left, or-right, or-none, or-false}
 use Rattle.tables.proofs.Choices.{differ-yes, differ-no, differ-false}
 use Rattle.table_words.specs.Tables.{Sized, Firsts}
@@ -64,30 +63,18 @@ module _ (acts : List ℕ) where
 -- the operand o of a node of kind k, as the code has read them
 module _ (ls acts : List ℕ) (v k o : ℕ) (h : v < size acts) (q : k ≡ kind acts v) (e : o ≡ operand acts v) where
   pub constant-operand : k < 2 → not (eqb o 0) ≡ badActionOperand ls acts v
-  unfolding badActionOperand wrongActionOperand differ
-  constant-operand l = go (ℕ-discrete k 0)
-    where
-      go : Dec (k ≡ 0) → not (eqb o 0) ≡ wrongActionOperand (labelCount ls) (operand acts v) (treeEnd (actionChildren acts) (size acts) (suc v)) (actionNode acts v)
-      go (yes d) = rw (action-true acts v h (omega arith), e)
-      go (no d) = rw (action-false acts v h (omega arith), e)
+  unfolding differ
+  constant-operand l = rw e (sym (action-zero ls acts v h (omega arith)))
 
   pub label-operand : (l : ℕ) → l ≡ labelCount ls → 2 ≤ k → k < 3 → leb l o ≡ badActionOperand ls acts v
-  unfolding badActionOperand wrongActionOperand
-  label-operand l i a b = rw (action-multi acts v h (omega arith), i, e)
+  label-operand l i a b = rw (i, e) (sym (action-label ls acts v h (omega arith)))
 
   pub right-operand : 3 ≤ k → k < 5 → isNotEnd o (treeEnd (actionChildren acts) (size acts) (v + 1)) ≡ badActionOperand ls acts v
-  unfolding badActionOperand wrongActionOperand
-  right-operand a b = go (ℕ-discrete k 3)
-    where
-      go : Dec (k ≡ 3) → isNotEnd o (treeEnd (actionChildren acts) (size acts) (v + 1))
-          ≡ wrongActionOperand (labelCount ls) (operand acts v) (treeEnd (actionChildren acts) (size acts) (suc v)) (actionNode acts v)
-      go (yes d) = rw (action-union acts v h (omega arith), e, add-one)
-      go (no d) = rw (action-intersection acts v h (omega arith), e, add-one)
+  right-operand a b = rw (e, add-one) (sym (action-right ls acts v h (omega arith) (omega arith)))
 
   pub negation-operand : 5 ≤ k → k < 6 → not (eqb o 0) ≡ badActionOperand ls acts v
-  unfolding badActionOperand wrongActionOperand differ
-  negation-operand a b = rw (action-negation acts v h (omega arith), e)
+  unfolding differ
+  negation-operand a b = rw e (sym (action-negated ls acts v h (omega arith)))
 
   pub unknown-operand : 6 ≤ k → false ≡ badActionOperand ls acts v
-  unfolding badActionOperand wrongActionOperand
-  unknown-operand a = rw (action-none acts v h (omega arith))
+  unknown-operand a = sym (action-other ls acts v h (omega arith))

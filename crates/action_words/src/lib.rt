@@ -1,5 +1,6 @@
 // The check of the action formulas: m, m kinds, m operands.
 use rules::Check;
+use table_words::Table;
 ghost use mathlib.Core.Path.{_≡_};
 ghost use mathlib.Core.List.{[], _∷_};
 ghost use Prim.Native.Nat.{_<_};
@@ -24,7 +25,7 @@ fn bad_operand(labels: &[u32], acts: &[u32], ends: &[usize; 1026], v: usize) -> 
         return words::at(labels, 0) <= operand;
     }
     if kind < 5 {
-        return table_words::not_right_child(acts, false, ends, v, operand);
+        return table_words::not_right_child(acts, ends, v, operand);
     }
     if kind < 6 {
         return operand != 0;
@@ -63,9 +64,9 @@ fn check_trees(labels: &[u32], acts: &[u32]) -> Check
     ensures { λ r. ⌜ r ≡ refusal34 (now (labels .entry)) (now (acts .entry)) ⌝ }
 {
     let mut ends = [0usize; 1026];
-    table_words::tree_ends(acts, false, &mut ends);
+    table_words::tree_ends(acts, Table::Actions, &mut ends);
     let mut firsts = [false; 1025];
-    table_words::first_nodes(acts, false, &ends, &mut firsts);
+    table_words::first_nodes(acts, &ends, &mut firsts);
     check_operands(labels, acts, &ends, &firsts)
 }
 

@@ -9,7 +9,7 @@ use Rattle.rules.specs.Lists.{word}
 use Rattle.rules.specs.Labels.{labelCount, multiset}
 use Rattle.rules.specs.Table.{size, kind, operand}
 use Rattle.rules.specs.Actions.{Action, actionTree}
-use Rattle.rules.specs.Good.{GoodActions}
+use Rattle.tables.specs.Good.{GoodActions}
 use Rattle.labels.specs.Classes.{Classes}
 use Rattle.trees.proofs.ActionTrees.{any-tree, never-tree, multi-tree, union-tree, intersection-tree, negation-tree}
 use Rattle.alike_nodes.specs.Nodes.{Last, Numbered, ActionShown, numberOf}

@@ -10,7 +10,7 @@ use Rattle.rules.specs.Words.{Input}
 use Rattle.rules.specs.Table.{size, kind, operand}
 use Rattle.rules.specs.Actions.{Action, actionTree}
 use Rattle.rules.specs.Formula.{Formula, formulaTree, equationNumber}
-use Rattle.rules.specs.Good.{GoodInput}
+use Rattle.tables.specs.Good.{GoodInput}
 use Rattle.trees.proofs.Fixpoints.{fixpoint-kind}
 use Rattle.trees.proofs.FormulaTrees.{truth-tree, falsity-tree, conjunction-tree, disjunction-tree, box-tree, diamond-tree, fixpoint-tree, reference-tree}
 use Rattle.alike_nodes.specs.Nodes.{Last, Numbered, Later, EquationNumbers, FormulaShown, numberOf}

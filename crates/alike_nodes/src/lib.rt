@@ -10,7 +10,7 @@ ghost use Rattle.rules.specs.Labels.{labelCount};
 ghost use Rattle.rules.specs.Table.{size};
 ghost use Rattle.rules.specs.Actions.{actionTree};
 ghost use Rattle.rules.specs.Formula.{formulaTree};
-ghost use Rattle.rules.specs.Good.{GoodActions, GoodInput};
+ghost use Rattle.tables.specs.Good.{GoodActions, GoodInput};
 ghost use Rattle.labels.specs.Classes.{Classes};
 ghost use Rattle.alike_nodes.specs.Nodes.{Last, Numbered, Later, EquationNumbers, ActionShown, FormulaShown, shownBy, numberOf};
 

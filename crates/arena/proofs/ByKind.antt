@@ -9,7 +9,7 @@ use Rattle.rules.specs.Actions.{actionTree}
 use Rattle.rules.specs.Formula.{equationCount, equationOf, equationNumber, formulaTree, bodyTree}
 use Rattle.rules.specs.Items.{itemNumber}
 use Rattle.rules.specs.Pairs.{itemAt, operatorOwner, formulaOwner, itemOwner, owner, successors, formulaTargets, itemTargets, targets}
-use Rattle.rules.specs.Good.{GoodInput}
+use Rattle.tables.specs.Good.{GoodInput}
 use Rattle.trees.proofs.FormulaTrees.{truth-tree, falsity-tree, conjunction-tree, disjunction-tree, box-tree, diamond-tree, least-tree, greatest-tree, reference-tree}
 use Rattle.arena.specs.Arena.{BodyNode}
 use Rattle.arena.proofs.ItemNumbers.{item-equation, item-subformula}

@@ -1,7 +1,6 @@
 -- The targets of a pair of a state and an item are such pairs. Assumes nothing.
 use mathlib.Core.Path.{_≡_, refl, sym, ap, ap₂, subst, _∙_}
 use mathlib.Core.Logic.{_⊎_, inl, inr}
-use mathlib.Core.Bool.{Bool, true, false, cond}
 use mathlib.Core.List.{List, [], _∷_, _++_, map}
 use Prim.Native.Nat.{ℕ, zero, suc, _+_, _*_, _≤_, _<_}
 use native.Mathlib.Decide.{decLt, ℕ-discrete}
@@ -16,10 +15,12 @@ use Rattle.rules.specs.Table.{size}
 use Rattle.rules.specs.Actions.{Action, matches}
 use Rattle.rules.specs.Formula.{equationCount, equationOf, Formula, truth, falsity, conjunction, disjunction, box, diamond, reference, formulaTree, bodyTree}
 use Rattle.rules.specs.Items.{Item, equation, subformula, items, itemNumber}
-use Rattle.rules.specs.Pairs.{Pair, initialPair, itemAt, matching, successors, formulaTargets, itemTargets, targets}
+use Rattle.rules.specs.Pairs.{Pair, initialPair, itemAt, matchingTransitions, successors}
+use Rattle.rules.specs.Pairs.{formulaTargets, itemTargets, targets}
 use Rattle.rules.specs.Reach.{pairCount}
-use Rattle.rules.specs.Good.{GoodSystem, GoodInput}
+use Rattle.tables.specs.Good.{GoodSystem, GoodInput}
 use Rattle.lists.proofs.Members.{in-left, in-right, in-either, map-in, in-map}
+use Rattle.lists.proofs.Filters.{filter-in}
 use Rattle.lists.proofs.Inserts.{once-in}
 use Rattle.lists.proofs.Equalities.{number-equality}
 use Rattle.trees.proofs.Equations.{good-some-equation}
@@ -37,38 +38,30 @@ module _ (l : ℕ) (ss : List ℕ) (good : GoodSystem l ss) (s : ℕ) (h : s < s
   unfolding firstTransition sumWords
   transitions-within = let a = sum-grows ss 3 (suc s) (stateCount ss) h in let b = good .total in omega arith
 
-  pub transition-inside : (t : ℕ × ℕ) → In t (transitions ss s) → (t .0 < l) × (t .1 < stateCount ss)
+  pub transition-inside : (t : ℕ) → In t (transitions ss s)
+      → (transitionLabel ss t < l) × (transitionTarget ss t < stateCount ss)
   unfolding transitions
   transition-inside t m =
-      let (i, k, e) = in-map (λ i. (transitionLabel ss i, transitionTarget ss i)) t (from (firstTransition ss s) (degree ss s)) m in
-      let (a, b) = in-from i (firstTransition ss s) (degree ss s) k in
+      let (a, b) = in-from t (firstTransition ss s) (degree ss s) m in
       let w = transitions-within in
-      let c = good .labels i (omega arith) in
-      let d = good .targets i (omega arith) in
-      let p = ap (λ (z : ℕ × ℕ). z .0) e in
-      let q = ap (λ (z : ℕ × ℕ). z .1) e in
-      (omega arith, omega arith)
+      (good .labels t (omega arith), good .targets t (omega arith))
 
 -- a matching transition is a transition
-pub matching-in : (ls : List ℕ) (a : Action) (t : ℕ) (ts : List (ℕ × ℕ)) → In t (matching ls a ts) → (l : ℕ) × In (l, t) ts
-unfolding matching
-matching-in ls a t [] m = absurd m
-matching-in ls a t (u ∷ ts) m = go (λ k. matching-in ls a t ts k) (matches (multiset ls (u .0)) a) m
-  where
-    later : (l : ℕ) × In (l, t) ts → (l : ℕ) × In (l, t) (u ∷ ts)
-    later (l, k) = (l, inr k)
-
-    go : (In t (matching ls a ts) → (l : ℕ) × In (l, t) ts) → (b : Bool) → In t (cond b (u .1 ∷ matching ls a ts) (matching ls a ts)) → (l : ℕ) × In (l, t) (u ∷ ts)
-    go f true (inl e) = (u .0, inl (ap (λ (z : ℕ). (u .0, z)) e))
-    go f true (inr k) = later (f k)
-    go f false k = later (f k)
+pub matching-in : (x : Input) (a : Action) (s t : ℕ) → In t (matchingTransitions x a s)
+    → In t (transitions (x .system) s)
+unfolding matchingTransitions
+matching-in x a s t m =
+    filter-in (λ u. matches (multiset (x .labels) (transitionLabel (x .system) u)) a) t (transitions (x .system) s) m
 
 module _ (x : Input) (good : GoodInput x) where
   pub successor-inside : (a : Action) (s t : ℕ) → s < stateCount (x .system) → In t (successors x a s) → t < stateCount (x .system)
   unfolding successors
   successor-inside a s t h m =
-      let (l, k) = matching-in (x .labels) a t (transitions (x .system) s) (once-in number-equality (matching (x .labels) a (transitions (x .system) s)) t .0 m) in
-      transition-inside (labelCount (x .labels)) (x .system) (good .system) s h (l, t) k .1
+      let met = map (transitionTarget (x .system)) (matchingTransitions x a s) in
+      let among = once-in number-equality met t .0 m in
+      let (i, k, e) = in-map (transitionTarget (x .system)) t (matchingTransitions x a s) among in
+      let own = matching-in x a s i k in
+      omega (arith, e, transition-inside (labelCount (x .labels)) (x .system) (good .system) s h i own .1)
 
   -- ---- items
 

@@ -8,16 +8,16 @@ use Prim.Native.Nat.{ℕ, _+_, _*_, _-_, _≤_, _<_}
 use native.Mathlib.Omega.{arith}
 use lib.ListN.{getD, length, length-append, length-map, List·getD-append, List·getD-map}
 use lib.Seq.{getD-append-add}
-use Rattle.rules.specs.Lists.{In, Distinct, one, place}
+use Rattle.rules.specs.Lists.{In, Distinct, one, position}
 use Rattle.rules.specs.Words.{Input}
 use Rattle.rules.specs.Table.{size, formulaNode}
 use Rattle.rules.specs.Formula.{least, isFixpoint, equations, equationCount, equationOf}
 use Rattle.rules.specs.Formula.{Formula, truth, formulaTree, firstBodyNode, bodyNodes}
 use Rattle.rules.specs.Items.{alike, equation, subformula, subformulas, items, itemNumber}
 use Rattle.rules.specs.Pairs.{itemAt}
-use Rattle.rules.specs.Good.{GoodInput}
+use Rattle.tables.specs.Good.{GoodInput}
 use Rattle.arena.specs.Arena.{BodyNode, Carried}
-use Rattle.lists.proofs.Members.{in-at, map-at, map-in, in-map, place-below, place-at, place-of}
+use Rattle.lists.proofs.Members.{in-at, map-at, map-in, in-map, position-below, position-at, position-of}
 use Rattle.lists.proofs.Inserts.{once-in, once-distinct, once-length}
 use Rattle.trees.proofs.Equations.{count-few}
 use Rattle.arena.proofs.Alike.{alike-equality}
@@ -93,26 +93,26 @@ module _ (x : Input) where
       unfolding itemNumber
       item-below =
           let e = items-count in
-          let p = place-below alike-equality t (subformulas x) (carried-listed t c) in
+          let p = position-below alike-equality t (subformulas x) (carried-listed t c) in
           omega arith
 
       pub item-subformula : itemAt x (itemNumber x t) ≡ subformula t
       unfolding itemAt items itemNumber equationCount
       item-subformula =
-          ap (λ (k : ℕ). getD (map equation (equations (x .formula)) ++ map subformula (subformulas x)) (k + place alike t (subformulas x)) (subformula truth))
+          ap (λ (k : ℕ). getD (map equation (equations (x .formula)) ++ map subformula (subformulas x)) (k + position alike t (subformulas x)) (subformula truth))
           (sym (length-map (equations (x .formula)) equation))
-          ∙ getD-append-add (map equation (equations (x .formula))) (map subformula (subformulas x)) (place alike t (subformulas x)) (subformula truth)
-          ∙ List·getD-map subformula (subformulas x) (place alike t (subformulas x)) truth
-          ∙ ap subformula (place-at alike-equality t (subformulas x) truth (carried-listed t c))
+          ∙ getD-append-add (map equation (equations (x .formula))) (map subformula (subformulas x)) (position alike t (subformulas x)) (subformula truth)
+          ∙ List·getD-map subformula (subformulas x) (position alike t (subformulas x)) truth
+          ∙ ap subformula (position-at alike-equality t (subformulas x) truth (carried-listed t c))
 
   -- two of them have one number exactly if they are equal
   pub item-equal : (s t : Formula) → Carried x s → Carried x t → itemNumber x s ≡ itemNumber x t → s ≡ t
   unfolding itemNumber
   item-equal s t c d e =
-      let p : place alike s (subformulas x) ≡ place alike t (subformulas x) = omega arith in
-      sym (place-at alike-equality s (subformulas x) truth (carried-listed s c))
+      let p : position alike s (subformulas x) ≡ position alike t (subformulas x) = omega arith in
+      sym (position-at alike-equality s (subformulas x) truth (carried-listed s c))
       ∙ ap (λ (i : ℕ). getD (subformulas x) i truth) p
-      ∙ place-at alike-equality t (subformulas x) truth (carried-listed t d)
+      ∙ position-at alike-equality t (subformulas x) truth (carried-listed t d)
 
   pub same-item : (u v : ℕ) → BodyNode (x .formula) u → BodyNode (x .formula) v
       → (itemNumber x (formulaTree x u) ≡ itemNumber x (formulaTree x v)) ↔ (formulaTree x u ≡ formulaTree x v)
@@ -127,8 +127,8 @@ module _ (x : Input) where
       let i : ℕ = q - equationCount (x .formula) in
       let h : i < length (subformulas x) = omega arith in
       let (v, d, t) = listed-carried (getD (subformulas x) i truth) (in-at (subformulas x) i truth h) in
-      let p : place alike (formulaTree x v) (subformulas x) ≡ i =
-      ap (λ (s : Formula). place alike s (subformulas x)) t ∙ place-of alike-equality (subformulas x) i truth subformulas-distinct h in
+      let p : position alike (formulaTree x v) (subformulas x) ≡ i =
+      ap (λ (s : Formula). position alike s (subformulas x)) t ∙ position-of alike-equality (subformulas x) i truth subformulas-distinct h in
       (v, d, omega arith)
 
   -- ---- how many

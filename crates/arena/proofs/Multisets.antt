@@ -13,21 +13,21 @@ use borrow.Author.Tests.{eqb-true}
 use Rattle.rules.specs.Lists.{tally}
 use Rattle.rules.specs.Words.{Input, Room}
 use Rattle.rules.specs.Labels.{labelCount, actionCount, labelAt, actionAt, times, sameLabel, multiset}
-use Rattle.rules.specs.System.{stateCount}
+use Rattle.rules.specs.System.{stateCount, transitionLabel}
 use Rattle.rules.specs.Table.{operand}
 use Rattle.rules.specs.Actions.{actionTree}
 use Rattle.rules.specs.Formula.{Formula, formulaTree}
-use Rattle.rules.specs.Depth.{byDepth}
+use Rattle.rules.specs.Depth.{Ranking, byDepth}
 use Rattle.rules.specs.Items.{items, itemNumber}
 use Rattle.rules.specs.Pairs.{Pair, owner, targets}
 use Rattle.rules.specs.Run.{run}
-use Rattle.rules.specs.Good.{GoodLabels, GoodActions, GoodInput}
+use Rattle.tables.specs.Good.{GoodLabels, GoodActions, GoodInput}
 use Rattle.labels.proofs.Counts.{flags, tally-some}
 use Rattle.labels.proofs.Alike.{same-times, times-same}
-use Rattle.arena.specs.Reworded.{reworded, SameCounts, SameMultisets, SameActions}
+use Rattle.arena.specs.Reworded.{reworded, SameRanks, SameCounts, SameMultisets, SameActions}
 use Rattle.lists.proofs.Ranges.{same-seek}
 use Rattle.arena.proofs.Inside.{transition-inside}
-use Rattle.arena.proofs.SameTrees.{same-actions, same-formulas, same-items, same-numbers, same-owners, same-targets, same-run}
+use Rattle.arena.proofs.SameTrees.{same-actions, same-formulas, same-items, same-numbers, same-owners, same-ranks, same-targets, same-run}
 use Rattle.arena.proofs.SameRefusals.{relabelled-refusal, renamed-refusal}
 use Rattle.lists.proofs.Tests.{and-true}
 
@@ -107,18 +107,31 @@ module _ (x : Input) (good : GoodInput x) (ls′ : List ℕ) (same : SameMultise
   pub relabelled-owners : (p : Pair) → owner (reworded x ls′ (x .actions)) p ≡ owner x p
   relabelled-owners = same-owners x ls′ (x .actions) relabelled-actions
 
+  pub relabelled-ranks : SameRanks byDepth x (reworded x ls′ (x .actions))
+  relabelled-ranks = same-ranks x ls′ (x .actions) relabelled-actions
+
   pub relabelled-targets : (s q : ℕ) → s < stateCount (x .system) → targets (reworded x ls′ (x .actions)) (s, q) ≡ targets x (s, q)
   relabelled-targets s q h =
       same-targets x ls′ (x .actions) relabelled-actions s
-      (λ t m. same-multisets (x .labels) ls′ same (t .0) (transition-inside (labelCount (x .labels)) (x .system) (good .system) s h t m .0))
+      (λ t m. same-multisets (x .labels) ls′ same (transitionLabel (x .system) t)
+      (transition-inside (labelCount (x .labels)) (x .system) (good .system) s h t m .0))
       q
 
--- permuting actions within labels changes no word of a run
-pub permuted-run : (x : Input) → GoodInput x → (ls′ : List ℕ) → GoodLabels ls′ → SameCounts (x .labels) ls′ → (r : Room) (k : ℕ) (game work : List ℕ)
-    → run byDepth (reworded x ls′ (x .actions)) r k game work ≡ run byDepth x r k game work
-permuted-run x good ls′ good′ same r k game work =
-    same-run x ls′ (x .actions) (relabelled-actions x good ls′ (counts-multisets (x .labels) ls′ same)) (all-multisets (x .labels) ls′ (good .labels) good′ same) r k game work
+-- permuting actions within labels changes no word of a run, by any ranking that ranks the equations of both inputs
+-- alike; so by depth
+pub permuted-run : (x : Input) → GoodInput x → (ls′ : List ℕ) → GoodLabels ls′ → SameCounts (x .labels) ls′
+    → (rank : Ranking) → SameRanks rank x (reworded x ls′ (x .actions)) → (r : Room) (k : ℕ) (game work : List ℕ)
+    → run rank (reworded x ls′ (x .actions)) r k game work ≡ run rank x r k game work
+permuted-run x good ls′ good′ same rank ranks r k game work =
+    same-run x ls′ (x .actions) (relabelled-actions x good ls′ (counts-multisets (x .labels) ls′ same))
+    (all-multisets (x .labels) ls′ (good .labels) good′ same) rank ranks r k game work
     (relabelled-refusal x ls′ (good .labels) good′ (same .labels) r (length game) (length work))
+
+pub permuted-run-by-depth : (x : Input) → GoodInput x → (ls′ : List ℕ) → GoodLabels ls′ → SameCounts (x .labels) ls′
+    → (r : Room) (k : ℕ) (game work : List ℕ)
+    → run byDepth (reworded x ls′ (x .actions)) r k game work ≡ run byDepth x r k game work
+permuted-run-by-depth x good ls′ good′ same =
+    permuted-run x good ls′ good′ same byDepth (relabelled-ranks x good ls′ (counts-multisets (x .labels) ls′ same))
 
 -- ---- other action formulas: multi-actions that name an equal label (by `multiset-same`: one in which every action occurs as often)
 
@@ -135,7 +148,17 @@ module _ (x : Input) (acts′ : List ℕ) (same : SameActions (x .labels) (x .la
   pub renamed-targets : (p : Pair) → targets (reworded x (x .labels) acts′) p ≡ targets x p
   renamed-targets p = same-targets x (x .labels) acts′ renamed-actions (p .0) (λ t m. refl) (p .1)
 
-  pub renamed-run : GoodInput x → GoodActions (labelCount (x .labels)) acts′ → (r : Room) (k : ℕ) (game work : List ℕ)
+  pub renamed-ranks : SameRanks byDepth x (reworded x (x .labels) acts′)
+  renamed-ranks = same-ranks x (x .labels) acts′ renamed-actions
+
+  pub renamed-run : GoodInput x → GoodActions (labelCount (x .labels)) acts′
+      → (rank : Ranking) → SameRanks rank x (reworded x (x .labels) acts′) → (r : Room) (k : ℕ) (game work : List ℕ)
+      → run rank (reworded x (x .labels) acts′) r k game work ≡ run rank x r k game work
+  renamed-run good good′ rank ranks r k game work =
+      same-run x (x .labels) acts′ renamed-actions (λ l. refl) rank ranks r k game work
+      (renamed-refusal x acts′ (good .actions) good′ same r (length game) (length work))
+
+  pub renamed-run-by-depth : GoodInput x → GoodActions (labelCount (x .labels)) acts′
+      → (r : Room) (k : ℕ) (game work : List ℕ)
       → run byDepth (reworded x (x .labels) acts′) r k game work ≡ run byDepth x r k game work
-  renamed-run good good′ r k game work =
-      same-run x (x .labels) acts′ renamed-actions (λ l. refl) r k game work (renamed-refusal x acts′ (good .actions) good′ same r (length game) (length work))
+  renamed-run-by-depth good good′ = renamed-run good good′ byDepth renamed-ranks

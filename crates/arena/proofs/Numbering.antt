@@ -4,13 +4,13 @@ use mathlib.Core.List.{List, [], _∷_, _++_, map}
 use Prim.Native.Nat.{ℕ, suc, _+_, _-_, _≤_, _<_}
 use native.Mathlib.Omega.{arith}
 use lib.ListN.{length, length-append}
-use Rattle.rules.specs.Lists.{In, from, place, insert, insertAll, once}
+use Rattle.rules.specs.Lists.{In, from, position, insert, insertAll, once}
 use Rattle.rules.specs.Words.{Input}
 use Rattle.rules.specs.Table.{size}
 use Rattle.rules.specs.Formula.{equationCount, Formula, formulaTree, firstBodyNode, bodyNodes}
 use Rattle.rules.specs.Items.{alike, subformulas, itemNumber}
 use Rattle.lists.specs.Shapes.{Begins}
-use Rattle.lists.proofs.Members.{map-append, map-in, place-begins, place-out}
+use Rattle.lists.proofs.Members.{map-append, map-in, position-begins, position-out}
 use Rattle.lists.proofs.Inserts.{insert-old, insert-new, inserts-begins, inserts-snoc, once-in, once-append}
 use Rattle.arena.specs.Arena.{BodyNode, subformulasBefore}
 use Rattle.arena.proofs.Alike.{alike-equality}
@@ -77,20 +77,20 @@ module _ (x : Input) where
   -- ---- numbers
 
   -- the nodes before v already fix the numbers of their trees
-  pub number-before : (t : Formula) (v : ℕ) → v ≤ size (x .formula) → In t (subformulasBefore x v) → itemNumber x t ≡ equationCount (x .formula) + place alike t (subformulasBefore x v)
+  pub number-before : (t : Formula) (v : ℕ) → v ≤ size (x .formula) → In t (subformulasBefore x v) → itemNumber x t ≡ equationCount (x .formula) + position alike t (subformulasBefore x v)
   unfolding itemNumber
   number-before t v h m =
       ap (λ (k : ℕ). equationCount (x .formula) + k)
-      (ap (place alike t) (sym before-all)
-      ∙ place-begins alike-equality t (subformulasBefore x v) (subformulasBefore x (size (x .formula))) m (before-begins v (size (x .formula)) h))
+      (ap (position alike t) (sym before-all)
+      ∙ position-begins alike-equality t (subformulasBefore x v) (subformulasBefore x (size (x .formula))) m (before-begins v (size (x .formula)) h))
 
   module _ (v : ℕ) (b : BodyNode (x .formula) v) (n : ¬ In (formulaTree x v) (subformulasBefore x v)) where
     -- a new tree gets the next number
     pub number-new : itemNumber x (formulaTree x v) ≡ equationCount (x .formula) + length (subformulasBefore x v)
     number-new =
         number-before (formulaTree x v) (suc v) (b .1) (before-in v (suc v) (b .0) (omega arith))
-        ∙ ap (λ (l : List Formula). equationCount (x .formula) + place alike (formulaTree x v) l) (before-new v (b .0) n)
-        ∙ ap (λ (k : ℕ). equationCount (x .formula) + k) (place-out alike-equality (formulaTree x v) (subformulasBefore x v) [] n)
+        ∙ ap (λ (l : List Formula). equationCount (x .formula) + position alike (formulaTree x v) l) (before-new v (b .0) n)
+        ∙ ap (λ (k : ℕ). equationCount (x .formula) + k) (position-out alike-equality (formulaTree x v) (subformulasBefore x v) [] n)
 
     pub length-new : length (subformulasBefore x (suc v)) ≡ suc (length (subformulasBefore x v))
     length-new = ap length (before-new v (b .0) n) ∙ length-append (subformulasBefore x v) (formulaTree x v ∷ []) ∙ omega arith

@@ -7,7 +7,7 @@ use native.Mathlib.Omega.{arith}
 use Rattle.rules.specs.Words.{Input}
 use Rattle.rules.specs.Table.{size, kind, operand, formulaNode}
 use Rattle.rules.specs.Formula.{isFixpoint, equationCount, equationOf, equationNumber, Formula, formulaTree, bodyTree, firstBodyNode}
-use Rattle.rules.specs.Good.{GoodInput}
+use Rattle.tables.specs.Good.{GoodInput}
 use Rattle.trees.proofs.FormulaTrees.{truth-tree, falsity-tree, conjunction-tree, disjunction-tree, box-tree, diamond-tree, least-tree, greatest-tree, reference-tree}
 use Rattle.trees.proofs.Fixpoints.{fixpoint-at}
 use Rattle.trees.proofs.Equations.{number-below, referred-below, equation-node, fixpoint-body, body-below}

@@ -1,31 +1,30 @@
 -- Good labels, or action formulas that name equal labels, are refused as the others are: the other words decide. Assumes nothing.
-use mathlib.Core.Path.{_≡_, refl, sym, ap, ap₂, _∙_}
+use mathlib.Core.Path.{_≡_, sym, ap, ap₂, _∙_}
 use mathlib.Core.Bool.{false, not, _&&_, _||_}
 use mathlib.Core.List.{List, [], _∷_}
-use mathlib.Core.Option.{Option}
-use Prim.Native.Nat.{ℕ, zero, suc, _+_, _*_, _-_, _≤_, _<_}
+use Prim.Native.Nat.{ℕ, suc, _+_, _*_, _-_, _≤_, _<_}
 use native.Mathlib.Decide.{decLt, ℕ-discrete}
 use native.Mathlib.Omega.{arith}
 use lib.Dec.{ltb, leb}
 use lib.ListN.{length}
 use borrow.Author.Tests.{ne-eqb, le-ltb, lt-leb}
-use Rattle.rules.specs.declared.Check.{Check}
 use Rattle.rules.specs.declared.Check.the-variants.{Passed}
 use Rattle.rules.specs.Lists.{word}
 use Rattle.rules.specs.Words.{Input, Room, mostLabels, mostActions, mostNodes}
 use Rattle.rules.specs.Answers.{faultIf, firstFault}
 use Rattle.rules.specs.Labels.{labelCount, actionCount, labelAt}
 use Rattle.rules.specs.System.{stateCount, transitionCount}
-use Rattle.rules.specs.Table.{size, kind, operand, decodeAction, actionNode, actionArity, actionChildren, formulaNode, formulaChildren, treeEnd, onRow}
-use Rattle.rules.specs.Table.{FormulaNode, truthNode, falsityNode, andNode, orNode, boxNode, diamondNode, leastNode, greatestNode, referenceNode, noFormulaNode}
-use Rattle.rules.specs.Refusal.{differ, faultFrom, lowerFault, refusal1, refusal2, refusal11, refusal12, badLabel, refusal13}
+use Rattle.rules.specs.Table.{size, kind, operand, actionNode, actionShape, actionChildren, treeEnd, onRow}
+use Rattle.rules.specs.Refusal.{faultFrom, lowerFault, refusal1, refusal2, refusal11, refusal12, badLabel, refusal13}
 use Rattle.rules.specs.Refusal.{refusal21, refusal22, refusal23, refusal24, tooLarge, refusal25, refusal26}
-use Rattle.rules.specs.Refusal.{refusal31, refusal32, refusal33, wrongActionOperand, badActionOperand, refusal34, refusal41, refusal42, refusal43}
-use Rattle.rules.specs.Refusal.{namesNoTree, wrongFormulaOperand, badFormulaOperand, wrongEnd, refusal44, refusal45}
+use Rattle.rules.specs.Refusal.{refusal31, refusal32, refusal33, wrongOperand, badActionOperand, refusal34, refusal41}
+use Rattle.rules.specs.Refusal.{refusal42, refusal43}
+use Rattle.rules.specs.Refusal.{namesNoTree, refusal44, refusal45}
 use Rattle.rules.specs.Refusal.{inputRefusal, refusal}
-use Rattle.rules.specs.Good.{GoodLabels, GoodActions}
+use Rattle.tables.specs.Good.{GoodLabels, GoodActions}
 use Rattle.tables.proofs.Faults.{if-false, from-none, from-same}
-use Rattle.tables.proofs.Decode.{action-at, action-past}
+use Rattle.tables.proofs.Decode.{actionKindShape, action-shape, action-past}
+use Rattle.tables.proofs.Operands.{action-label}
 use Rattle.arena.specs.Reworded.{reworded, SameActions}
 use Rattle.lists.proofs.Tests.{or-none, and-false}
 use Rattle.tables.proofs.Choices.{differ-no}
@@ -81,7 +80,8 @@ relabelled-refusal x ls′ good good′ e r game work i =
     ∷ refusal21 (x .system) ∷ refusal22 (x .system) ∷ refusal23 (x .system) ∷ refusal24 (x .system)
     ∷ faultFrom 25 (3 + stateCount (x .system)) (3 + stateCount (x .system) + transitionCount (x .system)) (tooLarge (x .system) (e i)) ∷ refusal26 (x .system)
     ∷ refusal31 (x .actions) ∷ refusal32 (x .actions) ∷ refusal33 (x .actions) ∷ p34 i
-    ∷ refusal41 (x .formula) ∷ refusal42 (x .formula) ∷ refusal43 (x .formula) ∷ refusal44 (x .actions) (x .formula) ∷ refusal45 (x .formula)
+    ∷ refusal41 (x .formula) ∷ refusal42 (x .formula) ∷ refusal43 (x .formula)
+    ∷ refusal44 (namesNoTree (x .actions)) (x .formula) ∷ refusal45 (x .formula)
     ∷ [])
     ∷ [])
   where
@@ -98,52 +98,31 @@ relabelled-refusal x ls′ good good′ e r game work i =
     p34 =
         ap
         (λ (n : ℕ).
-        lowerFault (faultFrom 34 0 (size (x .actions)) (λ v. wrongActionOperand n (operand (x .actions) v) (treeEnd (actionChildren (x .actions)) (size (x .actions)) (suc v)) (actionNode (x .actions) v)))
+        lowerFault
+        (faultFrom 34 0 (size (x .actions))
+        (λ v. wrongOperand (leb n) (operand (x .actions) v)
+        (treeEnd (actionChildren (x .actions)) (size (x .actions)) (suc v))
+        (actionShape (actionNode (x .actions) v) .rule)))
         (faultIf 34 (size (x .actions)) (not (onRow (actionChildren (x .actions)) (size (x .actions)) (size (x .actions))))))
         e
 
 -- ---- action formulas
 
-arity-same : (k o o′ : ℕ) → actionArity (decodeAction k o′) ≡ actionArity (decodeAction k o)
-unfolding actionArity decodeAction
-arity-same zero o o′ = refl
-arity-same (suc zero) o o′ = refl
-arity-same (suc (suc zero)) o o′ = refl
-arity-same (suc (suc (suc zero))) o o′ = refl
-arity-same (suc (suc (suc (suc zero)))) o o′ = refl
-arity-same (suc (suc (suc (suc (suc zero))))) o o′ = refl
-arity-same (suc (suc (suc (suc (suc (suc k)))))) o o′ = refl
-
--- a label that is one is right, whichever it is
-operand-same : (n o o′ : ℕ) (end : Option ℕ) (k : ℕ) → ((¬ (k ≡ 2)) → o′ ≡ o) → (k ≡ 2 → (o < n) × (o′ < n))
-    → wrongActionOperand n o′ end (decodeAction k o′) ≡ wrongActionOperand n o end (decodeAction k o)
-operand-same n o o′ end k p q = go (ℕ-discrete k 2)
-  where
-    label : (l : ℕ) → l < n → wrongActionOperand n l end (decodeAction 2 l) ≡ false
-    label l h = unfold wrongActionOperand decodeAction in lt-leb n l h
-
-    go : Dec (k ≡ 2) → wrongActionOperand n o′ end (decodeAction k o′) ≡ wrongActionOperand n o end (decodeAction k o)
-    go (yes e) =
-        let (a, b) = q e in
-        ap (λ (j : ℕ). wrongActionOperand n o′ end (decodeAction j o′)) e
-        ∙ label o′ b
-        ∙ sym (label o a)
-        ∙ ap (λ (j : ℕ). wrongActionOperand n o end (decodeAction j o)) (sym e)
-    go (no d) = ap (λ (l : ℕ). wrongActionOperand n l end (decodeAction k l)) (p d)
-
 module _ (ls acts acts′ : List ℕ) (good : GoodActions (labelCount ls) acts) (good′ : GoodActions (labelCount ls) acts′) (same : SameActions ls ls acts acts′) where
-  children-same : (v : ℕ) → actionChildren acts′ v ≡ actionChildren acts v
-  children-same v = go (decLt v (size acts))
+  shape-same : (v : ℕ) → actionShape (actionNode acts′ v) ≡ actionShape (actionNode acts v)
+  shape-same v = go (decLt v (size acts))
     where
-      go : Dec (v < size acts) → actionChildren acts′ v ≡ actionChildren acts v
+      go : Dec (v < size acts) → actionShape (actionNode acts′ v) ≡ actionShape (actionNode acts v)
       go (yes h) =
-          ap actionArity (action-at acts′ v (let e = same .sizes in omega arith) ∙ ap (λ (k : ℕ). decodeAction k (operand acts′ v)) (same .kinds v h))
-          ∙ arity-same (kind acts v) (operand acts v) (operand acts′ v)
-          ∙ ap actionArity (sym (action-at acts v h))
-      go (no h) = ap actionArity (action-past acts′ v (let e = same .sizes in omega arith) ∙ sym (action-past acts v (omega arith)))
+          action-shape acts′ v (let e = same .sizes in omega arith)
+          ∙ ap actionKindShape (same .kinds v h)
+          ∙ sym (action-shape acts v h)
+      go (no h) =
+          ap actionShape (action-past acts′ v (let e = same .sizes in omega arith)
+          ∙ sym (action-past acts v (omega arith)))
 
   children-path : actionChildren acts′ ≡ actionChildren acts
-  children-path i v = children-same v i
+  children-path i v = shape-same v i .children
 
   same-31 : refusal31 acts′ ≡ refusal31 acts
   same-31 = passed acts′ (good′ .sized) ∙ sym (passed acts (good .sized))
@@ -163,23 +142,27 @@ module _ (ls acts acts′ : List ℕ) (good : GoodActions (labelCount ls) acts) 
       ap (λ (n : ℕ). faultFrom 33 0 n (λ v. ltb 5 (kind acts′ v))) (same .sizes)
       ∙ from-same 33 0 (size acts) (λ v. ltb 5 (kind acts′ v)) (λ v. ltb 5 (kind acts v)) (λ v a b. ap (ltb 5) (same .kinds v b))
 
+  -- a label that is one is right, whichever it is
   operands-same : (v : ℕ) → v < size acts → badActionOperand ls acts′ v ≡ badActionOperand ls acts v
   unfolding badActionOperand
-  operands-same v h =
-      (λ i. wrongActionOperand (labelCount ls) (operand acts′ v) (treeEnd (children-path i) (same .sizes i) (suc v)) (decoded i))
-      ∙ operand-same (labelCount ls) (operand acts v) (operand acts′ v) (treeEnd (actionChildren acts) (size acts) (suc v)) (kind acts v) (same .operands v h) (λ e. are-labels e)
-      ∙ ap (wrongActionOperand (labelCount ls) (operand acts v) (treeEnd (actionChildren acts) (size acts) (suc v))) (sym (action-at acts v h))
+  operands-same v h = go (ℕ-discrete (kind acts v) 2)
     where
       inside : v < size acts′
       inside = let e = same .sizes in omega arith
 
-      decoded : actionNode acts′ v ≡ decodeAction (kind acts v) (operand acts′ v)
-      decoded = action-at acts′ v inside ∙ ap (λ (k : ℕ). decodeAction k (operand acts′ v)) (same .kinds v h)
+      right : (ws : List ℕ) → v < size ws → kind ws v ≡ 2 → GoodActions (labelCount ls) ws → badActionOperand ls ws v
+          ≡ false
+      right ws l e g =
+          action-label ls ws v l e
+          ∙ lt-leb (labelCount ls) (operand ws v) (g .nodes v l .label (omega arith) (omega arith))
 
-      are-labels : kind acts v ≡ 2 → (operand acts v < labelCount ls) × (operand acts′ v < labelCount ls)
-      are-labels e =
-          let f = same .kinds v h in
-          (good .nodes v h .label (omega arith) (omega arith), good′ .nodes v inside .label (omega arith) (omega arith))
+      go : Dec (kind acts v ≡ 2) → badActionOperand ls acts′ v ≡ badActionOperand ls acts v
+      go (yes e) = right acts′ inside (same .kinds v h ∙ e) good′ ∙ sym (right acts h e good)
+      go (no d) =
+          λ i.
+          wrongOperand (leb (labelCount ls)) (same .operands v h d i)
+          (treeEnd (children-path i) (same .sizes i) (suc v))
+          (shape-same v i .rule)
 
   same-34 : refusal34 ls acts′ ≡ refusal34 ls acts
   unfolding refusal34
@@ -193,25 +176,8 @@ module _ (ls acts acts′ : List ℕ) (good : GoodActions (labelCount ls) acts) 
   unfolding namesNoTree
   same-names a = ap₂ (λ (c : ℕ → ℕ) (n : ℕ). leb n a || not (onRow c n a)) children-path (same .sizes)
 
-  formula-operand-same : (o : ℕ) (end : Option ℕ) (n : FormulaNode) → wrongFormulaOperand acts′ o end n ≡ wrongFormulaOperand acts o end n
-  unfolding wrongFormulaOperand
-  formula-operand-same o end truthNode = refl
-  formula-operand-same o end falsityNode = refl
-  formula-operand-same o end (andNode r) = refl
-  formula-operand-same o end (orNode r) = refl
-  formula-operand-same o end (boxNode a) = same-names a
-  formula-operand-same o end (diamondNode a) = same-names a
-  formula-operand-same o end leastNode = refl
-  formula-operand-same o end greatestNode = refl
-  formula-operand-same o end (referenceNode u) = refl
-  formula-operand-same o end noFormulaNode = refl
-
-  same-44 : (f : List ℕ) → refusal44 acts′ f ≡ refusal44 acts f
-  unfolding refusal44 badFormulaOperand
-  same-44 f =
-      ap (λ (c : Check). lowerFault c (wrongEnd (size f) (treeEnd (formulaChildren f) (size f) 0)))
-      (from-same 44 0 (size f) (badFormulaOperand acts′ f) (badFormulaOperand acts f)
-      (λ v a b. formula-operand-same (operand f v) (treeEnd (formulaChildren f) (size f) (suc v)) (formulaNode f v)))
+  same-44 : (f : List ℕ) → refusal44 (namesNoTree acts′) f ≡ refusal44 (namesNoTree acts) f
+  same-44 f i = refusal44 (λ a. same-names a i) f
 
 -- action formulas that differ in the names of equal labels are refused alike
 pub renamed-refusal : (x : Input) (acts′ : List ℕ) → GoodActions (labelCount (x .labels)) (x .actions) → GoodActions (labelCount (x .labels)) acts′

@@ -1,7 +1,7 @@
--- Labels and action formulas in other words: if each action formula has the same tree and each label the same multiset, then items, owners, targets, depths and the whole run
--- are the same. Assumes nothing.
+-- Labels and action formulas in other words: if each action formula has the same tree and each label the same multiset,
+-- then items, owners, targets and depths are the same, and for every ranking that gives both inputs the same ranks the
+-- whole run is. Assumes nothing.
 use mathlib.Core.Path.{_≡_, refl, sym, ap, ap₂, _∙_}
-use mathlib.Core.Logic.{inl, inr}
 use mathlib.Core.Bool.{cond}
 use mathlib.Core.List.{List, [], _∷_, _++_, map}
 use Prim.Native.Nat.{ℕ, zero, suc, _+_, _*_, _/_, _<_}
@@ -10,25 +10,27 @@ use native.Mathlib.Omega.{arith}
 use lib.Dec.{eqb, ltb}
 use lib.ListN.{getD, length}
 use Rattle.rules.specs.declared.Check.{Check}
-use Rattle.rules.specs.Lists.{In, largest, place, once}
+use Rattle.rules.specs.Lists.{In, largest, position, once}
 use Rattle.rules.specs.Words.{Input, Room}
 use Rattle.rules.specs.Labels.{multiset}
-use Rattle.rules.specs.System.{stateCount, transitions}
+use Rattle.rules.specs.System.{stateCount, transitionLabel, transitionTarget, transitions}
 use Rattle.rules.specs.Table.{size, kind, operand, decodeAction, actionNode}
 use Rattle.rules.specs.Table.{FormulaNode, truthNode, falsityNode, andNode, orNode, boxNode, diamondNode, leastNode, greatestNode, referenceNode, noFormulaNode, formulaNode}
 use Rattle.rules.specs.Actions.{Action, multiAction, union, intersection, negation, actionOf, actionTo, actionTree, matches}
 use Rattle.rules.specs.Formula.{Equation, equations, equationCount, equationOf, Formula, truth, falsity, conjunction, disjunction, box, diamond, reference}
 use Rattle.rules.specs.Formula.{formulaOf, formulaTo, formulaTree, bodyTree, bodyNodes}
-use Rattle.rules.specs.Depth.{references, contribution, readingTo, reading, depth, leastBit, byDepth}
+use Rattle.rules.specs.Depth.{references, contribution, readingTo, reading, depth, Ranking, leastBit, byDepth}
 use Rattle.rules.specs.Items.{alike, Item, equation, subformula, subformulas, items, itemNumber}
-use Rattle.rules.specs.Pairs.{Pair, samePair, initialPair, itemAt, itemOwner, owner, priority, matching, successors, formulaTargets, itemTargets, targets}
-use Rattle.rules.specs.Walk.{State, walk}
+use Rattle.rules.specs.Pairs.{Pair, samePair, initialPair, itemAt, itemOwner, owner, priority, matchingTransitions}
+use Rattle.rules.specs.Pairs.{successors, formulaTargets, itemTargets, targets}
+use Rattle.rules.specs.Walk.{Stand, walk}
 use Rattle.rules.specs.Reach.{reachedIn, reachablePairs, N}
 use Rattle.rules.specs.Game.{Vertex, vertices}
 use Rattle.rules.specs.Refusal.{refusal}
-use Rattle.rules.specs.Run.{Outcome, walkOf, verticesOf, walked, refusedOr, run}
+use Rattle.rules.specs.Run.{Outcome, walkOf, verticesOf, walkOutcome, refusedOr, run}
+use Rattle.lists.proofs.Filters.{filter-agree}
 use Rattle.tables.proofs.Decode.{action-at, action-past}
-use Rattle.arena.specs.Reworded.{reworded, SameActions}
+use Rattle.arena.specs.Reworded.{reworded, SameRanks, SameActions}
 
 -- ---- action formulas
 
@@ -63,15 +65,6 @@ module _ (ls ls′ acts acts′ : List ℕ) (same : SameActions ls ls′ acts ac
   pub same-actions : (v : ℕ) → actionTree ls′ acts′ v ≡ actionTree ls acts v
   unfolding actionTree
   same-actions v = ap (λ (d : ℕ). actionTo d ls′ acts′ v) (same .sizes) ∙ same-to (size acts) v
-
--- ---- matching
-
-pub same-matching : (ls ls′ : List ℕ) (a : Action) (ts : List (ℕ × ℕ)) → ((t : ℕ × ℕ) → In t ts → multiset ls′ (t .0) ≡ multiset ls (t .0))
-    → matching ls′ a ts ≡ matching ls a ts
-unfolding matching
-same-matching ls ls′ a [] h = refl
-same-matching ls ls′ a (t ∷ ts) h =
-    ap₂ (λ (m : ℕ) (r : List ℕ). cond (matches m a) (t .1 ∷ r) r) (h t (inl refl)) (same-matching ls ls′ a ts (λ u m. h u (inr m)))
 
 module _ (x : Input) (ls′ acts′ : List ℕ) (trees : (v : ℕ) → actionTree ls′ acts′ v ≡ actionTree (x .labels) (x .actions) v) where
   -- ---- subformulas and items
@@ -112,7 +105,7 @@ module _ (x : Input) (ls′ acts′ : List ℕ) (trees : (v : ℕ) → actionTre
 
   pub same-numbers : (t : Formula) → itemNumber (reworded x ls′ acts′) t ≡ itemNumber x t
   unfolding itemNumber
-  same-numbers t = ap (λ (l : List Formula). equationCount (x .formula) + place alike t l) same-subformulas
+  same-numbers t = ap (λ (l : List Formula). equationCount (x .formula) + position alike t l) same-subformulas
 
   -- ---- owners, depths, priorities
 
@@ -135,21 +128,30 @@ module _ (x : Input) (ls′ acts′ : List ℕ) (trees : (v : ℕ) → actionTre
   unfolding depth reading
   same-depths i = reading-to-same (equationCount (x .formula)) i i
 
-  pub same-ranks : (i : ℕ) → byDepth (reworded x ls′ acts′) i ≡ byDepth x i
+  pub same-ranks : SameRanks byDepth x (reworded x ls′ acts′)
   unfolding byDepth
   same-ranks i = ap (λ (d : ℕ). 2 * (d / 2) + leastBit (equationOf (x .formula) i .operator)) (same-depths i)
 
-  pub same-priorities : (p : Pair) → priority byDepth (reworded x ls′ acts′) p ≡ priority byDepth x p
+  pub same-priorities : (rank : Ranking) → SameRanks rank x (reworded x ls′ acts′)
+      → (p : Pair) → priority rank (reworded x ls′ acts′) p ≡ priority rank x p
   unfolding priority
-  same-priorities p = ap (λ (r : ℕ). cond (ltb (p .1) (equationCount (x .formula))) r 0) (same-ranks (p .1))
+  same-priorities rank ranks p = ap (λ (r : ℕ). cond (ltb (p .1) (equationCount (x .formula))) r 0) (ranks (p .1))
 
   -- ---- targets
 
   -- of a state whose transitions have labels with the same multisets
-  module _ (s : ℕ) (names : (t : ℕ × ℕ) → In t (transitions (x .system) s) → multiset ls′ (t .0) ≡ multiset (x .labels) (t .0)) where
+  module _ (s : ℕ) (names : (t : ℕ) → In t (transitions (x .system) s)
+      → multiset ls′ (transitionLabel (x .system) t) ≡ multiset (x .labels) (transitionLabel (x .system) t)) where
+    pub same-matching : (a : Action) → matchingTransitions (reworded x ls′ acts′) a s ≡ matchingTransitions x a s
+    unfolding matchingTransitions
+    same-matching a =
+        filter-agree (λ t. matches (multiset ls′ (transitionLabel (x .system) t)) a)
+        (λ t. matches (multiset (x .labels) (transitionLabel (x .system) t)) a)
+        (transitions (x .system) s) (λ t m. ap (λ (l : ℕ). matches l a) (names t m))
+
     pub same-successors : (a : Action) → successors (reworded x ls′ acts′) a s ≡ successors x a s
     unfolding successors
-    same-successors a = ap (once eqb) (same-matching (x .labels) ls′ a (transitions (x .system) s) names)
+    same-successors a = ap (λ (ts : List ℕ). once eqb (map (transitionTarget (x .system)) ts)) (same-matching a)
 
     formula-targets-same : (t : Formula) → formulaTargets (reworded x ls′ acts′) s t ≡ formulaTargets x s t
     unfolding formulaTargets
@@ -174,7 +176,7 @@ module _ (x : Input) (ls′ acts′ : List ℕ) (trees : (v : ℕ) → actionTre
 
   module _ (names : (l : ℕ) → multiset ls′ l ≡ multiset (x .labels) l) where
     all-targets : targets (reworded x ls′ acts′) ≡ targets x
-    all-targets i p = same-targets (p .0) (λ t m. names (t .0)) (p .1) i
+    all-targets i p = same-targets (p .0) (λ t m. names (transitionLabel (x .system) t)) (p .1) i
 
     pub same-walk : (k : ℕ) → walkOf (reworded x ls′ acts′) k ≡ walkOf x k
     unfolding walkOf
@@ -189,16 +191,19 @@ module _ (x : Input) (ls′ acts′ : List ℕ) (trees : (v : ℕ) → actionTre
     unfolding N
     same-N = ap length same-reachable
 
-    pub same-vertices : (st : State Pair) → verticesOf byDepth (reworded x ls′ acts′) st ≡ verticesOf byDepth x st
-    unfolding verticesOf
-    same-vertices st i = vertices samePair (all-targets i) (initialPair x) (λ p. same-owners p i) (λ p. same-priorities p i) st
+    module _ (rank : Ranking) (ranks : SameRanks rank x (reworded x ls′ acts′)) where
+      pub same-vertices : (st : Stand Pair) → verticesOf rank (reworded x ls′ acts′) st ≡ verticesOf rank x st
+      unfolding verticesOf
+      same-vertices st i =
+          vertices samePair (all-targets i) (initialPair x) (λ p. same-owners p i)
+          (λ p. same-priorities rank ranks p i) st
 
-    -- the run is word for word the same, if both are refused or accepted alike
-    pub same-run : (r : Room) (k : ℕ) (game work : List ℕ)
-        → refusal (reworded x ls′ acts′) r (length game) (length work) ≡ refusal x r (length game) (length work)
-        → run byDepth (reworded x ls′ acts′) r k game work ≡ run byDepth x r k game work
-    unfolding run
-    same-run r k game work e =
-        ap₂ (λ (c : Check) (o : Outcome). refusedOr c o game work) e
-        (ap (λ (st : State Pair). walked r st (verticesOf byDepth (reworded x ls′ acts′) st) game work) (same-walk k)
-        ∙ ap (λ (vs : List Vertex). walked r (walkOf x k) vs game work) (same-vertices (walkOf x k)))
+      -- the run is word for word the same, if both are refused or accepted alike
+      pub same-run : (r : Room) (k : ℕ) (game work : List ℕ)
+          → refusal (reworded x ls′ acts′) r (length game) (length work) ≡ refusal x r (length game) (length work)
+          → run rank (reworded x ls′ acts′) r k game work ≡ run rank x r k game work
+      unfolding run
+      same-run r k game work e =
+          ap₂ (λ (c : Check) (o : Outcome). refusedOr c o game work) e
+          (ap (λ (st : Stand Pair). walkOutcome r st (verticesOf rank (reworded x ls′ acts′) st) game work) (same-walk k)
+          ∙ ap (λ (vs : List Vertex). walkOutcome r (walkOf x k) vs game work) (same-vertices (walkOf x k)))

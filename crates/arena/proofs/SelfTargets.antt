@@ -10,7 +10,7 @@ use Rattle.rules.specs.Words.{Input}
 use Rattle.rules.specs.Formula.{equationCount, equationOf, Formula, truth, falsity, conjunction, disjunction, box, diamond, reference, bodyTree}
 use Rattle.rules.specs.Items.{itemNumber}
 use Rattle.rules.specs.Pairs.{Pair, successors, formulaTargets, itemTargets, targets}
-use Rattle.rules.specs.Good.{GoodInput}
+use Rattle.tables.specs.Good.{GoodInput}
 use Rattle.lists.proofs.Members.{in-map}
 use Rattle.arena.specs.Arena.{Carried, Parts, Inside}
 use Rattle.arena.proofs.ItemNumbers.{item-past, item-equal}

@@ -6,10 +6,15 @@ use Prim.Native.Nat.{ℕ, _<_}
 use Rattle.rules.specs.Words.{Input, inputOf}
 use Rattle.rules.specs.Labels.{labelCount, times, multiset}
 use Rattle.rules.specs.Table.{size, kind, operand}
+use Rattle.rules.specs.Depth.{Ranking}
 
 -- the same system and formula, with other labels and action formulas
 abbrev pub reworded : Input → (labels actions : List ℕ) → Input
 reworded x ls acts = inputOf ls (x .system) acts (x .formula)
+
+-- a ranking gives the equations of two inputs the same ranks
+abbrev pub SameRanks : Ranking → (x y : Input) → Type 0
+SameRanks rank x y = (i : ℕ) → rank y i ≡ rank x i
 
 -- every label has every action as often as in the other table: so where a label's actions are permuted
 pub record SameCounts (ls ls′ : List ℕ) : Type 0 where

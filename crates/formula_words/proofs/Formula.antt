@@ -1,8 +1,7 @@
 -- The refusals 41 to 44 of the formula, one law for each answer of the code. Assumes nothing.
-use Prim.Native.Nat.{ℕ, suc, _+_, _*_, _<_, _≤_}
+use Prim.Native.Nat.{ℕ, _+_, _*_, _<_, _≤_}
 use native.Mathlib.Omega.{arith}
 use native.Mathlib.Numerals.{add-one}
-use native.Mathlib.Decide.{ℕ-discrete}
 use mathlib.Core.Path.{_≡_, refl, sym, ap, _∙_}
 use mathlib.Core.Bool.{Bool, true, false, not, _||_}
 use mathlib.Core.List.{List}
@@ -12,11 +11,11 @@ use borrow.Author.Tests.{lt-ltb, le-ltb, eq-eqb, ne-eqb, le-leb, lt-leb}
 use Rattle.rules.specs.declared.Check.the-variants.{Passed, Fault}
 use Rattle.rules.specs.Answers.{faultIf}
 use Rattle.rules.specs.Words.{mostNodes}
-use Rattle.rules.specs.Table.{size, kind, operand, actionChildren, formulaNode, formulaChildren, treeEnd, isNotEnd}
-use Rattle.rules.specs.Refusal.{faultFrom, differ, namesNoTree, wrongFormulaOperand, badFormulaOperand, refusal41, refusal42, refusal43}
+use Rattle.rules.specs.Table.{size, kind, operand, actionChildren, formulaChildren, treeEnd, isNotEnd}
+use Rattle.rules.specs.Refusal.{faultFrom, differ, namesNoTree, badFormulaOperand, refusal41, refusal42, refusal43}
 use Rattle.tables.specs.Ends.{endOf}
 use Rattle.tables.proofs.Faults.{if-true, if-false}
-use Rattle.tables.proofs.Decode.{formula-truth, formula-falsity, formula-and, formula-or, formula-box, formula-diamond, formula-least, formula-greatest, formula-reference, formula-none}
+use Rattle.tables.proofs.Operands.{formula-zero, formula-right, formula-action, formula-fixpoint, formula-other}
 use Rattle.lists.proofs.Tests.{or-left, or-right, or-none}
 use Rattle.tables.proofs.Choices.{differ-yes, differ-no, below-outside, above-outside, inside}
 use Rattle.table_words.specs.Tables.{Firsts}
@@ -59,14 +58,16 @@ module _ (f : List ℕ) where
     finished h = if-false _ _ (le-ltb (size f) (endOf (formulaChildren f) (size f) 0) (omega arith))
 
 -- node v, which the code has judged to be b
-module _ (acts f : List ℕ) (v e : ℕ) (b : Bool) (q : b ≡ badFormulaOperand acts f v) (i : e ≡ endOf (formulaChildren f) (size f) 0) where
-  pub bad-node : b ≡ true → (badFormulaOperand acts f v || eqb v (endOf (formulaChildren f) (size f) 0)) ≡ true
+module _ (noTree : ℕ → Bool) (f : List ℕ) (v e : ℕ) (b : Bool) (q : b ≡ badFormulaOperand noTree f v)
+    (i : e ≡ endOf (formulaChildren f) (size f) 0) where
+  pub bad-node : b ≡ true → (badFormulaOperand noTree f v || eqb v (endOf (formulaChildren f) (size f) 0)) ≡ true
   bad-node h = or-left _ (sym q ∙ h)
 
-  pub left-over : v ≡ e → (badFormulaOperand acts f v || eqb v (endOf (formulaChildren f) (size f) 0)) ≡ true
-  left-over h = or-right (badFormulaOperand acts f v) (eq-eqb v (endOf (formulaChildren f) (size f) 0) (h ∙ i))
+  pub left-over : v ≡ e → (badFormulaOperand noTree f v || eqb v (endOf (formulaChildren f) (size f) 0)) ≡ true
+  left-over h = or-right (badFormulaOperand noTree f v) (eq-eqb v (endOf (formulaChildren f) (size f) 0) (h ∙ i))
 
-  pub good-node : b ≡ false → (v ≡ e → ⊥) → (badFormulaOperand acts f v || eqb v (endOf (formulaChildren f) (size f) 0)) ≡ false
+  pub good-node : b ≡ false → (v ≡ e → ⊥)
+      → (badFormulaOperand noTree f v || eqb v (endOf (formulaChildren f) (size f) 0)) ≡ false
   good-node h d = or-none (sym q ∙ h) (ne-eqb v (endOf (formulaChildren f) (size f) 0) (λ j. d (j ∙ sym i)))
 
 -- an action formula named by a, where m is the size of their table
@@ -80,44 +81,21 @@ module _ (acts : List ℕ) (a m : ℕ) (q : m ≡ size acts) where
   some-action fs firsts h = rw (lt-leb (size acts) a (omega arith)) (ap not (firsts a (omega arith)))
 
 -- the operand o of a node of kind k, as the code has read them
-module _ (acts f : List ℕ) (v k o : ℕ) (h : v < size f) (q : k ≡ kind f v) (e : o ≡ operand f v) where
-  pub constant-operand : k < 2 → not (eqb o 0) ≡ badFormulaOperand acts f v
-  unfolding badFormulaOperand wrongFormulaOperand differ
-  constant-operand l = go (ℕ-discrete k 0)
-    where
-      go : Dec (k ≡ 0) → not (eqb o 0) ≡ wrongFormulaOperand acts (operand f v) (treeEnd (formulaChildren f) (size f) (suc v)) (formulaNode f v)
-      go (yes d) = rw (formula-truth f v h (omega arith), e)
-      go (no d) = rw (formula-falsity f v h (omega arith), e)
+module _ (noTree : ℕ → Bool) (f : List ℕ) (v k o : ℕ) (h : v < size f) (q : k ≡ kind f v) (e : o ≡ operand f v) where
+  pub constant-operand : k < 2 → not (eqb o 0) ≡ badFormulaOperand noTree f v
+  unfolding differ
+  constant-operand l = rw e (sym (formula-zero noTree f v h (omega arith)))
 
-  pub right-operand : 2 ≤ k → k < 4 → isNotEnd o (treeEnd (formulaChildren f) (size f) (v + 1)) ≡ badFormulaOperand acts f v
-  unfolding badFormulaOperand wrongFormulaOperand
-  right-operand a b = go (ℕ-discrete k 2)
-    where
-      go : Dec (k ≡ 2) → isNotEnd o (treeEnd (formulaChildren f) (size f) (v + 1))
-          ≡ wrongFormulaOperand acts (operand f v) (treeEnd (formulaChildren f) (size f) (suc v)) (formulaNode f v)
-      go (yes d) = rw (formula-and f v h (omega arith), e, add-one)
-      go (no d) = rw (formula-or f v h (omega arith), e, add-one)
+  pub right-operand : 2 ≤ k → k < 4 → isNotEnd o (treeEnd (formulaChildren f) (size f) (v + 1))
+      ≡ badFormulaOperand noTree f v
+  right-operand a b = rw (e, add-one) (sym (formula-right noTree f v h (omega arith) (omega arith)))
 
-  pub action-operand : 4 ≤ k → k < 6 → namesNoTree acts o ≡ badFormulaOperand acts f v
-  unfolding badFormulaOperand wrongFormulaOperand
-  action-operand a b = go (ℕ-discrete k 4)
-    where
-      go : Dec (k ≡ 4) → namesNoTree acts o ≡ wrongFormulaOperand acts (operand f v) (treeEnd (formulaChildren f) (size f) (suc v)) (formulaNode f v)
-      go (yes d) = rw (formula-box f v h (omega arith), e)
-      go (no d) = rw (formula-diamond f v h (omega arith), e)
+  pub action-operand : 4 ≤ k → k < 6 → noTree o ≡ badFormulaOperand noTree f v
+  action-operand a b = rw e (sym (formula-action noTree f v h (omega arith) (omega arith)))
 
-  pub fixpoint-operand : 6 ≤ k → k < 8 → not (eqb o 0) ≡ badFormulaOperand acts f v
-  unfolding badFormulaOperand wrongFormulaOperand differ
-  fixpoint-operand a b = go (ℕ-discrete k 6)
-    where
-      go : Dec (k ≡ 6) → not (eqb o 0) ≡ wrongFormulaOperand acts (operand f v) (treeEnd (formulaChildren f) (size f) (suc v)) (formulaNode f v)
-      go (yes d) = rw (formula-least f v h (omega arith), e)
-      go (no d) = rw (formula-greatest f v h (omega arith), e)
+  pub fixpoint-operand : 6 ≤ k → k < 8 → not (eqb o 0) ≡ badFormulaOperand noTree f v
+  unfolding differ
+  fixpoint-operand a b = rw e (sym (formula-fixpoint noTree f v h (omega arith) (omega arith)))
 
-  pub other-operand : 8 ≤ k → false ≡ badFormulaOperand acts f v
-  unfolding badFormulaOperand wrongFormulaOperand
-  other-operand a = go (ℕ-discrete k 8)
-    where
-      go : Dec (k ≡ 8) → false ≡ wrongFormulaOperand acts (operand f v) (treeEnd (formulaChildren f) (size f) (suc v)) (formulaNode f v)
-      go (yes d) = rw (formula-reference f v h (omega arith))
-      go (no d) = rw (formula-none f v h (omega arith))
+  pub other-operand : 8 ≤ k → false ≡ badFormulaOperand noTree f v
+  other-operand a = sym (formula-other noTree f v h (omega arith))

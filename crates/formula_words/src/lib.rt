@@ -1,10 +1,11 @@
 // The check of the formula: n, n kinds, n operands.
 use rules::Check;
+use table_words::Table;
 ghost use mathlib.Core.Path.{_≡_};
 ghost use mathlib.Core.List.{[], _∷_};
 ghost use Prim.Native.Nat.{_<_};
 ghost use Rattle.rules.specs.Answers.{firstFault};
-ghost use Rattle.rules.specs.Table.{size, actionChildren, formulaChildren, formulaNode};
+ghost use Rattle.rules.specs.Table.{size, actionChildren, formulaChildren, formulaNode, referenceOf};
 ghost use Rattle.rules.specs.Refusal.{namesNoTree, badFormulaOperand, wrongReference, refusal41, refusal42, refusal43, refusal44, refusal45};
 ghost use Rattle.table_words.specs.Tables.{Sized, Ends, Firsts};
 
@@ -29,7 +30,7 @@ fn bad_operand(
 ) -> bool
     requires { ⌜ Sized (now acts) × Firsts (actionChildren (now acts)) (size (now acts)) (now firsts) ⌝ }
     requires { ⌜ Sized (now f) × (v < size (now f)) × Ends (formulaChildren (now f)) (size (now f)) (now ends) ⌝ }
-    ensures { λ r. ⌜ r ≡ badFormulaOperand (now (acts .entry)) (now (f .entry)) v ⌝ }
+    ensures { λ r. ⌜ r ≡ badFormulaOperand (namesNoTree (now (acts .entry))) (now (f .entry)) v ⌝ }
 {
     let kind = formula_reader::kind_at(f, v);
     let operand = formula_reader::operand_at(f, v);
@@ -37,7 +38,7 @@ fn bad_operand(
         return operand != 0;
     }
     if kind < 4 {
-        return table_words::not_right_child(f, true, ends, v, operand);
+        return table_words::not_right_child(f, ends, v, operand);
     }
     if kind < 6 {
         return names_no_tree(acts, firsts, operand);
@@ -52,7 +53,7 @@ fn bad_operand(
 fn check_operands(acts: &[u32], firsts: &[bool; 1025], f: &[u32], ends: &[usize; 1026]) -> Check
     requires { ⌜ Sized (now acts) × Firsts (actionChildren (now acts)) (size (now acts)) (now firsts) ⌝ }
     requires { ⌜ Sized (now f) × Ends (formulaChildren (now f)) (size (now f)) (now ends) ⌝ }
-    ensures { λ r. ⌜ r ≡ refusal44 (now (acts .entry)) (now (f .entry)) ⌝ }
+    ensures { λ r. ⌜ r ≡ refusal44 (namesNoTree (now (acts .entry))) (now (f .entry)) ⌝ }
 {
     let n = words::at(f, 0);
     let end = ends[0];
@@ -75,7 +76,7 @@ fn check_operands(acts: &[u32], firsts: &[bool; 1025], f: &[u32], ends: &[usize;
 // Node v is a reference to something other than an enclosing fixpoint.
 fn bad_reference(f: &[u32], ends: &[usize; 1026], v: usize) -> bool
     requires { ⌜ Sized (now f) × (v < size (now f)) × Ends (formulaChildren (now f)) (size (now f)) (now ends) ⌝ }
-    ensures { λ r. ⌜ r ≡ wrongReference (now (f .entry)) v (formulaNode (now (f .entry)) v) ⌝ }
+    ensures { λ r. ⌜ r ≡ wrongReference (now (f .entry)) v (referenceOf (formulaNode (now (f .entry)) v)) ⌝ }
 {
     if formula_reader::kind_at(f, v) != 8 {
         return false;
@@ -117,13 +118,14 @@ fn check_references(f: &[u32], ends: &[usize; 1026]) -> Check
 // 44 and 45, for which the ends of the trees and the row of action formulas are kept here.
 fn check_trees(acts: &[u32], f: &[u32]) -> Check
     requires { ⌜ Sized (now acts) × Sized (now f) ⌝ }
-    ensures { λ r. ⌜ r ≡ firstFault (refusal44 (now (acts .entry)) (now (f .entry)) ∷ refusal45 (now (f .entry)) ∷ []) ⌝ }
+    ensures { λ r. ⌜ r ≡ firstFault (refusal44 (namesNoTree (now (acts .entry))) (now (f .entry))
+        ∷ refusal45 (now (f .entry)) ∷ []) ⌝ }
 {
     let mut ends = [0usize; 1026];
-    table_words::tree_ends(acts, false, &mut ends);
+    table_words::tree_ends(acts, Table::Actions, &mut ends);
     let mut firsts = [false; 1025];
-    table_words::first_nodes(acts, false, &ends, &mut firsts);
-    table_words::tree_ends(f, true, &mut ends);
+    table_words::first_nodes(acts, &ends, &mut firsts);
+    table_words::tree_ends(f, Table::Formula, &mut ends);
     let nodes = check_operands(acts, &firsts, f, &ends);
     match nodes {
         Check::Fault(number, place) => Check::Fault(number, place),
@@ -134,7 +136,9 @@ fn check_trees(acts: &[u32], f: &[u32]) -> Check
 // 41 to 45: the formula, where the action formulas are those of a table.
 pub fn check_formula(actions: &[u32], formula: &[u32]) -> Check
     requires { ⌜ Sized (now actions) ⌝ }
-    ensures { λ r. ⌜ r ≡ firstFault (refusal41 (now (formula .entry)) ∷ refusal42 (now (formula .entry)) ∷ refusal43 (now (formula .entry)) ∷ refusal44 (now (actions .entry)) (now (formula .entry)) ∷ refusal45 (now (formula .entry)) ∷ []) ⌝ }
+    ensures { λ r. ⌜ r ≡ firstFault (refusal41 (now (formula .entry)) ∷ refusal42 (now (formula .entry))
+        ∷ refusal43 (now (formula .entry)) ∷ refusal44 (namesNoTree (now (actions .entry))) (now (formula .entry))
+        ∷ refusal45 (now (formula .entry)) ∷ []) ⌝ }
 {
     if formula.len() < 1 {
         return Check::Fault(41, 0);

@@ -46,7 +46,3 @@ module _ (f : ℕ → ℕ) (n u : ℕ) where
 
   pub row-done : {p at₀ : ℕ} {stretch out out₀ : List ℕ} → n ≤ u → Writing p (map f (from u (n - u))) out at₀ stretch out₀ → Wrote at₀ stretch out₀ out p
   row-done h w = done (turn (ap (map f) (from-none n u h)) w)
-
--- where a row ends
-pub row-past : (f : ℕ → ℕ) (n : ℕ) {at r : ℕ} {out out′ : List ℕ} → Wrote at (map f (from 0 n)) out out′ r → r ≡ at + n
-row-past f n w = omega (arith, w .past, length-map (from 0 n) f ∙ from-length 0 n)

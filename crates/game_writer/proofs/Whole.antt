@@ -1,14 +1,18 @@
 -- The whole game: what it asks for, and its stretches one after the other. Assumes nothing.
 use mathlib.Core.Path.{_≡_, refl, sym, ap, _∙_}
 use mathlib.Core.List.{List, [], _∷_, _++_, map}
-use Prim.Native.Nat.{ℕ, _+_}
+use Prim.Native.Nat.{ℕ, _+_, _*_, _≤_, _<_}
 use native.Mathlib.Omega.{arith}
-use lib.ListN.{length, length-map}
-use Rattle.rules.specs.Lists.{from, sumWords}
-use Rattle.rules.specs.Game.{Vertex, offsets, edgeTargets, gameOf}
-use Rattle.words.specs.Regions.{region}
-use Rattle.parity_game.proofs.Stretches.{game-stretches}
-use Rattle.game_writer.specs.Shown.{shownOwner, shownPriority, shownVertex, shownVertices, Placed, ItemsWithin, EdgesWithin, Showable}
+use lib.ListN.{length, drop, length-map}
+use Rattle.rules.specs.Lists.{from}
+use Rattle.rules.specs.Game.{vertexColumns, offsets, columns, gameOf}
+use Rattle.games.specs.Columns.{vertexColumn, edgeColumnOf}
+use Rattle.settling.specs.Stand.{degreesIn}
+use Rattle.parity_game.proofs.Stretches.{game-stretches, columns-room, columns-past}
+use Rattle.words.specs.Stretches.{Wrote}
+use Rattle.words.proofs.Stretches.{Writing}
+use Rattle.game_writer.specs.Shown.{shownOwner, shownPriority, shownVertex, shownWord, shownVertices, Placed}
+use Rattle.game_writer.specs.Shown.{EdgesWithin, Showing, Showable}
 use Rattle.game_writer.proofs.Edges.{total}
 use Rattle.lists.proofs.Ranges.{from-length}
 
@@ -18,45 +22,90 @@ module _ {kinds priorities w : List ℕ} {v n m size : ℕ} (s : Showable kinds 
   pub placed : Placed w v n
   placed = record { known = s .known; regions = omega (arith, s .whole) }
 
-  pub kinds-within : ItemsWithin w v n (length kinds)
-  kinds-within = record { item = λ u h c. s .items u h c .0 }
-
-  pub priorities-within : ItemsWithin w v n (length priorities)
-  priorities-within = record { item = λ u h c. s .items u h c .1 }
-
   pub edges-within : EdgesWithin w v n
   edges-within = record { stretch = λ u h c. omega (arith, s .whole, s .stretches u h c) }
+
+  pub showing : Showing kinds priorities w v n
+  showing =
+      record {
+        placed = placed;
+        kinded = record { item = λ u h c. s .items u h c .0 };
+        ranked = record { item = λ u h c. s .items u h c .1 };
+        edged = edges-within;
+      }
+
+-- what is asked for n vertices is asked for those up to u
+pub showing-to : {kinds priorities w : List ℕ} {v n : ℕ} (u : ℕ) → u < n → Showing kinds priorities w v n
+    → Showing kinds priorities w v (u + 1)
+showing-to u h s =
+    record {
+      placed = record { known = omega (arith, s .placed .known); regions = s .placed .regions };
+      kinded = record { item = λ t l. s .kinded .item t (omega arith) };
+      ranked = record { item = λ t l. s .ranked .item t (omega arith) };
+      edged = record { stretch = λ t l. s .edged .stretch t (omega arith) };
+    }
 
 -- ---- the stretches
 
 module _ (kinds priorities w : List ℕ) (v : ℕ) where
-  owners-shown : (us : List ℕ) → map (λ (x : Vertex). x .owner) (map (shownVertex kinds priorities w v) us) ≡ map (shownOwner kinds w v) us
-  unfolding shownVertex
-  owners-shown [] = refl
-  owners-shown (u ∷ us) = ap (λ (l : List ℕ). shownOwner kinds w v u ∷ l) (owners-shown us)
-
-  priorities-shown : (us : List ℕ) → map (λ (x : Vertex). x .priority) (map (shownVertex kinds priorities w v) us) ≡ map (shownPriority kinds priorities w v) us
-  unfolding shownVertex
-  priorities-shown [] = refl
-  priorities-shown (u ∷ us) = ap (λ (l : List ℕ). shownPriority kinds priorities w v u ∷ l) (priorities-shown us)
+  -- a column, as it is written
+  pub column-shown : (column n : ℕ)
+      → map (shownWord kinds priorities w v column) (from 0 n)
+      ≡ map (vertexColumn column) (shownVertices kinds priorities w v n)
+  unfolding shownVertices shownWord
+  column-shown column n = go (from 0 n)
+    where
+      go : (us : List ℕ)
+          → map (shownWord kinds priorities w v column) us
+          ≡ map (vertexColumn column) (map (shownVertex kinds priorities w v) us)
+      go [] = refl
+      go (u ∷ us) = ap (λ (l : List ℕ). vertexColumn column (shownVertex kinds priorities w v u) ∷ l) (go us)
 
   pub shown-length : (n : ℕ) → length (shownVertices kinds priorities w v n) ≡ n
   unfolding shownVertices
   shown-length n = length-map (from 0 n) (shownVertex kinds priorities w v) ∙ from-length 0 n
 
-  -- as they are written
-  pub stretches : (n m : ℕ) → EdgesWithin w v n → sumWords (region 6 v w) 0 n ≡ m
-      → gameOf (shownVertices kinds priorities w v n)
-      ≡ (n ∷ m ∷ 0 ∷ [])
-      ++ (map (shownOwner kinds w v) (from 0 n)
-      ++ (map (shownPriority kinds priorities w v) (from 0 n)
-      ++ (offsets 0 (shownVertices kinds priorities w v n) ++ (edgeTargets (shownVertices kinds priorities w v n) ++ []))))
-  stretches n m within e =
-      game-stretches (shownVertices kinds priorities w v n) n m (map (shownOwner kinds w v) (from 0 n)) (map (shownPriority kinds priorities w v) (from 0 n))
-      (sym (shown-length n)) (sym e ∙ sym (total kinds priorities w v n within)) (sym owners) (sym ranks)
-    where
-      owners : map (λ (x : Vertex). x .owner) (shownVertices kinds priorities w v n) ≡ map (shownOwner kinds w v) (from 0 n)
-      owners = unfold shownVertices in owners-shown (from 0 n)
+  -- a word, by the column
+  pub owner-shown : (column u r : ℕ) → column ≡ 0 → r ≡ shownOwner kinds w v u
+      → r ≡ shownWord kinds priorities w v column u
+  unfolding shownWord shownVertex
+  owner-shown column u r e f = f ∙ ap (λ (c : ℕ). vertexColumn c (shownVertex kinds priorities w v u)) (sym e)
 
-      ranks : map (λ (x : Vertex). x .priority) (shownVertices kinds priorities w v n) ≡ map (shownPriority kinds priorities w v) (from 0 n)
-      ranks = unfold shownVertices in priorities-shown (from 0 n)
+  pub priority-shown : (column u r : ℕ) → column < length vertexColumns → (¬ (column ≡ 0))
+      → r ≡ shownPriority kinds priorities w v u
+      → r ≡ shownWord kinds priorities w v column u
+  unfolding shownWord shownVertex
+  priority-shown column u r h d f =
+      let e : 1 ≡ column = omega arith in
+      f ∙ ap (λ (c : ℕ). vertexColumn c (shownVertex kinds priorities w v u)) e
+
+  -- there is room for the next column, and where the last one ends
+  pub column-room : (n c : ℕ) {p at₀ : ℕ} {out out₀ : List ℕ} → c < length vertexColumns
+      → at₀ + length vertexColumns * n ≤ length out₀
+      → Writing p (columns (drop c vertexColumns) (shownVertices kinds priorities w v n)) out at₀
+      (columns vertexColumns (shownVertices kinds priorities w v n)) out₀
+      → p + n ≤ length out
+  column-room n c h k wr =
+      omega (
+        arith,
+        columns-room vertexColumns (shownVertices kinds priorities w v n) c h
+            (omega (arith, shown-length n)) wr,
+        shown-length n,
+      )
+
+  pub columns-end : (n : ℕ) {at r : ℕ} {out out′ : List ℕ}
+      → Wrote at (columns vertexColumns (shownVertices kinds priorities w v n)) out out′ r
+      → r ≡ at + length vertexColumns * n
+  columns-end n wrote =
+      omega (arith, columns-past vertexColumns (shownVertices kinds priorities w v n) wrote, shown-length n)
+
+  -- as they are written
+  pub stretches : (n m : ℕ) → EdgesWithin w v n → degreesIn w v n ≡ m
+      → gameOf 0 (shownVertices kinds priorities w v n)
+      ≡ (n ∷ m ∷ 0 ∷ [])
+      ++ (columns vertexColumns (shownVertices kinds priorities w v n)
+      ++ (offsets 0 (shownVertices kinds priorities w v n)
+      ++ (edgeColumnOf 0 (shownVertices kinds priorities w v n) ++ [])))
+  stretches n m within e =
+      game-stretches (shownVertices kinds priorities w v n) n m (sym (shown-length n))
+      (sym e ∙ sym (total kinds priorities w v n within))

@@ -1,4 +1,5 @@
 pub mod Offsets
+pub mod Columns
 pub mod Reading
 pub mod Rewriting
 pub mod Handed

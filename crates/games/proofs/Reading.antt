@@ -1,36 +1,36 @@
--- A written game, read back: at the words of `gameOf vs` stand the vertices vs. `rest` is what stands past the game.
+-- A written game, read back: at the words of `gameOf initial vs` stand the vertices vs, column by column. `rest` is
+-- what stands past the game.
 -- Assumes nothing.
 use mathlib.Core.Path.{_≡_, refl, sym, ap, _∙_}
 use mathlib.Core.List.{List, [], _∷_, _++_, map, append-assoc}
 use Prim.Native.Nat.{ℕ, zero, suc, _+_, _-_, _*_, _≤_, _<_}
 use native.Mathlib.Nat.{not-suc-le-zero, le-of-suc-le-suc}
 use native.Mathlib.Omega.{arith}
-use lib.ListN.{length, getD, take, drop, length-append, length-map, List·getD-append}
-use lib.Seq.{slice, getD-append-add, take-append-add, drop-append-add, take-append-seam}
+use lib.ListN.{length, getD, take, length-append, length-map}
+use lib.Seq.{slice, take-append-seam}
 use Rattle.rules.specs.Lists.{word, sum}
-use Rattle.rules.specs.Game.{Vertex, edgeCount, offsets, edgeTargets, gameOf, vertexCount, offsetIn, targetsAt, targetsIn}
+use Rattle.rules.specs.Game.{Edge, Vertex, vertexColumns, edgeColumns, gameWords, edgeCount, offsets, allEdges, columns}
+use Rattle.rules.specs.Game.{gameOf, vertexCount, edgesIn, vertexColumnAt, edgeColumnAt, vertexWord, edgeWord, offsetIn}
+use Rattle.rules.specs.Game.{edgesFrom, edgeWordsIn}
+use Rattle.games.specs.Columns.{vertexColumn, edgeColumn}
+use Rattle.games.proofs.Columns.{length-columns, left-at, right-at, slice-right, column-at, column-slice}
 
 pub length-offsets : (e : ℕ) (vs : List Vertex) → length (offsets e vs) ≡ suc (length vs)
 unfolding offsets
 length-offsets e [] = refl
 length-offsets e (v ∷ vs) = ap suc (length-offsets (e + length (v .edges)) vs)
 
-pub length-targets : (vs : List Vertex) → length (edgeTargets vs) ≡ edgeCount vs
-unfolding edgeTargets edgeCount sum
-length-targets [] = refl
-length-targets (v ∷ vs) = length-append (v .edges) (edgeTargets vs) ∙ ap (λ n. length (v .edges) + n) (length-targets vs)
+pub length-edges : (vs : List Vertex) → length (allEdges vs) ≡ edgeCount vs
+unfolding allEdges edgeCount sum
+length-edges [] = refl
+length-edges (v ∷ vs) = length-append (v .edges) (allEdges vs) ∙ ap (λ n. length (v .edges) + n) (length-edges vs)
 
-map-at : (f : Vertex → ℕ) (vs : List Vertex) (v : ℕ) (d : Vertex) → v < length vs → getD (map f vs) v 0 ≡ f (getD vs v d)
-map-at f [] v d h = absurd (not-suc-le-zero h)
-map-at f (x ∷ vs) zero d h = refl
-map-at f (x ∷ vs) (suc v) d h = map-at f vs v d (le-of-suc-le-suc h)
+pub length-edge-column : (f : Edge → ℕ) (vs : List Vertex) → length (map f (allEdges vs)) ≡ edgeCount vs
+length-edge-column f vs = length-map (allEdges vs) f ∙ length-edges vs
 
--- a word of the left part, and one of the right part, at a place that is said otherwise
-left-at : (xs ys : List ℕ) (v : ℕ) → v < length xs → word (xs ++ ys) v ≡ word xs v
-left-at xs ys v h = List·getD-append xs ys 0 v h
-
-right-at : (xs ys : List ℕ) (p v : ℕ) → p ≡ length xs + v → word (xs ++ ys) p ≡ word ys v
-right-at xs ys p v e = ap (λ k. getD (xs ++ ys) k 0) e ∙ getD-append-add xs ys v 0
+pub map-append : {A : Type 0} (f : A → ℕ) (xs ys : List A) → map f (xs ++ ys) ≡ map f xs ++ map f ys
+map-append f [] ys = refl
+map-append f (x ∷ xs) ys = ap (λ (l : List ℕ). f x ∷ l) (map-append f xs ys)
 
 offsets-at : (vs : List Vertex) (e v : ℕ) → v ≤ length vs → word (offsets e vs) v ≡ e + edgeCount (take v vs)
 unfolding offsets edgeCount sum
@@ -42,133 +42,150 @@ offsets-at (x ∷ vs) e (suc v) h = offsets-at vs (e + length (x .edges)) v (le-
     regroup : (a b c : ℕ) → a + b + c ≡ a + (b + c)
     regroup a b c = omega arith
 
-slice-right : (xs ys : List ℕ) (a b : ℕ) → slice (length xs + a) (length xs + b) (xs ++ ys) ≡ slice a b ys
-slice-right xs ys a b = ap (drop (length xs + a)) (take-append-add xs ys b) ∙ drop-append-add xs (take b ys) a
-
-slice-left : (xs ys : List ℕ) → slice 0 (length xs) (xs ++ ys) ≡ xs
-slice-left xs ys = take-append-seam xs ys
-
-targets-at : (vs : List Vertex) (rest : List ℕ) (v : ℕ) (d : Vertex) → v < length vs
-    → slice (edgeCount (take v vs)) (edgeCount (take (suc v) vs)) (edgeTargets vs ++ rest) ≡ getD vs v d .edges
-unfolding edgeTargets edgeCount sum
-targets-at [] rest v d h = absurd (not-suc-le-zero h)
-targets-at (x ∷ vs) rest zero d h =
-    let z : length (x .edges) + 0 ≡ length (x .edges) = omega arith in
-    rw (z, append-assoc (x .edges) (edgeTargets vs) rest) (slice-left (x .edges) (edgeTargets vs ++ rest))
-targets-at (x ∷ vs) rest (suc v) d h =
-    rw (append-assoc (x .edges) (edgeTargets vs) rest)
-    (slice-right (x .edges) (edgeTargets vs ++ rest) (edgeCount (take v vs)) (edgeCount (take (suc v) vs)) ∙ targets-at vs rest v d (le-of-suc-le-suc h))
-
--- ---- the game's words
-
-module _ (vs : List Vertex) (rest : List ℕ) where
-  owners : List ℕ
-  owners = map (λ v. v .owner) vs
-
-  priorities : List ℕ
-  priorities = map (λ v. v .priority) vs
-
-  -- the stretches one after the other, to the right
-  whole : gameOf vs ++ rest ≡ (length vs ∷ edgeCount vs ∷ 0 ∷ []) ++ (owners ++ (priorities ++ (offsets 0 vs ++ (edgeTargets vs ++ rest))))
-  unfolding gameOf owners priorities
-  whole = simp append-assoc
-
-  pub count-read : vertexCount (gameOf vs ++ rest) ≡ length vs
-  unfolding gameOf
-  count-read = refl
-
-  long-owners : length owners ≡ length vs
-  unfolding owners
-  long-owners = length-map vs (λ v. v .owner)
-
-  long-priorities : length priorities ≡ length vs
-  unfolding priorities
-  long-priorities = length-map vs (λ v. v .priority)
-
-  pub owner-read : (v : ℕ) (d : Vertex) → v < length vs → word (gameOf vs ++ rest) (3 + v) ≡ getD vs v d .owner
-  unfolding owners
-  owner-read v d h =
-      let l : v < length owners = omega (arith, long-owners) in
-      ap (λ g. word g (3 + v)) whole
-      ∙ right-at (length vs ∷ edgeCount vs ∷ 0 ∷ []) (owners ++ (priorities ++ (offsets 0 vs ++ (edgeTargets vs ++ rest)))) (3 + v) v refl
-      ∙ left-at owners (priorities ++ (offsets 0 vs ++ (edgeTargets vs ++ rest))) v l
-      ∙ map-at (λ x. x .owner) vs v d h
-
-  pub priority-read : (v : ℕ) (d : Vertex) → v < length vs → word (gameOf vs ++ rest) (3 + length vs + v) ≡ getD vs v d .priority
-  unfolding priorities
-  priority-read v d h =
-      let l : v < length priorities = omega (arith, long-priorities) in
-      let a : 3 + length vs + v ≡ 3 + (length vs + v) = omega arith in
-      let b : length vs + v ≡ length owners + v = omega (arith, long-owners) in
-      ap (λ g. word g (3 + length vs + v)) whole
-      ∙ right-at (length vs ∷ edgeCount vs ∷ 0 ∷ []) (owners ++ (priorities ++ (offsets 0 vs ++ (edgeTargets vs ++ rest)))) (3 + length vs + v) (length vs + v) a
-      ∙ right-at owners (priorities ++ (offsets 0 vs ++ (edgeTargets vs ++ rest))) (length vs + v) v b
-      ∙ left-at priorities (offsets 0 vs ++ (edgeTargets vs ++ rest)) v l
-      ∙ map-at (λ x. x .priority) vs v d h
-
-  pub offset-read : (v : ℕ) → v ≤ length vs → offsetIn (gameOf vs ++ rest) v ≡ edgeCount (take v vs)
-  offset-read v h =
-      let l : v < length (offsets 0 vs) = omega (arith, length-offsets 0 vs) in
-      let a : 3 + 2 * vertexCount (gameOf vs ++ rest) + v ≡ 3 + (length vs + (length vs + v)) = omega (arith, count-read) in
-      let b : length vs + (length vs + v) ≡ length owners + (length vs + v) = omega (arith, long-owners) in
-      let c : length vs + v ≡ length priorities + v = omega (arith, long-priorities) in
-      let z : 0 + edgeCount (take v vs) ≡ edgeCount (take v vs) = omega arith in
-      ap (λ g. word g (3 + 2 * vertexCount (gameOf vs ++ rest) + v)) whole
-      ∙ right-at (length vs ∷ edgeCount vs ∷ 0 ∷ []) (owners ++ (priorities ++ (offsets 0 vs ++ (edgeTargets vs ++ rest)))) (3 + 2 * vertexCount (gameOf vs ++ rest) + v) (length vs + (length vs + v)) a
-      ∙ right-at owners (priorities ++ (offsets 0 vs ++ (edgeTargets vs ++ rest))) (length vs + (length vs + v)) (length vs + v) b
-      ∙ right-at priorities (offsets 0 vs ++ (edgeTargets vs ++ rest)) (length vs + v) v c
-      ∙ left-at (offsets 0 vs) (edgeTargets vs ++ rest) v l
-      ∙ offsets-at vs 0 v h
-      ∙ z
-
-  before-targets : List ℕ
-  before-targets = (length vs ∷ edgeCount vs ∷ 0 ∷ []) ++ (owners ++ (priorities ++ offsets 0 vs))
-
-  long-before : length before-targets ≡ 4 + 3 * length vs
-  unfolding before-targets
-  long-before = omega (arith, length-append owners (priorities ++ offsets 0 vs), length-append priorities (offsets 0 vs), length-offsets 0 vs, long-owners, long-priorities)
-
-  before : gameOf vs ++ rest ≡ before-targets ++ (edgeTargets vs ++ rest)
-  unfolding before-targets
-  before = whole ∙ sym (simp append-assoc)
-
-  pub targets-read : (v : ℕ) (d : Vertex) → v < length vs → targetsIn (gameOf vs ++ rest) v ≡ getD vs v d .edges
-  targets-read v d h =
-      let a : targetsAt (gameOf vs ++ rest) + offsetIn (gameOf vs ++ rest) v ≡ length before-targets + edgeCount (take v vs)
-      = omega (arith, long-before, count-read, offset-read v (omega arith)) in
-      let b : targetsAt (gameOf vs ++ rest) + offsetIn (gameOf vs ++ rest) (suc v) ≡ length before-targets + edgeCount (take (suc v) vs)
-      = omega (arith, long-before, count-read, offset-read (suc v) h) in
-      ap (λ k. slice k (targetsAt (gameOf vs ++ rest) + offsetIn (gameOf vs ++ rest) (suc v)) (gameOf vs ++ rest)) a
-      ∙ ap (λ k. slice (length before-targets + edgeCount (take v vs)) k (gameOf vs ++ rest)) b
-      ∙ ap (slice (length before-targets + edgeCount (take v vs)) (length before-targets + edgeCount (take (suc v) vs))) before
-      ∙ slice-right before-targets (edgeTargets vs ++ rest) (edgeCount (take v vs)) (edgeCount (take (suc v) vs))
-      ∙ targets-at vs rest v d h
-
-  pub length-read : length (gameOf vs) ≡ 4 + 3 * length vs + edgeCount vs
-  unfolding gameOf owners priorities
-  length-read =
-      omega (
-        arith,
-        length-append owners (priorities ++ (offsets 0 vs ++ edgeTargets vs)),
-        length-append priorities (offsets 0 vs ++ edgeTargets vs),
-        length-append (offsets 0 vs) (edgeTargets vs),
-        length-offsets 0 vs,
-        length-targets vs,
-        long-owners,
-        long-priorities,
-      )
-
-  -- the words of the targets' stretch
-  pub target-word : (p : ℕ) → p < edgeCount vs → word (gameOf vs ++ rest) (4 + 3 * length vs + p) ≡ word (edgeTargets vs) p
-  target-word p h =
-      let e : 4 + 3 * length vs + p ≡ length before-targets + p = omega (arith, long-before) in
-      ap (λ g. word g (4 + 3 * length vs + p)) before
-      ∙ right-at before-targets (edgeTargets vs ++ rest) (4 + 3 * length vs + p) p e
-      ∙ left-at (edgeTargets vs) rest p (omega (arith, length-targets vs))
-
 pub count-rises : (vs : List Vertex) (v : ℕ) → edgeCount (take v vs) ≤ edgeCount (take (suc v) vs)
 unfolding edgeCount sum
 count-rises [] zero = omega arith
 count-rises [] (suc v) = omega arith
 count-rises (x ∷ vs) zero = omega arith
 count-rises (x ∷ vs) (suc v) = omega (arith, count-rises vs v)
+
+count-most : (vs : List Vertex) (v : ℕ) → edgeCount (take v vs) ≤ edgeCount vs
+unfolding edgeCount sum
+count-most [] zero = omega arith
+count-most [] (suc v) = omega arith
+count-most (x ∷ vs) zero = omega arith
+count-most (x ∷ vs) (suc v) = omega (arith, count-most vs v)
+
+-- the edges of vertex v among all
+edges-at : (f : Edge → ℕ) (vs : List Vertex) (v : ℕ) (d : Vertex) → v < length vs
+    → slice (edgeCount (take v vs)) (edgeCount (take (suc v) vs)) (map f (allEdges vs)) ≡ map f (getD vs v d .edges)
+unfolding allEdges edgeCount sum
+edges-at f [] v d h = absurd (not-suc-le-zero h)
+edges-at f (x ∷ vs) zero d h =
+    let z : length (x .edges) + 0 ≡ length (map f (x .edges)) = omega (arith, length-map (x .edges) f) in
+    rw (z, map-append f (x .edges) (allEdges vs)) (take-append-seam (map f (x .edges)) (map f (allEdges vs)))
+edges-at f (x ∷ vs) (suc v) d h =
+    rw (← length-map (x .edges) f, map-append f (x .edges) (allEdges vs))
+    (slice-right (map f (x .edges)) (map f (allEdges vs)) (edgeCount (take v vs)) (edgeCount (take (suc v) vs))
+    ∙ edges-at f vs v d (le-of-suc-le-suc h))
+
+-- ---- the game's words
+
+module _ (initial : ℕ) (vs : List Vertex) (rest : List ℕ) where
+  abbrev g : List ℕ
+  g = gameOf initial vs ++ rest
+
+  header : List ℕ
+  header = length vs ∷ edgeCount vs ∷ initial ∷ []
+
+  long-header : length header ≡ 3
+  unfolding header
+  long-header = refl
+
+  -- the stretches one after the other, to the right
+  whole : g ≡ header ++ (columns vertexColumns vs ++ (offsets 0 vs ++ (columns edgeColumns (allEdges vs) ++ rest)))
+  unfolding gameOf header
+  whole = simp append-assoc
+
+  pub count-read : vertexCount (gameOf initial vs ++ rest) ≡ length vs
+  unfolding gameOf
+  count-read = refl
+
+  pub edges-read : edgesIn (gameOf initial vs ++ rest) ≡ edgeCount vs
+  unfolding gameOf
+  edges-read = refl
+
+  -- a word of a column of the vertices
+  pub vertex-read : (c v : ℕ) (d : Vertex) → c < length vertexColumns → v < length vs
+      → vertexWord (gameOf initial vs ++ rest) c v ≡ vertexColumn c (getD vs v d)
+  vertex-read c v d h k =
+      let later : List ℕ = offsets 0 vs ++ (columns edgeColumns (allEdges vs) ++ rest) in
+      let e : vertexColumnAt g c + v ≡ length header + (c * length vs + v)
+      = ap (λ (n : ℕ). 3 + c * n + v) count-read ∙ omega (arith, long-header) in
+      ap (λ (l : List ℕ). word l (vertexColumnAt g c + v)) whole
+      ∙ right-at header (columns vertexColumns vs ++ later) (vertexColumnAt g c + v) (c * length vs + v) e
+      ∙ column-at vertexColumns vs later c v d h k
+
+  pub offset-read : (v : ℕ) → v ≤ length vs → offsetIn (gameOf initial vs ++ rest) v ≡ edgeCount (take v vs)
+  offset-read v h =
+      let later : List ℕ = columns edgeColumns (allEdges vs) ++ rest in
+      let l : v < length (offsets 0 vs) = omega (arith, length-offsets 0 vs) in
+      let p : ℕ = 3 + length vertexColumns * vertexCount g + v in
+      let a : p ≡ length header + (length vertexColumns * length vs + v) = omega (arith, count-read, long-header) in
+      let b : length vertexColumns * length vs + v ≡ length (columns vertexColumns vs) + v
+      = omega (arith, length-columns vertexColumns vs) in
+      let z : 0 + edgeCount (take v vs) ≡ edgeCount (take v vs) = omega arith in
+      ap (λ (k : List ℕ). word k p) whole
+      ∙ right-at header (columns vertexColumns vs ++ (offsets 0 vs ++ later)) p (length vertexColumns * length vs + v) a
+      ∙ right-at (columns vertexColumns vs) (offsets 0 vs ++ later) (length vertexColumns * length vs + v) v b
+      ∙ left-at (offsets 0 vs) later v l
+      ∙ offsets-at vs 0 v h
+      ∙ z
+
+  before-edges : List ℕ
+  before-edges = header ++ (columns vertexColumns vs ++ offsets 0 vs)
+
+  long-before : length before-edges ≡ 4 + (length vertexColumns + 1) * length vs
+  unfolding before-edges
+  long-before =
+      omega (
+        arith,
+        length-append header (columns vertexColumns vs ++ offsets 0 vs),
+        length-append (columns vertexColumns vs) (offsets 0 vs),
+        length-columns vertexColumns vs,
+        length-offsets 0 vs,
+        long-header,
+      )
+
+  before : g ≡ before-edges ++ (columns edgeColumns (allEdges vs) ++ rest)
+  unfolding before-edges
+  before = whole ∙ sym (simp append-assoc)
+
+  -- place p of column c of the edges
+  edge-place : (c p : ℕ) → edgeColumnAt g c + p ≡ length before-edges + (c * length (allEdges vs) + p)
+  edge-place c p =
+      let m : c * edgesIn g ≡ c * length (allEdges vs) = ap (λ (k : ℕ). c * k) (edges-read ∙ sym (length-edges vs)) in
+      omega (arith, m, long-before, count-read)
+
+  -- the words of a column that belong to the edges of vertex v
+  pub edge-words-read : (c v : ℕ) (d : Vertex) → c < length edgeColumns → v < length vs
+      → edgeWordsIn (gameOf initial vs ++ rest) c v ≡ map (edgeColumn c) (getD vs v d .edges)
+  edge-words-read c v d h k =
+      let first : ℕ = edgeCount (take v vs) in
+      let last : ℕ = edgeCount (take (suc v) vs) in
+      let a : edgesFrom g c v ≡ length before-edges + (c * length (allEdges vs) + first)
+      = ap (λ (o : ℕ). edgeColumnAt g c + o) (offset-read v (omega arith)) ∙ edge-place c first in
+      let b : edgesFrom g c (suc v) ≡ length before-edges + (c * length (allEdges vs) + last)
+      = ap (λ (o : ℕ). edgeColumnAt g c + o) (offset-read (suc v) k) ∙ edge-place c last in
+      ap (λ (q : ℕ). slice q (edgesFrom g c (suc v)) g) a
+      ∙ ap (λ (q : ℕ). slice (length before-edges + (c * length (allEdges vs) + first)) q g) b
+      ∙ ap (slice (length before-edges + (c * length (allEdges vs) + first))
+      (length before-edges + (c * length (allEdges vs) + last))) before
+      ∙ slice-right before-edges (columns edgeColumns (allEdges vs) ++ rest) (c * length (allEdges vs) + first)
+      (c * length (allEdges vs) + last)
+      ∙ column-slice edgeColumns (allEdges vs) rest c first last h
+      (omega (arith, count-most vs (suc v), length-edges vs))
+      ∙ edges-at (edgeColumn c) vs v d k
+
+  -- the word of edge e
+  pub edge-read : (c e : ℕ) (d : Edge) → c < length edgeColumns → e < edgeCount vs
+      → edgeWord (gameOf initial vs ++ rest) c e ≡ edgeColumn c (getD (allEdges vs) e d)
+  edge-read c e d h k =
+      let p : ℕ = edgeColumnAt g c + e in
+      ap (λ (l : List ℕ). word l p) before
+      ∙ right-at before-edges (columns edgeColumns (allEdges vs) ++ rest) p (c * length (allEdges vs) + e)
+      (edge-place c e)
+      ∙ column-at edgeColumns (allEdges vs) rest c e d h (omega (arith, length-edges vs))
+
+pub length-read : (initial : ℕ) (vs : List Vertex) → length (gameOf initial vs) ≡ gameWords (length vs) (edgeCount vs)
+unfolding gameOf
+length-read initial vs =
+    omega (
+      arith,
+      length-append (columns vertexColumns vs) (offsets 0 vs ++ columns edgeColumns (allEdges vs)),
+      length-append (offsets 0 vs) (columns edgeColumns (allEdges vs)),
+      length-columns vertexColumns vs,
+      length-columns edgeColumns (allEdges vs),
+      length-offsets 0 vs,
+      length-edges vs,
+    )

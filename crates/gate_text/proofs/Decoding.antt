@@ -12,7 +12,7 @@ use lib.Dec.{eqb}
 use borrow.Author.Tests.{lt-ltb, le-ltb}
 use Rattle.rules.specs.Lists.{word, sum}
 use Rattle.rules.specs.Refusal.{differ}
-use Rattle.rules.specs.Program.{wordOf, joined, wordsOf, disagree}
+use Rattle.rules.specs.Program.{wordOf, joined, wordsOf, gateWords, disagree}
 use Rattle.gate_text.specs.declared.Decoded.the-variants.{Read, Unreadable}
 use Rattle.gate_text.specs.Reading.{agreeing, accepted, decoded}
 use Rattle.words.specs.Bytes.{wordAt}
@@ -107,17 +107,17 @@ module _ (bytes : List ℕ) where
   refused-broken h = refused-if (λ ws e. absurd (h (omega arith)))
 
   pub refused-long : 8_192 < length bytes → accepted bytes ≡ none
-  unfolding disagree
+  unfolding disagree gateWords
   refused-long h = refused-if (λ ws e. rw (lt-ltb 2_048 (length ws) (omega arith)) refl)
 
   pub refused-short : length bytes < 16 → accepted bytes ≡ none
-  unfolding disagree
+  unfolding disagree gateWords
   refused-short h = refused-if (λ ws e. rw (le-ltb 2_048 (length ws) (omega arith), lt-ltb (length ws) 4 (omega arith)) refl)
 
   -- what is read, where there are neither too many words nor too few
   accepted-words : (ws : List ℕ) → wordsOf bytes ≡ some ws → length ws ≤ 2_048 → 4 ≤ length ws → (t : Bool) → eqb (length ws) (4 + sum (take 4 ws)) ≡ t
       → accepted bytes ≡ cond t (some ws) none
-  unfolding accepted agreeing disagree differ
+  unfolding accepted agreeing disagree gateWords differ
   accepted-words ws e k l true f = rw (e, le-ltb 2_048 (length ws) k, le-ltb (length ws) 4 l, f) refl
   accepted-words ws e k l false f = rw (e, le-ltb 2_048 (length ws) k, le-ltb (length ws) 4 l, f) refl
 

@@ -1,29 +1,30 @@
 -- The program's parts make the program: the words that are read are run, and what is printed of that run is what the rules print. Assumes nothing.
 use mathlib.Core.Path.{_≡_, refl, sym, ap, _∙_, subst}
 use mathlib.Core.Bool.{Bool, true, false, cond, _||_}
-use mathlib.Core.List.{List, [], _∷_, _++_}
+use mathlib.Core.List.{List, [], _∷_}
 use mathlib.Core.Option.{Option, none, some}
-use Prim.Native.Nat.{ℕ, _+_, _-_, _≤_, _<_}
+use Prim.Native.Nat.{ℕ, _+_, _-_, _≤_}
 use native.Mathlib.Omega.{arith}
-use lib.ListN.{length, take, drop, take-append-drop, length-append, length-drop}
-use lib.Seq.{drop-drop, take-all, take-append-seam}
+use lib.ListN.{length, take, drop, length-drop}
+use lib.Seq.{drop-drop, take-all}
 use lib.Dec.{eqb, ltb}
-use borrow.Author.Tests.{ltb-false, lt-ltb, le-ltb, eqb-true, not-false}
+use borrow.Author.Tests.{ltb-false, eqb-true, not-false}
 use Rattle.rules.specs.declared.Answer.{Answer}
 use Rattle.rules.specs.Lists.{word, sum}
-use Rattle.rules.specs.Answers.{said}
+use Rattle.rules.specs.Answers.{Accepted}
 use Rattle.rules.specs.Words.{Input, inputOf}
 use Rattle.rules.specs.Refusal.{differ}
 use Rattle.rules.specs.Run.{Outcome}
-use Rattle.rules.specs.Program.{wordsOf, disagree, slicesOf, gateRun, refusedText, line, report, reported, printedWords, printed}
-use Rattle.words.specs.Stretches.{Wrote}
+use Rattle.rules.specs.Texts.{line}
+use Rattle.rules.specs.Program.{wordsOf, gateWords, disagree, slicesOf, gateRun, refusedText, report, reported}
+use Rattle.rules.specs.Program.{printedWords, printed, gateTextLength}
 use Rattle.gate_text.specs.declared.Decoded.{Decoded}
 use Rattle.gate_text.specs.declared.Decoded.the-variants.{Read, Unreadable}
 use Rattle.gate_text.specs.Reading.{agreeing, accepted, decoded, wordCount}
 use Rattle.gate_text.specs.Shown.{Shown}
-use Rattle.gate_text.specs.Written.{written, fronted}
 use Rattle.gate_text.proofs.Decoding.{sum-four}
 use Rattle.gate_text.proofs.NeverCut.{gate-shown}
+use Rattle.gate_text.proofs.Fits.{reported-fits, gate-fits}
 use Rattle.lists.proofs.Tests.{or-false}
 
 -- ---- what is read
@@ -31,7 +32,7 @@ use Rattle.lists.proofs.Tests.{or-false}
 -- the words of an input that agrees: the four lengths, and the slices behind them
 module _ (ws : List ℕ) (agrees : disagree ws ≡ false) where
   lengths : (length ws ≤ 2_048) × (4 ≤ length ws) × (length ws ≡ 4 + sum (take 4 ws))
-  unfolding disagree differ
+  unfolding disagree gateWords differ
   lengths =
       let (a, r) = or-false (ltb 2_048 (length ws)) (ltb (length ws) 4 || differ (length ws) (4 + sum (take 4 ws))) agrees in
       let (b, c) = or-false (ltb (length ws) 4) (differ (length ws) (4 + sum (take 4 ws))) r in
@@ -115,47 +116,23 @@ module _ (bytes ws : List ℕ) (d : Decoded) (same : decoded d ws ≡ accepted b
   unfolding decoded refusedText
   unreadable-printed e = accepted-none bytes (sym same ∙ ap (λ (k : Decoded). decoded k ws) e)
 
+  pub unreadable-room : d ≡ Unreadable → (size : ℕ) → gateTextLength ≤ size
+      → 0 + length (line (114 ∷ 101 ∷ 102 ∷ 117 ∷ 115 ∷ 101 ∷ 100 ∷ []) (2 ∷ 0 ∷ [])) ≤ size
+  unreadable-room e size h = omega (arith, ap length (unreadable-printed e), gate-fits bytes)
+
 pub read-count : (d : Decoded) (n : ℕ) → d ≡ Read n → wordCount d ≤ 2_048 → n ≤ 2_048
 unfolding wordCount
 read-count d n e h = subst (λ (k : Decoded). wordCount k ≤ 2_048) e h
 
 -- ---- a run, as the code leaves it
-module _ (x : Input) (a : Answer) (game work : List ℕ) (same : _≡_ {A = Outcome} (record { answer = said a; game = game; work = work }) (gateRun x)) where
-  pub run-printed : report (word (said a) 0) (said a) game ≡ reported (gateRun x)
+module _ (x : Input) (a : Answer) (game work : List ℕ) (same : _≡_ {A = Outcome} (record { answer = a; game = game; work = work }) (gateRun x)) where
+  pub run-printed : report a game ≡ reported (gateRun x)
   unfolding reported
   run-printed = ap reported same
 
-  pub game-shown : (¬ (word (said a) 0 ≡ 2)) → Shown game
-  game-shown = subst (λ (o : Outcome). (¬ (word (o .answer) 0 ≡ 2)) → Shown (o .game)) (sym same) (gate-shown x)
+  -- it fits a slice in which every text fits
+  pub run-room : (size : ℕ) → gateTextLength ≤ size → length (report a game) ≤ size
+  run-room size h = omega (arith, ap length run-printed, reported-fits x)
 
--- ---- the slice that is lent
-
-written-all : (bytes text : List ℕ) → 16_384 ≤ length text → written bytes text ≡ printed bytes
-unfolding written
-written-all bytes text h = rw (le-ltb (length text) 16_384 h) refl
-
--- a text in a slice that is long enough
-pub wrote-text : (bytes : List ℕ) {s text text′ : List ℕ} {r : ℕ} → 16_384 ≤ length text → Wrote 0 s text text′ r → s ≡ printed bytes
-    → (r ≡ length (written bytes text)) × (text′ ≡ fronted (written bytes text) text)
-unfolding fronted
-wrote-text bytes {s} {text} {text′} {r} h w e =
-    let f : s ≡ written bytes text = e ∙ sym (written-all bytes text h) in
-    let n : r ≡ length (written bytes text) = omega (arith, w .past, ap length f) in
-    let all : text′ ≡ written bytes text ++ drop r text =
-    sym (take-append-drop r text′) ∙ ap (λ (l : List ℕ). l ++ drop r text′) (w .words ∙ f) ∙ ap (λ (l : List ℕ). written bytes text ++ l) (w .rest)
-    in
-    (n, all ∙ ap (λ (k : ℕ). written bytes text ++ drop k text) n)
-
--- a slice that is too short stays as it is
-pub wrote-nothing : (bytes text : List ℕ) → length text < 16_384 → (0 ≡ length (written bytes text)) × (text ≡ fronted (written bytes text) text)
-unfolding written fronted
-wrote-nothing bytes text h = rw (lt-ltb (length text) 16_384 h) (refl, refl)
-
--- what a caller that lends a slice that is long enough finds at its front
-pub text-written : (bytes text text′ : List ℕ) (r : ℕ) → 16_384 ≤ length text → r ≡ length (written bytes text) → text′ ≡ fronted (written bytes text) text
-    → (take r text′ ≡ printed bytes) × (r ≤ length text′)
-unfolding fronted
-text-written bytes text text′ r h n e =
-    let t : List ℕ = written bytes text in
-    let w : t ≡ printed bytes = written-all bytes text h in
-    (rw (n, e) (take-append-seam t (drop (length t) text) ∙ w), omega (arith, ap length e, length-append t (drop (length t) text)))
+  pub game-shown : Accepted a → Shown game
+  game-shown = subst (λ (o : Outcome). Accepted (o .answer) → Shown (o .game)) (sym same) (gate-shown x)

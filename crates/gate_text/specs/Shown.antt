@@ -4,7 +4,7 @@ use mathlib.Core.List.{List}
 use Prim.Native.Nat.{ℕ, suc, _+_, _≤_, _<_}
 use lib.ListN.{length}
 use Rattle.rules.specs.Lists.{In}
-use Rattle.rules.specs.Game.{vertexCount, edgesIn, ownerIn, offsetIn, targetsIn, gameEnd}
+use Rattle.rules.specs.Game.{vertexCount, edgesIn, ownerIn, priorityIn, offsetIn, targetsIn, gameEnd}
 
 pub record Shown (g : List ℕ) : Type 0 where
   -- the program's room
@@ -15,6 +15,7 @@ pub record Shown (g : List ℕ) : Type 0 where
   pub follows : (v : ℕ) → v < vertexCount g → offsetIn g (suc v) ≡ offsetIn g v + length (targetsIn g v)
   pub ends : offsetIn g (vertexCount g) ≡ edgesIn g
   pub inside : gameEnd g ≤ length g
-  -- owners and targets are small numbers: so is the text
+  -- owners, priorities and targets are small numbers: so is the text
   pub owned : (v : ℕ) → v < vertexCount g → ownerIn g v ≤ 2
+  pub ranked : (v : ℕ) → v < vertexCount g → priorityIn g v < 4_294_967_296
   pub leads : (v u : ℕ) → v < vertexCount g → In u (targetsIn g v) → u < vertexCount g

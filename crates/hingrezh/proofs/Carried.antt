@@ -1,28 +1,58 @@
--- What holds of an answer's four words holds of the words lent for it, once they are equal. Assumes nothing.
-use mathlib.Core.Path.{_≡_, sym, subst}
+-- What holds of a call's answer holds of the answer that the lent words say, once they are its words. Assumes nothing.
+use mathlib.Core.Path.{_≡_, ap, _∙_}
 use mathlib.Core.List.{List}
 use Prim.Native.Nat.{ℕ}
+use native.Mathlib.Omega.{arith}
+use Rattle.rules.specs.declared.Answer.{Answer}
+use Rattle.rules.specs.declared.Answer.the-variants.{Done, Cut, Refused}
 use Rattle.rules.specs.Lists.{word}
 use Rattle.rules.specs.Words.{Input, Room}
+use Rattle.rules.specs.Answers.{said, Says, Accepted}
 use Rattle.rules.specs.Depth.{byDepth}
 use Rattle.rules.specs.Run.{Outcome, run}
 use Rattle.rules.specs.Demands.{Demand1, Demand3}
 use Rattle.rules.specs.Restrict.{Restricted, reachedVertices, restriction}
-use Rattle.rules.specs.Restricts.{Restricts}
+use Rattle.rules.specs.Restricts.{Restricts, RestrictionDemand1}
 
--- what the run promises of the answer's words and the two slices
-abbrev pub RunPromise : Input → Room → ℕ → (game work g w a : List ℕ) → Type 0
-RunPromise x r k game work g w a =
-    (_≡_ {A = Outcome} (record { answer = a; game = g; work = w }) (run byDepth x r k game work)) × ((Demand1 x r k game work a g w) × (Demand3 byDepth x k a g))
+-- the first word tells the kind of an answer
+unlike : (a b : Answer) → said a ≡ said b → (¬ (word (said a) 0 ≡ word (said b) 0)) → a ≡ b
+unlike a b h n = absurd (n (ap (λ (l : List ℕ). word l 0) h))
 
-pub run-carried : (x : Input) (r : Room) (k : ℕ) (game work g w a b : List ℕ) → b ≡ a → RunPromise x r k game work g w a → RunPromise x r k game work g w b
-run-carried x r k game work g w a b e p = subst (RunPromise x r k game work g w) (sym e) p
+-- two answers with the same words are equal
+pub said-once : (a b : Answer) → said a ≡ said b → a ≡ b
+unfolding said
+said-once (Done s v e) (Done t w f) h = λ i. Done (word (h i) 1) (word (h i) 2) (word (h i) 3)
+said-once (Cut s v e) (Cut t w f) h = λ i. Cut (word (h i) 1) (word (h i) 2) (word (h i) 3)
+said-once (Refused n p) (Refused m q) h = λ i. Refused (word (h i) 1) (word (h i) 2)
+said-once (Done s v e) (Cut t w f) h = unlike (Done s v e) (Cut t w f) h (λ z. omega arith)
+said-once (Done s v e) (Refused n p) h = unlike (Done s v e) (Refused n p) h (λ z. omega arith)
+said-once (Cut s v e) (Done t w f) h = unlike (Cut s v e) (Done t w f) h (λ z. omega arith)
+said-once (Cut s v e) (Refused n p) h = unlike (Cut s v e) (Refused n p) h (λ z. omega arith)
+said-once (Refused n p) (Done t w f) h = unlike (Refused n p) (Done t w f) h (λ z. omega arith)
+said-once (Refused n p) (Cut t w f) h = unlike (Refused n p) (Cut t w f) h (λ z. omega arith)
+
+-- what the run promises of the answer and the two slices
+module _ (x : Input) (r : Room) (k : ℕ) (game work g w : List ℕ) where
+  pub run-carried : (ws : List ℕ) (a : Answer) → ws ≡ said a
+      → (_≡_ {A = Outcome} (record { answer = a; game = g; work = w }) (run byDepth x r k game work))
+      × ((said a ≡ said (run byDepth x r k game work .answer))
+      × ((Demand1 x r k game work a g w) × (Demand3 byDepth x k a g)))
+      → (ws ≡ said (run byDepth x r k game work .answer))
+      × (Says ws (λ b. _≡_ {A = Outcome} (record { answer = b; game = g; work = w }) (run byDepth x r k game work))
+      × (Says ws (λ b. Demand1 x r k game work b g w) × Says ws (λ b. Demand3 byDepth x k b g)))
+  run-carried ws a e (p, (c, (q, s))) = (e ∙ c, ((a, e, p), ((a, e, q), (a, e, s))))
 
 -- what the restriction promises
-abbrev pub RestrictionPromise : (game out numbers work h ns w a : List ℕ) → Type 0
-RestrictionPromise game out numbers work h ns w a =
-    (_≡_ {A = Restricted} (record { answer = a; out = h; numbers = ns; work = w }) (restriction game out numbers work))
-    × ((¬ (word a 0 ≡ 2)) → Restricts game a h ns (reachedVertices game))
-
-pub restriction-carried : (game out numbers work h ns w a b : List ℕ) → b ≡ a → RestrictionPromise game out numbers work h ns w a → RestrictionPromise game out numbers work h ns w b
-restriction-carried game out numbers work h ns w a b e p = subst (RestrictionPromise game out numbers work h ns w) (sym e) p
+module _ (game out mapping work h ns w : List ℕ) where
+  pub restriction-carried : (ws : List ℕ) (a : Answer) → ws ≡ said a
+      → (_≡_ {A = Restricted} (record { answer = a; out = h; mapping = ns; work = w })
+      (restriction game out mapping work))
+      × ((said a ≡ said (restriction game out mapping work .answer))
+      × ((Accepted a → Restricts game a h ns (reachedVertices game))
+      × RestrictionDemand1 game out mapping work a h ns w))
+      → (ws ≡ said (restriction game out mapping work .answer))
+      × (Says ws (λ b. _≡_ {A = Restricted} (record { answer = b; out = h; mapping = ns; work = w })
+      (restriction game out mapping work))
+      × (Says ws (λ b. Accepted b → Restricts game b h ns (reachedVertices game))
+      × Says ws (λ b. RestrictionDemand1 game out mapping work b h ns w)))
+  restriction-carried ws a e (p, (c, (q, d))) = (e ∙ c, ((a, e, p), ((a, e, q), (a, e, d))))

@@ -2,14 +2,13 @@
 // 0 Done, 1 Cut, 2 Refused, then the values, unused ones 0.
 use rules::Answer;
 ghost use mathlib.Core.Path.{_≡_};
-ghost use Rattle.rules.specs.Lists.{word};
 ghost use Rattle.rules.specs.Words.{inputOf, roomOf};
-ghost use Rattle.rules.specs.Answers.{said};
+ghost use Rattle.rules.specs.Answers.{said, Says, Accepted};
 ghost use Rattle.rules.specs.Depth.{byDepth};
 ghost use Rattle.rules.specs.Run.{Outcome, run};
 ghost use Rattle.rules.specs.Demands.{Demand1, Demand3};
 ghost use Rattle.rules.specs.Restrict.{Restricted, reachedVertices, restriction};
-ghost use Rattle.rules.specs.Restricts.{Restricts};
+ghost use Rattle.rules.specs.Restricts.{Restricts, RestrictionDemand1};
 
 // The four words of an answer.
 fn put_answer(a: Answer, answer: &mut [u32; 4])
@@ -28,7 +27,7 @@ fn put_answer(a: Answer, answer: &mut [u32; 4])
     }
 }
 
-// The run: see `translate` of the crate translate, whose contract this is over the answer's words.
+// The run: see `translate` of the crate translate, whose contract this is of the answer that the lent words say.
 #[no_mangle]
 pub extern "C" fn hingrezh_translate(
     labels: &[u32],
@@ -42,11 +41,20 @@ pub extern "C" fn hingrezh_translate(
     work: &mut [u32],
     answer: &mut [u32; 4],
 )
-    ensures equals { λ _. ⌜ _≡_ {A = Outcome} (record { answer = now (answer .exit); game = now (game .exit); work = now (work .exit) })
-        (run byDepth (inputOf (now (labels .entry)) (now (system .entry)) (now (actions .entry)) (now (formula .entry))) (roomOf vertices edges) limit (now (game .entry)) (now (work .entry))) ⌝ }
-    ensures demand1 { λ _. ⌜ Demand1 (inputOf (now (labels .entry)) (now (system .entry)) (now (actions .entry)) (now (formula .entry))) (roomOf vertices edges) limit
-        (now (game .entry)) (now (work .entry)) (now (answer .exit)) (now (game .exit)) (now (work .exit)) ⌝ }
-    ensures demand3 { λ _. ⌜ Demand3 byDepth (inputOf (now (labels .entry)) (now (system .entry)) (now (actions .entry)) (now (formula .entry))) limit (now (answer .exit)) (now (game .exit)) ⌝ }
+    ensures coded { λ _. ⌜ now (answer .exit) ≡ said (run byDepth
+        (inputOf (now (labels .entry)) (now (system .entry)) (now (actions .entry)) (now (formula .entry)))
+        (roomOf vertices edges) limit (now (game .entry)) (now (work .entry)) .answer) ⌝ }
+    ensures equals { λ _. ⌜ Says (now (answer .exit)) (λ a.
+        _≡_ {A = Outcome} (record { answer = a; game = now (game .exit); work = now (work .exit) })
+        (run byDepth (inputOf (now (labels .entry)) (now (system .entry)) (now (actions .entry)) (now (formula .entry)))
+        (roomOf vertices edges) limit (now (game .entry)) (now (work .entry)))) ⌝ }
+    ensures demand1 { λ _. ⌜ Says (now (answer .exit)) (λ a. Demand1
+        (inputOf (now (labels .entry)) (now (system .entry)) (now (actions .entry)) (now (formula .entry)))
+        (roomOf vertices edges) limit (now (game .entry)) (now (work .entry))
+        a (now (game .exit)) (now (work .exit))) ⌝ }
+    ensures demand3 { λ _. ⌜ Says (now (answer .exit)) (λ a. Demand3 byDepth
+        (inputOf (now (labels .entry)) (now (system .entry)) (now (actions .entry)) (now (formula .entry)))
+        limit a (now (game .exit))) ⌝ }
 {
     let a = translate::translate(
         labels,
@@ -62,7 +70,8 @@ pub extern "C" fn hingrezh_translate(
     put_answer(a, answer);
 }
 
-// The restriction: see `compute_reachable` of the crate reachability, whose contract this is over the answer's words.
+// The restriction: see `compute_reachable` of the crate reachability, whose contract this is of the answer that the
+// lent words say.
 #[no_mangle]
 pub extern "C" fn hingrezh_compute_reachable(
     game: &[u32],
@@ -71,9 +80,16 @@ pub extern "C" fn hingrezh_compute_reachable(
     work: &mut [u32],
     answer: &mut [u32; 4],
 )
-    ensures equals { λ _. ⌜ _≡_ {A = Restricted} (record { answer = now (answer .exit); out = now (out .exit); numbers = now (map .exit); work = now (work .exit) })
-        (restriction (now (game .entry)) (now (out .entry)) (now (map .entry)) (now (work .entry))) ⌝ }
-    ensures restricts { λ _. ⌜ ((¬ (word (now (answer .exit)) 0 ≡ 2)) → Restricts (now (game .entry)) (now (answer .exit)) (now (out .exit)) (now (map .exit)) (reachedVertices (now (game .entry)))) ⌝ }
+    ensures coded { λ _. ⌜ now (answer .exit)
+        ≡ said (restriction (now (game .entry)) (now (out .entry)) (now (map .entry)) (now (work .entry)) .answer) ⌝ }
+    ensures equals { λ _. ⌜ Says (now (answer .exit)) (λ a. _≡_ {A = Restricted}
+        (record { answer = a; out = now (out .exit); mapping = now (map .exit); work = now (work .exit) })
+        (restriction (now (game .entry)) (now (out .entry)) (now (map .entry)) (now (work .entry)))) ⌝ }
+    ensures restricts { λ _. ⌜ Says (now (answer .exit)) (λ a. Accepted a
+        → Restricts (now (game .entry)) a (now (out .exit)) (now (map .exit)) (reachedVertices (now (game .entry)))) ⌝ }
+    ensures demand1 { λ _. ⌜ Says (now (answer .exit)) (λ a. RestrictionDemand1
+        (now (game .entry)) (now (out .entry)) (now (map .entry)) (now (work .entry)) a
+        (now (out .exit)) (now (map .exit)) (now (work .exit))) ⌝ }
 {
     let a = reachability::compute_reachable(game, out, map, work);
     put_answer(a, answer);

@@ -1,5 +1,6 @@
 -- The refusals 1 and 2, one law for each answer of the code. Assumes nothing.
 use Prim.Native.Nat.{ℕ, _+_, _*_, _<_, _≤_}
+use native.Mathlib.Omega.{arith}
 use mathlib.Core.Path.{_≡_}
 use Rattle.rules.specs.declared.Check.the-variants.{Passed, Fault}
 use Rattle.rules.specs.Words.{roomOf, mostVertices, mostEdges, gameLength, workLength}
@@ -32,7 +33,7 @@ module _ (v e : ℕ) where
   module _ (game work : ℕ) where
     pub wrong-game : (game ≡ 4 + 3 * v + e → ⊥) → refusal2 (roomOf v e) game work ≡ Fault 2 0
     unfolding refusal2 gameLength
-    wrong-game h = if-true _ _ (or-left _ (differ-yes h))
+    wrong-game h = if-true _ _ (or-left _ (differ-yes (λ e. h (omega arith))))
 
     pub wrong-work : (work ≡ 8 * v + 2 * e → ⊥) → refusal2 (roomOf v e) game work ≡ Fault 2 0
     unfolding refusal2 workLength
@@ -40,4 +41,4 @@ module _ (v e : ℕ) where
 
     pub right-slices : game ≡ 4 + 3 * v + e → work ≡ 8 * v + 2 * e → refusal2 (roomOf v e) game work ≡ Passed
     unfolding refusal2 gameLength workLength
-    right-slices a b = if-false _ _ (or-none (differ-no a) (differ-no b))
+    right-slices a b = if-false _ _ (or-none (differ-no (omega arith)) (differ-no b))

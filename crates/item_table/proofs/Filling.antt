@@ -13,19 +13,19 @@ use Rattle.rules.specs.Words.{Input}
 use Rattle.rules.specs.Table.{size, formulaNode}
 use Rattle.rules.specs.Actions.{actionTree}
 use Rattle.rules.specs.Formula.{Operator, least, greatest, isFixpoint, equationCount, equationOf, equationNumber, formulaTree, bodyTree, firstBodyNode}
-use Rattle.rules.specs.Depth.{leastBit, byDepth}
+use Rattle.rules.specs.Depth.{Ranking, leastBit}
 use Rattle.rules.specs.Items.{Item, equation, items, itemNumber}
 use Rattle.rules.specs.Pairs.{itemAt, priority}
-use Rattle.rules.specs.Good.{GoodInput}
+use Rattle.tables.specs.Good.{GoodInput}
 use Rattle.trees.proofs.Equations.{equation-node, body-below, fixpoint-body}
-use Rattle.trees.proofs.Readings.{byDepth-words, leastBit-most}
+use Rattle.trees.proofs.Readings.{leastBit-most}
 use Rattle.arena.specs.Arena.{BodyNode}
 use Rattle.arena.proofs.ItemNumbers.{items-few, item-equation, item-subformula, item-below, item-past, item-carried, first-body}
 use Rattle.arena.proofs.Priorities.{equation-priority, other-priority}
-use Rattle.modal_equation_system.specs.System.{formulaOnly, bodyIn, leastIn, Listed, Ranked}
+use Rattle.modal_equation_system.specs.System.{formulaOnly, bodyIn, leastIn, Listed, RankedBy}
 use Rattle.alike_nodes.specs.Nodes.{Last, Later, EquationNumbers, FormulaShown}
 use Rattle.alike_nodes.proofs.Showing.{formula-shown-map}
-use Rattle.item_table.specs.Entries.{operatorKind, ActionAt, ItemShown, ItemTable, ItemNumbers, ShownAt, FirstShown}
+use Rattle.item_table.specs.Entries.{operatorKind, ActionAt, ItemShown, ShownAt, ItemTable, Ranks, ItemNumbers, FirstShown}
 use Rattle.item_table.proofs.Numbers.{zeros-word, first-most}
 
 -- ---- one entry is written
@@ -171,29 +171,32 @@ module _ (x : Input) (good : GoodInput x) where
   pub listed-numbers : (table : List ℕ) → Listed (x .formula) table → EquationNumbers (x .formula) table
   listed-numbers table l = record { room = omega (arith, l .long, good .formula .few); number = λ v h p q. l .link v h .own p q }
 
-  ranked-at : (count : ℕ) (old before after : List ℕ) → count ≡ equationCount (x .formula) → before ≡ zeros old → Ranked (x .formula) count before after
-      → (q : ℕ) → word after q ≡ priority byDepth x (0, q)
-  ranked-at count old before after e z r q = go (decLt q (equationCount (x .formula)))
+  -- by a ranking that looks at the formula alone: the ranks of the equations, and 0 past them
+  pub ranks-made : (rank : Ranking) → ((i : ℕ) → rank (formulaOnly (x .formula)) i ≡ rank x i)
+      → (count : ℕ) (old after : List ℕ) → count ≡ equationCount (x .formula) → 2_048 ≤ length after
+      → RankedBy rank (x .formula) count (zeros old) after
+      → Ranks rank x after
+  ranks-made rank alone count old after e h r =
+      record {
+        room = omega (arith, items-few x good);
+        ranked = λ q. go q (decLt q (equationCount (x .formula)));
+      }
     where
-      go : Dec (q < equationCount (x .formula)) → word after q ≡ priority byDepth x (0, q)
-      go (yes h) = r .rank q (omega arith) ∙ byDepth-words (formulaOnly (x .formula)) x q refl ∙ sym (equation-priority x byDepth (0, q) h)
-      go (no h) = r .rest q (omega arith) ∙ ap (λ (l : List ℕ). word l q) z ∙ zeros-word old q ∙ sym (other-priority x byDepth (0, q) (omega arith))
+      go : (q : ℕ) → Dec (q < equationCount (x .formula)) → word after q ≡ priority rank x (0, q)
+      go q (yes l) = r .ranked q (omega arith) ∙ alone q ∙ sym (equation-priority x rank (0, q) l)
+      go q (no l) = r .rest q (omega arith) ∙ zeros-word old q ∙ sym (other-priority x rank (0, q) (omega arith))
 
-  pub table-made : (count : ℕ) (kinds lefts rights old before after : List ℕ)
-      → count ≡ equationCount (x .formula)
-      → 2_048 ≤ length kinds → 2_048 ≤ length lefts → 2_048 ≤ length rights → 2_048 ≤ length after
+  pub table-made : (kinds lefts rights : List ℕ) → 2_048 ≤ length kinds → 2_048 ≤ length lefts → 2_048 ≤ length rights
       → FirstShown x (length (items x)) kinds lefts rights
-      → before ≡ zeros old
-      → Ranked (x .formula) count before after
-      → ItemTable x kinds lefts rights after
-  table-made count kinds lefts rights old before after e a b c d s z r =
+      → ItemTable x kinds lefts rights
+  table-made kinds lefts rights a b c s =
       record {
         kinds-room = omega (arith, items-few x good);
         lefts-room = omega (arith, items-few x good);
         rights-room = omega (arith, items-few x good);
-        priorities-room = omega (arith, items-few x good);
-        entry = λ q h. record { shown = s .shown q h; ranked = ranked-at count old before after e z r q };
+        entry = s .shown;
       }
 
-pub ranked-from : (f : List ℕ) (n : ℕ) (before before′ after : List ℕ) → before ≡ before′ → Ranked f n before after → Ranked f n before′ after
-ranked-from f n before before′ after e r = subst (λ (l : List ℕ). Ranked f n l after) e r
+pub ranked-from : (rank : Ranking) (f : List ℕ) (n : ℕ) (before before′ after : List ℕ) → before ≡ before′
+    → RankedBy rank f n before after → RankedBy rank f n before′ after
+ranked-from rank f n before before′ after e r = subst (λ (l : List ℕ). RankedBy rank f n l after) e r

@@ -13,7 +13,7 @@ use Rattle.rules.specs.Words.{Input}
 use Rattle.rules.specs.Table.{size, formulaNode}
 use Rattle.rules.specs.Formula.{isFixpoint, equationCount, Formula, formulaTree, firstBodyNode}
 use Rattle.rules.specs.Items.{items, itemNumber}
-use Rattle.rules.specs.Good.{GoodInput}
+use Rattle.tables.specs.Good.{GoodInput}
 use Rattle.lists.proofs.Members.{in-left, in-either}
 use Rattle.lists.proofs.Shapes.{begins-length}
 use Rattle.trees.proofs.Equations.{good-some-equation}

@@ -1,23 +1,25 @@
--- What a step reads off an entry of the table: owner, priority and targets of a pair, one law for each kind that code tests. Assumes nothing.
+-- What is read off the tables: owner and targets of a pair off its item's entry, one law for each kind that code tests;
+-- its priority. Assumes nothing.
 use mathlib.Core.Path.{_≡_, refl, sym, ap, ap₂}
-use mathlib.Core.List.{[], _∷_, map}
+use mathlib.Core.List.{List, [], _∷_, map}
 use Prim.Native.Nat.{ℕ, zero, suc, _≤_, _<_, _%_}
 use native.Mathlib.Omega.{arith}
 use lib.ListN.{length}
 use Rattle.player.specs.declared.Player.the-variants.{Even, Odd}
+use Rattle.rules.specs.Lists.{word}
 use Rattle.rules.specs.Words.{Input}
 use Rattle.rules.specs.Table.{size}
 use Rattle.rules.specs.Actions.{Action, actionTree}
 use Rattle.rules.specs.Formula.{Operator, least, greatest, equationOf, Formula, truth, falsity, conjunction, disjunction, box, diamond, reference, bodyTree}
-use Rattle.rules.specs.Depth.{byDepth}
+use Rattle.rules.specs.Depth.{Ranking}
 use Rattle.rules.specs.Items.{Item, equation, subformula, items}
 use Rattle.rules.specs.Pairs.{itemAt, operatorOwner, formulaOwner, itemOwner, owner, priority, successors, formulaTargets, itemTargets, targets}
-use Rattle.rules.specs.Good.{GoodInput}
+use Rattle.tables.specs.Good.{GoodInput}
 use Rattle.arena.specs.Arena.{Parts}
 use Rattle.arena.proofs.ItemNumbers.{items-count, item-below}
 use Rattle.arena.proofs.Parts.{carried-parts, body-carried}
 use Rattle.arena.proofs.Inside.{item-cases}
-use Rattle.item_table.specs.Entries.{operatorKind, ItemShown, Entry, kindOwner}
+use Rattle.item_table.specs.Entries.{operatorKind, ItemShown, Entry, Ranks, kindOwner}
 
 operator-kind : (o : Operator) → (6 ≤ operatorKind o) × (operatorKind o ≤ 7)
 operator-kind least = (omega arith, omega arith)
@@ -144,39 +146,40 @@ module _ (x : Input) (k l r s : ℕ) where
   right-of (diamond t f) d (a, b, c) p q = absurd (omega arith)
   right-of (reference i) d (a, b, c) p q = absurd (omega arith)
 
+pub ranks-priority : (rank : Ranking) (x : Input) (priorities : List ℕ) → Ranks rank x priorities
+    → (s q : ℕ) → word priorities q ≡ priority rank x (s, q)
+unfolding priority
+ranks-priority rank x priorities r s q = r .ranked q
+
 -- ---- by entries
 
-module _ (x : Input) (q k l r p s : ℕ) (e : Entry x q k l r p) where
-  pub entry-priority : priority byDepth x (s, q) ≡ p
-  unfolding priority
-  entry-priority = sym (e .ranked)
-
+module _ (x : Input) (q k l r s : ℕ) (e : Entry x q k l r) where
   pub entry-owner : owner x (s, q) ≡ kindOwner k
   unfolding owner
-  entry-owner = owned x k l r s (itemAt x q) (e .shown)
+  entry-owner = owned x k l r s (itemAt x q) e
 
   -- kinds 0 and 1
   pub entry-none : k ≤ 1 → targets x (s, q) ≡ []
   unfolding targets
-  entry-none h = none x k l r s (itemAt x q) (e .shown) h
+  entry-none h = none x k l r s (itemAt x q) e h
 
   -- kinds 2 and 3
   pub entry-two : 2 ≤ k → k ≤ 3 → targets x (s, q) ≡ (s, l) ∷ (s, r) ∷ []
   unfolding targets
-  entry-two a b = two x k l r s (itemAt x q) (e .shown) a b
+  entry-two a b = two x k l r s (itemAt x q) e a b
 
   -- kinds 4 and 5
   pub entry-modal : 4 ≤ k → k ≤ 5 → targets x (s, q) ≡ map (λ t. (t, l)) (successors x (actionTree (x .labels) (x .actions) r) s)
   unfolding targets
-  entry-modal a b = modal x k l r s (itemAt x q) (e .shown) a b .1
+  entry-modal a b = modal x k l r s (itemAt x q) e a b .1
 
   pub entry-action : 4 ≤ k → k ≤ 5 → r < size (x .actions)
-  entry-action a b = modal x k l r s (itemAt x q) (e .shown) a b .0
+  entry-action a b = modal x k l r s (itemAt x q) e a b .0
 
   -- kinds 6, 7 and 8
   pub entry-one : 6 ≤ k → targets x (s, q) ≡ (s, l) ∷ []
   unfolding targets
-  entry-one a = one x k l r s (itemAt x q) (e .shown) a
+  entry-one a = one x k l r s (itemAt x q) e a
 
   module _ (good : GoodInput x) (h : q < length (items x)) where
     pub entry-left : 2 ≤ k → l < length (items x)
@@ -184,11 +187,11 @@ module _ (x : Input) (q k l r p s : ℕ) (e : Entry x q k l r p) where
         item-cases x good (λ i. ItemShown x i k l r → l < length (items x)) q h
         (λ u d. omega (arith, d .1, item-below x (bodyTree x (equationOf (x .formula) q)) (body-carried x good q u)))
         (λ t c n d. left-of x k l r s t (carried-parts x good t c) d a)
-        (e .shown)
+        e
 
     pub entry-right : 2 ≤ k → k ≤ 3 → r < length (items x)
     entry-right a b =
         item-cases x good (λ i. ItemShown x i k l r → r < length (items x)) q h
         (λ u d. absurd (omega (arith, d .0, operator-kind (equationOf (x .formula) q .operator))))
         (λ t c n d. right-of x k l r s t (carried-parts x good t c) d a b)
-        (e .shown)
+        e

@@ -1,5 +1,5 @@
--- The table of items: for each item number three words that show the item, and its priority. A step reads nothing else of the formula. Assumes nothing: these are
--- definitions.
+-- The table of items: for each item number three words that show the item; and the table of their priorities. A run
+-- reads nothing else of the formula, a step only the first. Assumes nothing: these are definitions.
 use mathlib.Core.Path.{_≡_}
 use mathlib.Core.Logic.{_⊎_}
 use mathlib.Core.List.{List, [], _∷_}
@@ -12,7 +12,7 @@ use Rattle.rules.specs.Words.{Input}
 use Rattle.rules.specs.Table.{size}
 use Rattle.rules.specs.Actions.{Action, actionTree}
 use Rattle.rules.specs.Formula.{Operator, least, greatest, formulaTree, bodyTree, firstBodyNode}
-use Rattle.rules.specs.Depth.{byDepth}
+use Rattle.rules.specs.Depth.{Ranking}
 use Rattle.rules.specs.Items.{Item, equation, subformula, items, itemNumber}
 use Rattle.rules.specs.Pairs.{itemAt, priority}
 use Rattle.alike_nodes.specs.Nodes.{FormulaShown}
@@ -32,18 +32,25 @@ abbrev pub ItemShown : Input → Item → (kind left right : ℕ) → Type 0
 ItemShown x (equation e) k l r = (k ≡ operatorKind (e .operator)) × (l ≡ itemNumber x (bodyTree x e)) × (r ≡ 0)
 ItemShown x (subformula f) k l r = FormulaShown (λ g n. n ≡ itemNumber x g) (ActionAt x) f k l r
 
--- what the table has for item q. A pair's priority is that of its item, whatever its state
-pub record Entry (x : Input) (q kind left right rank : ℕ) : Type 0 where
-  pub shown : ItemShown x (itemAt x q) kind left right
-  pub ranked : rank ≡ priority byDepth x (0, q)
+-- these words show item q
+abbrev pub Entry : Input → (q kind left right : ℕ) → Type 0
+Entry x q k l r = ItemShown x (itemAt x q) k l r
+
+-- the words that the table has for item q show it
+abbrev pub ShownAt : Input → (kinds lefts rights : List ℕ) (q : ℕ) → Type 0
+ShownAt x kinds lefts rights q = Entry x q (word kinds q) (word lefts q) (word rights q)
 
 -- the table of all items
-pub record ItemTable (x : Input) (kinds lefts rights priorities : List ℕ) : Type 0 where
+pub record ItemTable (x : Input) (kinds lefts rights : List ℕ) : Type 0 where
   pub kinds-room : length (items x) ≤ length kinds
   pub lefts-room : length (items x) ≤ length lefts
   pub rights-room : length (items x) ≤ length rights
-  pub priorities-room : length (items x) ≤ length priorities
-  pub entry : (q : ℕ) → q < length (items x) → Entry x q (word kinds q) (word lefts q) (word rights q) (word priorities q)
+  pub entry : (q : ℕ) → q < length (items x) → ShownAt x kinds lefts rights q
+
+-- the table of the items' priorities by a ranking. A pair's priority is that of its item, whatever its state
+pub record Ranks (rank : Ranking) (x : Input) (priorities : List ℕ) : Type 0 where
+  pub room : length (items x) ≤ length priorities
+  pub ranked : (q : ℕ) → word priorities q ≡ priority rank x (0, q)
 
 -- the owner of an item, by its kind
 unfoldable pub kindOwner : ℕ → Player
@@ -61,10 +68,6 @@ abbrev pub NodeNumbered : (before after : List ℕ) (node class next result : �
 NodeNumbered before after node class next result =
     ((word before class ≡ 0) × (after ≡ set (set before class next) node next) × (result ≡ next + 1))
     ⊎ ((¬ (word before class ≡ 0)) × (after ≡ set before node (word before class)) × (result ≡ next))
-
--- the words of item q show it
-abbrev pub ShownAt : Input → (kinds lefts rights : List ℕ) (q : ℕ) → Type 0
-ShownAt x kinds lefts rights q = ItemShown x (itemAt x q) (word kinds q) (word lefts q) (word rights q)
 
 -- the words of the first n items show them
 pub record FirstShown (x : Input) (n : ℕ) (kinds lefts rights : List ℕ) : Type 0 where

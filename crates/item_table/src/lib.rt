@@ -17,12 +17,13 @@ ghost use Rattle.rules.specs.Words.{inputOf};
 ghost use Rattle.rules.specs.Table.{size};
 ghost use Rattle.rules.specs.Actions.{actionTree};
 ghost use Rattle.rules.specs.Formula.{equationCount, formulaTree, firstBodyNode};
+ghost use Rattle.rules.specs.Depth.{byDepth};
 ghost use Rattle.rules.specs.Items.{items};
-ghost use Rattle.rules.specs.Good.{GoodInput};
+ghost use Rattle.tables.specs.Good.{GoodInput};
 ghost use Rattle.labels.specs.Classes.{Classes};
-ghost use Rattle.modal_equation_system.specs.System.{Good, Listed, Ranked};
+ghost use Rattle.modal_equation_system.specs.System.{Good, Listed, RankedBy};
 ghost use Rattle.alike_nodes.specs.Nodes.{Numbered, EquationNumbers};
-ghost use Rattle.item_table.specs.Entries.{ItemTable, ItemNumbers, NodeNumbered, FirstShown};
+ghost use Rattle.item_table.specs.Entries.{ItemTable, Ranks, ItemNumbers, NodeNumbered, FirstShown};
 
 // The first node that stands in a body: node 1 if node 0 is a fixpoint.
 fn first_body_node(formula: &[u32]) -> usize
@@ -255,18 +256,19 @@ fn put_items(
     );
 }
 
-// Puts the priorities into the table: those of the equations, 0 elsewhere.
+// Puts the priorities into the table: those of the equations, by depth, 0 elsewhere.
 fn put_priorities(formula: &[u32], table: &[u32; 4098], count: usize, priorities: &mut [u32])
     requires { ⌜ Listed (now formula) (now table) ⌝ }
     requires { ⌜ (count ≡ equationCount (now formula)) × (2048 ≤ length (now priorities)) ⌝ }
-    ensures { λ _. ⌜ Ranked (now (formula .entry)) count (zeros (now (priorities .entry))) (now (priorities .exit)) ⌝ }
+    ensures { λ _. ⌜ RankedBy byDepth (now (formula .entry)) count
+        (zeros (now (priorities .entry))) (now (priorities .exit)) ⌝ }
 {
     clear(priorities);
     list_priorities(formula, table, count, priorities);
 }
 
-// Compiles the formula: fills the table of items, and for each body node the number of its item. `classes` has the labels' multisets. Returns how many items
-// there are.
+// Compiles the formula: fills the table of items, the table of their priorities (by depth), and for each body node
+// the number of its item. `classes` has the labels' multisets. Returns how many items there are.
 pub fn compile(
     labels: &[u32],
     system: &[u32],
@@ -284,7 +286,12 @@ pub fn compile(
     requires { ⌜ (2048 ≤ length (now kinds)) × (2048 ≤ length (now lefts)) × (2048 ≤ length (now rights)) × (2048 ≤ length (now priorities)) ⌝ }
     requires { ⌜ 1024 ≤ length (now numbers) ⌝ }
     ensures { λ r. ⌜ r ≡ length (items (inputOf (now (labels .entry)) (now (system .entry)) (now (actions .entry)) (now (formula .entry)))) ⌝ }
-    ensures { λ _. ⌜ ItemTable (inputOf (now (labels .entry)) (now (system .entry)) (now (actions .entry)) (now (formula .entry))) (now (kinds .exit)) (now (lefts .exit)) (now (rights .exit)) (now (priorities .exit)) ⌝ }
+    ensures { λ _. ⌜ ItemTable
+        (inputOf (now (labels .entry)) (now (system .entry)) (now (actions .entry)) (now (formula .entry)))
+        (now (kinds .exit)) (now (lefts .exit)) (now (rights .exit)) ⌝ }
+    ensures { λ _. ⌜ Ranks byDepth
+        (inputOf (now (labels .entry)) (now (system .entry)) (now (actions .entry)) (now (formula .entry)))
+        (now (priorities .exit)) ⌝ }
     ensures { λ _. ⌜ ItemNumbers (inputOf (now (labels .entry)) (now (system .entry)) (now (actions .entry)) (now (formula .entry))) (now (numbers .exit)) ⌝ }
 {
     let mut table = [0u32; 4098];

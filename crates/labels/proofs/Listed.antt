@@ -47,18 +47,18 @@ module _ (g : ℕ → ℕ) where
     abbrev Alike : ℕ → Type 0
     Alike z = tally (λ i. eqb (g i) z) p n ≡ tally (λ i. eqb (g i) z) q k
 
-    pub places-sums : ((z : ℕ) → Alike z) → (w : ℕ → ℕ) → sumOver (λ i. w (g i)) p n ≡ sumOver (λ i. w (g i)) q k
-    places-sums h w =
+    pub positions-sums : ((z : ℕ) → Alike z) → (w : ℕ → ℕ) → sumOver (λ i. w (g i)) p n ≡ sumOver (λ i. w (g i)) q k
+    positions-sums h w =
         values-sum w p n
         ∙ alike-sums w (values g p n) (values g q k) (λ z. sym (values-count z p n) ∙ h z ∙ values-count z q k)
         ∙ sym (values-sum w q k)
 
-    pub places-number : ((z : ℕ) → Alike z) → n ≡ k
-    places-number h = sym (ones p n) ∙ places-sums h (λ z. 1) ∙ ones q k
+    pub positions-number : ((z : ℕ) → Alike z) → n ≡ k
+    positions-number h = sym (ones p n) ∙ positions-sums h (λ z. 1) ∙ ones q k
 
     -- it is enough to look at the values of the one, where there are as many of the other
-    pub places-all : n ≡ k → ((i : ℕ) → p ≤ i → i < p + n → Alike (g i)) → (z : ℕ) → Alike z
-    places-all e h z =
+    pub positions-all : n ≡ k → ((i : ℕ) → p ≤ i → i < p + n → Alike (g i)) → (z : ℕ) → Alike z
+    positions-all e h z =
         values-count z p n
         ∙ alike-all (values g p n) (values g q k) (values-length p n ∙ e ∙ sym (values-length q k)) there z
         ∙ sym (values-count z q k)

@@ -16,7 +16,7 @@ use Rattle.lists.proofs.Products.{wide, scaled-fits}
 use Rattle.labels.specs.Stretches.{timesIn}
 use Rattle.labels.specs.Marks.{stirred, weight, sumOver, weightIn, MarkOf, Marked}
 use Rattle.labels.proofs.Counts.{tally-next, tally-none}
-use Rattle.labels.proofs.Listed.{places-sums}
+use Rattle.labels.proofs.Listed.{positions-sums}
 use Rattle.labels.proofs.Stretched.{same-in}
 
 -- ---- the sum of the weights, as the code makes it
@@ -55,7 +55,7 @@ module _ (ls : List ℕ) (l s x m t y : ℕ) (one-mark : MarkOf ls l s x) (other
       let a = one-mark .end in
       let b = other-mark .end in
       one-mark .sum
-      ∙ ap (λ (n : ℕ). n % 4294967296) (places-sums (actionAt ls) s (a - s) t (b - t) (same-in ls l s a m t b (one-mark .stretch) (other-mark .stretch) h) weight)
+      ∙ ap (λ (n : ℕ). n % 4294967296) (positions-sums (actionAt ls) s (a - s) t (b - t) (same-in ls l s a m t b (one-mark .stretch) (other-mark .stretch) h) weight)
       ∙ sym (other-mark .sum)
 
   pub other-multiset : (¬ (x ≡ y)) → sameLabel ls l m ≡ false

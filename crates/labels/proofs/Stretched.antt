@@ -12,7 +12,7 @@ use Rattle.labels.specs.Stretches.{timesIn, covered, Starts, Stretch}
 use Rattle.lists.proofs.Tallies.{tally-cong}
 use Rattle.labels.proofs.Counts.{flags, tally-start, tally-more, tally-middle, every-start, every-more, every-not, every-at, every-all}
 use Rattle.labels.proofs.Alike.{same-times, times-same}
-use Rattle.labels.proofs.Listed.{places-number, places-all}
+use Rattle.labels.proofs.Listed.{positions-number, positions-all}
 
 -- label 0 starts at place 0
 pub starts-first : (ls : List ℕ) → Starts ls 0 0
@@ -75,7 +75,7 @@ module _ (ls : List ℕ) where
     pub sizes-differ : (¬ (e - a ≡ f - b)) → false ≡ sameLabel ls l m
     unfolding timesIn
     sizes-differ d =
-        flags false (sameLabel ls l m) (λ z. absurd (false≢true z)) (λ h. absurd (d (places-number (actionAt ls) a (e - a) b (f - b) (same-in h))))
+        flags false (sameLabel ls l m) (λ z. absurd (false≢true z)) (λ h. absurd (d (positions-number (actionAt ls) a (e - a) b (f - b) (same-in h))))
 
     -- stretches of one length: the actions of the one tell
     covered-same : e - a ≡ f - b → covered ls a e a e b f ≡ sameLabel ls l m
@@ -83,7 +83,7 @@ module _ (ls : List ℕ) where
     covered-same k =
         flags (covered ls a e a e b f) (sameLabel ls l m)
         (λ h. times-same ls l m
-        (λ x. times-stretch l a e x sl ∙ places-all (actionAt ls) a (e - a) b (f - b) k (λ z lo hi. at h z lo hi) x ∙ sym (times-stretch m b f x sm)))
+        (λ x. times-stretch l a e x sl ∙ positions-all (actionAt ls) a (e - a) b (f - b) k (λ z lo hi. at h z lo hi) x ∙ sym (times-stretch m b f x sm)))
         (λ h. every-all _ a (e - a) (λ z lo hi. eq-eqb _ _ (same-in h (actionAt ls z))))
       where
         at : covered ls a e a e b f ≡ true → (z : ℕ) → a ≤ z → z < a + (e - a) → timesIn ls a e (actionAt ls z) ≡ timesIn ls b f (actionAt ls z)

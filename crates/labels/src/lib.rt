@@ -6,7 +6,7 @@ ghost use lib.Dec.{eqb};
 ghost use lib.ListN.{length};
 ghost use Rattle.rules.specs.Lists.{word, tally};
 ghost use Rattle.rules.specs.Labels.{labelCount, actionCount, labelAt, actionAt, sameLabel, multiset};
-ghost use Rattle.rules.specs.Good.{GoodLabels};
+ghost use Rattle.tables.specs.Good.{GoodLabels};
 ghost use Rattle.labels.specs.Classes.{Classes};
 ghost use Rattle.labels.specs.Stretches.{timesIn, covered, Starts, Stretch};
 ghost use Rattle.labels.specs.Marks.{weight, weightIn, MarkOf, Marked};

@@ -1,10 +1,19 @@
-// Runs at the limits of document 01 (case 11, and the limits of action formulas and labels): prints what each answers.
+// Runs at the limits of document 01 (case 11, and those of action formulas, labels and room): prints what each answers.
+use libc::STDOUT_FILENO;
+use rules::Answer;
 ghost use mathlib.Core.Path.{_≡_};
 ghost use Prim.Native.Nat.{_+_, _*_, _≤_, _<_};
 ghost use lib.ListN.{length};
 
-// The run with room for 6 vertices and 8 edges.
-fn attempt(labels: &[u32], system: &[u32], actions: &[u32], formula: &[u32]) {
+// The run with this room, lent the slices of room for 6 vertices and 8 edges.
+fn run_in(
+    labels: &[u32],
+    system: &[u32],
+    actions: &[u32],
+    formula: &[u32],
+    vertices: u32,
+    edges: u32,
+) {
     let mut game = [0u32; 30];
     let mut work = [0u32; 64];
     let a = translate::translate(
@@ -12,13 +21,17 @@ fn attempt(labels: &[u32], system: &[u32], actions: &[u32], formula: &[u32]) {
         system,
         actions,
         formula,
-        6,
-        8,
+        vertices,
+        edges,
         100,
         &mut game,
         &mut work,
     );
     stored_runs::answer_line(a);
+}
+
+fn attempt(labels: &[u32], system: &[u32], actions: &[u32], formula: &[u32]) {
+    run_in(labels, system, actions, formula, 6, 8);
 }
 
 fn blank() -> [u32; 65539]
@@ -103,6 +116,28 @@ fn transitions(count: usize)
     attempt(&[1, 1, 0, 7], &system[..end], &[1, 2, 0], &[2, 5, 0, 0, 0]);
 }
 
+// Room in range is refused here for the slices' lengths, by 2; room out of range by 1.
+fn room(vertices: u32, edges: u32) {
+    run_in(
+        &[1, 1, 0, 7],
+        &[1, 0, 0, 0],
+        &[1, 2, 0],
+        &[1, 0, 0],
+        vertices,
+        edges,
+    );
+}
+
+// 51: so many vertices and edges of a game that is handed over. (The game itself would have 12 MB or more, which
+// the stack does not hold.)
+fn sizes(vertices: usize, edges: usize) {
+    if parity_game::above_room(vertices, edges) {
+        stored_runs::answer_line(Answer::Refused(51, 0));
+    } else {
+        io::write_all(STDOUT_FILENO, b"passed\n");
+    }
+}
+
 fn main() {
     states(65535);
     states(0);
@@ -119,4 +154,12 @@ fn main() {
     actions(16385);
     transitions(262144);
     transitions(262145);
+    room(1048576, 4194304);
+    room(1048577, 1);
+    room(1, 4194305);
+    room(0, 1);
+    room(1, 0);
+    sizes(1048576, 4194304);
+    sizes(1048577, 0);
+    sizes(1, 4194305);
 }

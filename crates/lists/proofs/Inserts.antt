@@ -7,9 +7,9 @@ use Prim.Native.Nat.{suc, _+_, _≤_}
 use native.Mathlib.Omega.{arith}
 use lib.ListN.{length, take, drop, length-append, length-map}
 use lib.Seq.{drop-append-seam, drop-length}
-use Rattle.rules.specs.Lists.{In, Distinct, has, place, insert, insertAll, once}
-use Rattle.lists.specs.Shapes.{Equality, Begins, added, places}
-use Rattle.lists.proofs.Members.{in-either, in-last, in-map, map-in, map-append, distinct-snoc, has-in, no-in, place-begins}
+use Rattle.rules.specs.Lists.{In, Distinct, has, position, insert, insertAll, once}
+use Rattle.lists.specs.Shapes.{Equality, Begins, added, positions}
+use Rattle.lists.proofs.Members.{in-either, in-last, in-map, map-in, map-append, distinct-snoc, has-in, no-in, position-begins}
 use Rattle.lists.proofs.Shapes.{begins-refl, begins-trans, begins-in}
 
 module _ {A : Type 0} (same : A → A → Bool) where
@@ -143,21 +143,21 @@ module _ {A : Type 0} {same : A → A → Bool} (eq : Equality same) where
   unfolding added insertAll
   added-new xs y n = ap (drop (length xs)) (insert-new xs y n) ∙ drop-append-seam xs (y ∷ [])
 
-  -- ---- the places of several elements
+  -- ---- the positions of several elements
 
-  pub places-append : (xs ts us : List A) → places same xs (ts ++ us) ≡ places same xs ts ++ places same xs us
-  unfolding places
-  places-append xs ts us = map-append (λ t. place same t xs) ts us
+  pub positions-append : (xs ts us : List A) → positions same xs (ts ++ us) ≡ positions same xs ts ++ positions same xs us
+  unfolding positions
+  positions-append xs ts us = map-append (λ t. position same t xs) ts us
 
-  pub places-length : (xs ts : List A) → length (places same xs ts) ≡ length ts
-  unfolding places
-  places-length xs ts = length-map ts (λ t. place same t xs)
+  pub positions-length : (xs ts : List A) → length (positions same xs ts) ≡ length ts
+  unfolding positions
+  positions-length xs ts = length-map ts (λ t. position same t xs)
 
-  -- members keep their places where the list only grows at its end
-  pub places-begins : (ts xs ys : List A) → ((t : A) → In t ts → In t xs) → Begins xs ys → places same ys ts ≡ places same xs ts
-  unfolding places
-  places-begins [] xs ys h b = refl
-  places-begins (t ∷ ts) xs ys h b = ap₂ _∷_ (place-begins eq t xs ys (h t (inl refl)) b) (places-begins ts xs ys (λ u m. h u (inr m)) b)
+  -- members keep their positions where the list only grows at its end
+  pub positions-begins : (ts xs ys : List A) → ((t : A) → In t ts → In t xs) → Begins xs ys → positions same ys ts ≡ positions same xs ts
+  unfolding positions
+  positions-begins [] xs ys h b = refl
+  positions-begins (t ∷ ts) xs ys h b = ap₂ _∷_ (position-begins eq t xs ys (h t (inl refl)) b) (positions-begins ts xs ys (λ u m. h u (inr m)) b)
 
 -- ---- under a map: where different elements have different images, inserting does not look at the elements
 

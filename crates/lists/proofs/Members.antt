@@ -1,4 +1,4 @@
--- Membership, places, and lists in which no two elements are alike. Assumes nothing; where a test of two elements is used, that it is equality is a parameter.
+-- Membership, positions, and lists in which no two elements are alike. Assumes nothing; where a test of two elements is used, that it is equality is a parameter.
 use mathlib.Core.Path.{_≡_, refl, sym, ap, _∙_, subst}
 use mathlib.Core.Bool.{Bool, true, false, cond, false≢true, true≢false}
 use mathlib.Core.List.{List, [], _∷_, _++_, map}
@@ -7,7 +7,7 @@ use Prim.Native.Nat.{ℕ, zero, suc, _≤_, _<_}
 use native.Mathlib.Nat.{not-suc-le-zero, le-of-suc-le-suc}
 use native.Mathlib.Omega.{arith}
 use lib.ListN.{length, getD}
-use Rattle.rules.specs.Lists.{In, Distinct, has, place}
+use Rattle.rules.specs.Lists.{In, Distinct, has, position}
 use Rattle.lists.specs.Shapes.{Equality, Begins}
 use Rattle.lists.proofs.Tests.{or-right, or-true}
 
@@ -36,7 +36,7 @@ module _ {A : Type 0} where
   in-at (x ∷ xs) zero d h = inl refl
   in-at (x ∷ xs) (suc v) d h = inr (in-at xs v d (le-of-suc-le-suc h))
 
-  -- a place within the list does not need the default
+  -- a position within the list does not need the default
   pub at-any : (xs : List A) (v : ℕ) (d e : A) → v < length xs → getD xs v d ≡ getD xs v e
   at-any [] v d e h = absurd (not-suc-le-zero h)
   at-any (x ∷ xs) zero d e h = refl
@@ -50,7 +50,7 @@ module _ {A B : Type 0} (f : A → B) where
   map-at (x ∷ xs) zero d e h = refl
   map-at (x ∷ xs) (suc v) d e h = map-at xs v d e (le-of-suc-le-suc h)
 
-  -- and where the defaults agree, any place
+  -- and where the defaults agree, any position
   pub map-default : (xs : List A) (v : ℕ) (d : A) → getD (map f xs) v (f d) ≡ f (getD xs v d)
   map-default [] v d = refl
   map-default (x ∷ xs) zero d = refl
@@ -85,13 +85,13 @@ module _ {A : Type 0} where
   distinct-append (x ∷ xs) ys d e n =
       (λ m. ⊎-elim (d .0) (n x (inl refl)) (in-either x xs ys m), distinct-append xs ys (d .1) e (λ y m. n y (inr m)))
 
-  pub distinct-places : (xs : List A) (d : A) → Distinct xs → (v w : ℕ) → v < length xs → w < length xs → getD xs v d ≡ getD xs w d → v ≡ w
-  distinct-places [] o d v w hv hw e = absurd (not-suc-le-zero hv)
-  distinct-places (x ∷ xs) o d zero zero hv hw e = refl
-  distinct-places (x ∷ xs) o d zero (suc w) hv hw e = absurd (d .0 (subst (λ (y : A). In y xs) (sym e) (in-at xs w o (le-of-suc-le-suc hw))))
-  distinct-places (x ∷ xs) o d (suc v) zero hv hw e = absurd (d .0 (subst (λ (y : A). In y xs) e (in-at xs v o (le-of-suc-le-suc hv))))
-  distinct-places (x ∷ xs) o d (suc v) (suc w) hv hw e =
-      ap suc (distinct-places xs o (d .1) v w (le-of-suc-le-suc hv) (le-of-suc-le-suc hw) e)
+  pub distinct-positions : (xs : List A) (d : A) → Distinct xs → (v w : ℕ) → v < length xs → w < length xs → getD xs v d ≡ getD xs w d → v ≡ w
+  distinct-positions [] o d v w hv hw e = absurd (not-suc-le-zero hv)
+  distinct-positions (x ∷ xs) o d zero zero hv hw e = refl
+  distinct-positions (x ∷ xs) o d zero (suc w) hv hw e = absurd (d .0 (subst (λ (y : A). In y xs) (sym e) (in-at xs w o (le-of-suc-le-suc hw))))
+  distinct-positions (x ∷ xs) o d (suc v) zero hv hw e = absurd (d .0 (subst (λ (y : A). In y xs) e (in-at xs v o (le-of-suc-le-suc hv))))
+  distinct-positions (x ∷ xs) o d (suc v) (suc w) hv hw e =
+      ap suc (distinct-positions xs o (d .1) v w (le-of-suc-le-suc hv) (le-of-suc-le-suc hw) e)
 
   -- the list without the one occurrence of x that the proof points at
   unfoldable pub without : (x : A) (xs : List A) → In x xs → List A
@@ -160,86 +160,86 @@ module _ {A : Type 0} {same : A → A → Bool} (eq : Equality same) where
       go true e = inl (has-in x xs e)
       go false e = inr (no-in x xs e)
 
-  -- ---- places
+  -- ---- positions
 
-  place-cases : (x y : A) (ys : List A) (P : ℕ → Type 0) → (x ≡ y → P 0) → ((¬ (x ≡ y)) → P (suc (place same x ys))) → P (place same x (y ∷ ys))
-  unfolding place
-  place-cases x y ys P found later = go (same x y) refl
+  position-cases : (x y : A) (ys : List A) (P : ℕ → Type 0) → (x ≡ y → P 0) → ((¬ (x ≡ y)) → P (suc (position same x ys))) → P (position same x (y ∷ ys))
+  unfolding position
+  position-cases x y ys P found later = go (same x y) refl
     where
-      go : (b : Bool) → same x y ≡ b → P (cond b 0 (suc (place same x ys)))
+      go : (b : Bool) → same x y ≡ b → P (cond b 0 (suc (position same x ys)))
       go true e = found (eq .sound x y e)
       go false e = later (same-not x y e)
 
-  pub place-below : (x : A) (xs : List A) → In x xs → place same x xs < length xs
-  place-below x [] m = absurd m
-  place-below x (y ∷ xs) (inl e) = place-cases x y xs (λ n. n < suc (length xs)) (λ p. omega arith) (λ n. absurd (n e))
-  place-below x (y ∷ xs) (inr m) =
-      let ih = place-below x xs m in
-      place-cases x y xs (λ n. n < suc (length xs)) (λ p. omega arith) (λ n. omega arith)
+  pub position-below : (x : A) (xs : List A) → In x xs → position same x xs < length xs
+  position-below x [] m = absurd m
+  position-below x (y ∷ xs) (inl e) = position-cases x y xs (λ n. n < suc (length xs)) (λ p. omega arith) (λ n. absurd (n e))
+  position-below x (y ∷ xs) (inr m) =
+      let ih = position-below x xs m in
+      position-cases x y xs (λ n. n < suc (length xs)) (λ p. omega arith) (λ n. omega arith)
 
-  pub place-most : (x : A) (xs : List A) → place same x xs ≤ length xs
-  unfolding place
-  place-most x [] = omega arith
-  place-most x (y ∷ xs) =
-      let ih = place-most x xs in
-      place-cases x y xs (λ n. n ≤ suc (length xs)) (λ p. omega arith) (λ n. omega arith)
+  pub position-most : (x : A) (xs : List A) → position same x xs ≤ length xs
+  unfolding position
+  position-most x [] = omega arith
+  position-most x (y ∷ xs) =
+      let ih = position-most x xs in
+      position-cases x y xs (λ n. n ≤ suc (length xs)) (λ p. omega arith) (λ n. omega arith)
 
-  pub place-at : (x : A) (xs : List A) (d : A) → In x xs → getD xs (place same x xs) d ≡ x
-  place-at x [] d m = absurd m
-  place-at x (y ∷ xs) d (inl e) = place-cases x y xs (λ n. getD (y ∷ xs) n d ≡ x) (λ p. sym p) (λ n. absurd (n e))
-  place-at x (y ∷ xs) d (inr m) =
-      let ih = place-at x xs d m in
-      place-cases x y xs (λ n. getD (y ∷ xs) n d ≡ x) (λ p. sym p) (λ n. ih)
+  pub position-at : (x : A) (xs : List A) (d : A) → In x xs → getD xs (position same x xs) d ≡ x
+  position-at x [] d m = absurd m
+  position-at x (y ∷ xs) d (inl e) = position-cases x y xs (λ n. getD (y ∷ xs) n d ≡ x) (λ p. sym p) (λ n. absurd (n e))
+  position-at x (y ∷ xs) d (inr m) =
+      let ih = position-at x xs d m in
+      position-cases x y xs (λ n. getD (y ∷ xs) n d ≡ x) (λ p. sym p) (λ n. ih)
 
-  -- what is not there has the length for its place
-  pub place-none : (x : A) (xs : List A) → (¬ In x xs) → place same x xs ≡ length xs
-  unfolding place
-  place-none x [] n = refl
-  place-none x (y ∷ xs) n =
-      let ih = place-none x xs (λ m. n (inr m)) in
-      place-cases x y xs (λ i. i ≡ suc (length xs)) (λ p. absurd (n (inl p))) (λ q. ap suc ih)
+  -- what is not there has the length for its position
+  pub position-none : (x : A) (xs : List A) → (¬ In x xs) → position same x xs ≡ length xs
+  unfolding position
+  position-none x [] n = refl
+  position-none x (y ∷ xs) n =
+      let ih = position-none x xs (λ m. n (inr m)) in
+      position-cases x y xs (λ i. i ≡ suc (length xs)) (λ p. absurd (n (inl p))) (λ q. ap suc ih)
 
-  -- the place of the element at v is v, if no two are alike
-  pub place-of : (xs : List A) (v : ℕ) (d : A) → Distinct xs → v < length xs → place same (getD xs v d) xs ≡ v
-  place-of xs v d k h =
+  -- the position of the element at v is v, if no two are alike
+  pub position-of : (xs : List A) (v : ℕ) (d : A) → Distinct xs → v < length xs → position same (getD xs v d) xs ≡ v
+  position-of xs v d k h =
       let m = in-at xs v d h in
-      distinct-places xs d k (place same (getD xs v d) xs) v (place-below (getD xs v d) xs m) h (place-at (getD xs v d) xs d m)
+      distinct-positions xs d k (position same (getD xs v d) xs) v (position-below (getD xs v d) xs m) h (position-at (getD xs v d) xs d m)
 
-  pub place-append : (x : A) (xs r : List A) → In x xs → place same x (xs ++ r) ≡ place same x xs
-  place-append x [] r m = absurd m
-  place-append x (y ∷ xs) r m = go (same x y) refl m (place-append x xs r)
+  pub position-append : (x : A) (xs r : List A) → In x xs → position same x (xs ++ r) ≡ position same x xs
+  position-append x [] r m = absurd m
+  position-append x (y ∷ xs) r m = go (same x y) refl m (position-append x xs r)
     where
-      unfolded : place same x (y ∷ (xs ++ r)) ≡ cond (same x y) 0 (suc (place same x (xs ++ r)))
-      unfolded = unfold place in refl
+      unfolded : position same x (y ∷ (xs ++ r)) ≡ cond (same x y) 0 (suc (position same x (xs ++ r)))
+      unfolded = unfold position in refl
 
-      folded : place same x (y ∷ xs) ≡ cond (same x y) 0 (suc (place same x xs))
-      folded = unfold place in refl
+      folded : position same x (y ∷ xs) ≡ cond (same x y) 0 (suc (position same x xs))
+      folded = unfold position in refl
 
-      go : (b : Bool) → same x y ≡ b → In x (y ∷ xs) → (In x xs → place same x (xs ++ r) ≡ place same x xs) → place same x (y ∷ (xs ++ r)) ≡ place same x (y ∷ xs)
+      go : (b : Bool) → same x y ≡ b → In x (y ∷ xs) → (In x xs → position same x (xs ++ r) ≡ position same x xs) → position same x (y ∷ (xs ++ r)) ≡ position same x (y ∷ xs)
       go true e m ih = unfolded ∙ rw e refl ∙ sym folded
       go false e (inl p) ih = absurd (same-not x y e p)
       go false e (inr m) ih = unfolded ∙ ap (λ n. cond (same x y) 0 (suc n)) (ih m) ∙ sym folded
 
-  -- a member keeps its place where the list only grows at its end
-  pub place-begins : (x : A) (xs ys : List A) → In x xs → Begins xs ys → place same x ys ≡ place same x xs
-  place-begins x xs ys m (r, e) = ap (place same x) e ∙ place-append x xs r m
+  -- a member keeps its position where the list only grows at its end
+  pub position-begins : (x : A) (xs ys : List A) → In x xs → Begins xs ys → position same x ys ≡ position same x xs
+  position-begins x xs ys m (r, e) = ap (position same x) e ∙ position-append x xs r m
 
-  -- a new element's place is how many stood before it
-  pub place-out : (x : A) (xs ys : List A) → (¬ In x xs) → place same x (xs ++ (x ∷ ys)) ≡ length xs
-  place-out x [] ys n = place-cases x x ys (λ i. i ≡ 0) (λ p. refl) (λ q. absurd (q refl))
-  place-out x (y ∷ xs) ys n =
-      let ih = place-out x xs ys (λ m. n (inr m)) in
-      place-cases x y (xs ++ (x ∷ ys)) (λ i. i ≡ suc (length xs)) (λ p. absurd (n (inl p))) (λ q. ap suc ih)
+  -- a new element's position is how many stood before it
+  pub position-out : (x : A) (xs ys : List A) → (¬ In x xs) → position same x (xs ++ (x ∷ ys)) ≡ length xs
+  position-out x [] ys n = position-cases x x ys (λ i. i ≡ 0) (λ p. refl) (λ q. absurd (q refl))
+  position-out x (y ∷ xs) ys n =
+      let ih = position-out x xs ys (λ m. n (inr m)) in
+      position-cases x y (xs ++ (x ∷ ys)) (λ i. i ≡ suc (length xs)) (λ p. absurd (n (inl p))) (λ q. ap suc ih)
 
--- ---- places under a map
+-- ---- positions under a map
 
 module _ {A B : Type 0} {same : A → A → Bool} {same′ : B → B → Bool} (eq : Equality same) (eq′ : Equality same′) (f : A → B) where
-  -- where no other element has the same image, the place is the same
-  pub place-map : (xs : List A) (t : A) → ((x : A) → In x xs → f t ≡ f x → t ≡ x) → place same′ (f t) (map f xs) ≡ place same t xs
-  unfolding place
-  place-map [] t alike = refl
-  place-map (x ∷ xs) t alike =
-      let ih = place-map xs t (λ y m. alike y (inr m)) in
-      place-cases eq t x xs (λ n. place same′ (f t) (f x ∷ map f xs) ≡ n)
-      (λ e. place-cases eq′ (f t) (f x) (map f xs) (λ n. n ≡ 0) (λ p. refl) (λ q. absurd (q (ap f e))))
-      (λ n. place-cases eq′ (f t) (f x) (map f xs) (λ i. i ≡ suc (place same t xs)) (λ p. absurd (n (alike x (inl refl) p))) (λ q. ap suc ih))
+  -- where no other element has the same image, the position is the same
+  pub position-map : (xs : List A) (t : A) → ((x : A) → In x xs → f t ≡ f x → t ≡ x) → position same′ (f t) (map f xs) ≡ position same t xs
+  unfolding position
+  position-map [] t alike = refl
+  position-map (x ∷ xs) t alike =
+      let ih = position-map xs t (λ y m. alike y (inr m)) in
+      position-cases eq t x xs (λ n. position same′ (f t) (f x ∷ map f xs) ≡ n)
+      (λ e. position-cases eq′ (f t) (f x) (map f xs) (λ n. n ≡ 0) (λ p. refl) (λ q. absurd (q (ap f e))))
+      (λ n. position-cases eq′ (f t) (f x) (map f xs) (λ i. i ≡ suc (position same t xs)) (λ p. absurd (n (alike x (inl refl) p))) (λ q. ap suc ih))

@@ -1,4 +1,4 @@
--- The first place at which a test holds. Assumes nothing.
+-- The first position at which a test holds. Assumes nothing.
 use mathlib.Core.Path.{_≡_, refl, sym, ap, _∙_}
 use mathlib.Core.Bool.{Bool, true, false, cond, true≢false}
 use Prim.Native.Nat.{ℕ, zero, suc, _+_, _≤_, _<_}
@@ -35,7 +35,7 @@ unfolding seek
 seek-holds f p zero = λ h. absurd (omega arith)
 seek-holds f p (suc n) = seek-cases f p n (λ r. r < p + suc n → f r ≡ true) (λ e h. e) (λ e h. seek-holds f (suc p) n (omega arith))
 
--- and at no place before
+-- and at no position before
 pub seek-before : (f : ℕ → Bool) (p n j : ℕ) → p ≤ j → j < seek f p n → f j ≡ false
 unfolding seek
 seek-before f p zero j a = λ b. absurd (omega arith)

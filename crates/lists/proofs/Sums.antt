@@ -1,4 +1,4 @@
--- Sums of the words from a place on. Assumes nothing.
+-- Sums of the words from a position on. Assumes nothing.
 use mathlib.Core.Path.{_≡_, refl}
 use mathlib.Core.List.{List}
 use Prim.Native.Nat.{ℕ, zero, suc, _+_, _≤_}

@@ -1,4 +1,4 @@
--- How often a test holds in a range: never, always, and once more when it comes to hold at one place. Assumes nothing.
+-- How often a test holds in a range: never, always, and once more when it comes to hold at one position. Assumes nothing.
 use mathlib.Core.Path.{_≡_, refl, sym, ap, ap₂}
 use mathlib.Core.Bool.{Bool, true, false}
 use Prim.Native.Nat.{ℕ, zero, suc, _+_, _≤_, _<_}
@@ -22,7 +22,7 @@ module _ (f : ℕ → Bool) where
   tally-all p zero h = refl
   tally-all p (suc n) h = rw (h (p + n) (omega arith) (omega arith)) (omega (arith, tally-all p n (λ q a b. h q a (omega arith))))
 
--- g is f, but for the place s, at which g holds and f does not
+-- g is f, but for the position s, at which g holds and f does not
 module _ (f g : ℕ → Bool) (s : ℕ) (was : f s ≡ false) (is : g s ≡ true) where
   pub tally-gains : (p n : ℕ) → p ≤ s → s < p + n → ((q : ℕ) → p ≤ q → q < p + n → (q ≡ s → ⊥) → f q ≡ g q) → tally g p n ≡ tally f p n + 1
   unfolding tally

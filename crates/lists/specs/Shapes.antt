@@ -4,7 +4,7 @@ use mathlib.Core.Bool.{Bool, true}
 use mathlib.Core.List.{List, [], _∷_, _++_, map}
 use Prim.Native.Nat.{ℕ, _<_}
 use lib.ListN.{length, drop}
-use Rattle.rules.specs.Lists.{place, insertAll}
+use Rattle.rules.specs.Lists.{position, insertAll}
 
 -- the test of two elements tells whether they are equal
 pub record Equality {A : Type 0} (same : A → A → Bool) : Type 0 where
@@ -25,5 +25,5 @@ unfoldable pub added : {A : Type 0} → (A → A → Bool) → List A → List A
 added same xs ys = drop (length xs) (insertAll same xs ys)
 
 -- the places of the elements ts
-unfoldable pub places : {A : Type 0} → (A → A → Bool) → List A → List A → List ℕ
-places same xs ts = map (λ t. place same t xs) ts
+unfoldable pub positions : {A : Type 0} → (A → A → Bool) → List A → List A → List ℕ
+positions same xs ts = map (λ t. position same t xs) ts

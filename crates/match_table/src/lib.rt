@@ -6,7 +6,7 @@ ghost use Prim.Native.Nat.{_+_, _≤_, _<_};
 ghost use lib.ListN.{length};
 ghost use Rattle.rules.specs.Labels.{labelCount};
 ghost use Rattle.rules.specs.Table.{size};
-ghost use Rattle.rules.specs.Good.{GoodLabels, GoodActions};
+ghost use Rattle.tables.specs.Good.{GoodLabels, GoodActions};
 ghost use Rattle.labels.specs.Classes.{Classes};
 ghost use Rattle.match_table.specs.Rows.{tableSize, RowAt, MatchTable, NoRows, FirstRows, SameBefore};
 

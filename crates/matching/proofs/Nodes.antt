@@ -11,7 +11,7 @@ use Rattle.rules.specs.Lists.{word}
 use Rattle.rules.specs.Labels.{labelCount, multiset}
 use Rattle.rules.specs.Table.{size, kind, operand}
 use Rattle.rules.specs.Actions.{actionTree, matches}
-use Rattle.rules.specs.Good.{GoodActions}
+use Rattle.tables.specs.Good.{GoodActions}
 use Rattle.labels.specs.Classes.{Classes}
 use Rattle.trees.proofs.ActionTrees.{any-matches, never-matches, multi-matches, union-matches, intersection-matches, negation-matches}
 

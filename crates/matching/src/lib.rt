@@ -5,7 +5,7 @@ ghost use Prim.Native.Nat.{_<_};
 ghost use Rattle.rules.specs.Labels.{labelCount};
 ghost use Rattle.rules.specs.Table.{size};
 ghost use Rattle.rules.specs.Actions.{actionTree, matches};
-ghost use Rattle.rules.specs.Good.{GoodActions};
+ghost use Rattle.tables.specs.Good.{GoodActions};
 ghost use Rattle.labels.specs.Classes.{Classes};
 
 // Does the action formula at a node match a label, of which the multiset is given? The labels are not read: the contract speaks of them.

@@ -8,7 +8,7 @@ use Rattle.rules.specs.Table.{size, FormulaNode, truthNode, falsityNode, andNod
 use Rattle.rules.specs.Formula.{least, Formula, formulaOf, formulaTo, formulaTree, bodyTree}
 use Rattle.rules.specs.Items.{equation}
 use Rattle.rules.specs.Pairs.{initialPair, itemAt}
-use Rattle.rules.specs.Good.{GoodInput}
+use Rattle.tables.specs.Good.{GoodInput}
 use Rattle.trees.proofs.Fixpoints.{no-fixpoint-below}
 use Rattle.trees.proofs.Equations.{good-some-equation, placeholder-equation}
 use Rattle.arena.proofs.ItemNumbers.{item-equation}

@@ -14,7 +14,7 @@ use Rattle.rules.specs.Table.{size, kind}
 use Rattle.rules.specs.Formula.{Operator, least, greatest, Equation, equationOf, Formula, truth, falsity, conjunction, disjunction, box, diamond, reference, formulaTree, bodyTree}
 use Rattle.rules.specs.Items.{Item, equation, subformula, itemNumber}
 use Rattle.rules.specs.Pairs.{Pair, itemAt, operatorOwner, formulaOwner, itemOwner, owner, successors, formulaTargets, itemTargets, targets}
-use Rattle.rules.specs.Good.{GoodInput}
+use Rattle.tables.specs.Good.{GoodInput}
 use Rattle.lists.proofs.Members.{in-map}
 use Rattle.trees.proofs.FormulaTrees.{truth-tree, falsity-tree, conjunction-tree, disjunction-tree, box-tree, diamond-tree}
 use Rattle.arena.specs.Arena.{Carried, Parts, Inside}

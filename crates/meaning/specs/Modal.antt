@@ -5,15 +5,19 @@ use mathlib.Core.Bool.{Bool, true, false, not, _&&_, _||_}
 use mathlib.Core.List.{List}
 use Rattle.rules.specs.Words.{Input}
 use Rattle.rules.specs.Labels.{multiset}
-use Rattle.rules.specs.System.{transitions}
+use Rattle.rules.specs.System.{transitionLabel, transitionTarget, transitions}
 use Rattle.rules.specs.Table.{size, kind}
 use Rattle.rules.specs.Actions.{Action, matches}
 use Rattle.rules.specs.Formula.{Formula, truth, falsity, conjunction, disjunction, box, diamond, reference}
 use Rattle.meaning.specs.Quantifiers.{all, any}
 
--- the label of a transition (its label and its target) matches the action formula
-abbrev pub does : Input → Action → ℕ × ℕ → Bool
-does x a t = matches (multiset (x .labels) (t .0)) a
+-- the label of transition t matches the action formula
+abbrev pub does : Input → Action → ℕ → Bool
+does x a t = matches (multiset (x .labels) (transitionLabel (x .system) t)) a
+
+-- the state to which transition t leads
+abbrev pub leadsTo : Input → ℕ → ℕ
+leadsTo x t = transitionTarget (x .system) t
 
 -- State s satisfies the formula. Box: so does the target of every transition from s whose label matches. Diamond: of some such transition. A reference does not occur
 -- without fixpoints
@@ -22,8 +26,8 @@ satisfies x truth s = true
 satisfies x falsity s = false
 satisfies x (conjunction f g) s = satisfies x f s && satisfies x g s
 satisfies x (disjunction f g) s = satisfies x f s || satisfies x g s
-satisfies x (box a f) s = all (λ t. not (does x a t) || satisfies x f (t .1)) (transitions (x .system) s)
-satisfies x (diamond a f) s = any (λ t. does x a t && satisfies x f (t .1)) (transitions (x .system) s)
+satisfies x (box a f) s = all (λ t. not (does x a t) || satisfies x f (leadsTo x t)) (transitions (x .system) s)
+satisfies x (diamond a f) s = any (λ t. does x a t && satisfies x f (leadsTo x t)) (transitions (x .system) s)
 satisfies x (reference i) s = false
 
 -- no node is a fixpoint or a reference: none has kind 6, 7 or 8

@@ -7,8 +7,8 @@ use Rattle.rules.specs.Lists.{word, largest}
 use Rattle.rules.specs.Words.{Input, inputOf}
 use Rattle.rules.specs.Table.{size, kind, operand}
 use Rattle.rules.specs.Formula.{equationCount, equationOf, equationNumber, formulaTree}
-use Rattle.rules.specs.Depth.{references, contribution, reading, leastBit, byDepth}
-use Rattle.rules.specs.Good.{GoodFormula}
+use Rattle.rules.specs.Depth.{references, contribution, reading, Ranking, leastBit}
+use Rattle.tables.specs.Good.{GoodFormula}
 
 -- an input with this formula: depths and priorities depend on nothing else (law `byDepth-words` of crate trees)
 abbrev pub formulaOnly : List ℕ → Input
@@ -91,8 +91,8 @@ ReadsBody t v i target r = (f : List ℕ) → Listed f t → v < size f → i < 
 abbrev pub ReadsEquation : (table : List ℕ) (equation target r : ℕ) → Type 0
 ReadsEquation t i target r = (f : List ℕ) → Listed f t → i < equationCount f → r ≡ reading (formulaOnly f) target i
 
--- a table that shows the priorities of the first n equations, and past them what it showed before
-pub record Ranked (f : List ℕ) (n : ℕ) (before after : List ℕ) : Type 0 where
+-- a table that shows the priorities of the first n equations by this ranking, and past them what it showed before
+pub record RankedBy (rank : Ranking) (f : List ℕ) (n : ℕ) (before after : List ℕ) : Type 0 where
   pub sized : length after ≡ length before
-  pub rank : (i : ℕ) → i < n → word after i ≡ byDepth (formulaOnly f) i
+  pub ranked : (i : ℕ) → i < n → word after i ≡ rank (formulaOnly f) i
   pub rest : (i : ℕ) → n ≤ i → word after i ≡ word before i

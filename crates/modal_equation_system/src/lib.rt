@@ -12,7 +12,7 @@ ghost use Rattle.rules.specs.Lists.{one};
 ghost use Rattle.rules.specs.Table.{size, formulaNode};
 ghost use Rattle.rules.specs.Formula.{isFixpoint, equationNumber, equationCount};
 ghost use Rattle.rules.specs.Depth.{depth, byDepth};
-ghost use Rattle.modal_equation_system.specs.System.{formulaOnly, Good, linkIn, kindIn, bodyIn, leastIn, withNode, withEquation, Link, Linked, Listed, ListedNode, ListedEquation, ReadsBody, ReadsEquation, Ranked};
+ghost use Rattle.modal_equation_system.specs.System.{formulaOnly, Good, linkIn, kindIn, bodyIn, leastIn, withNode, withEquation, Link, Linked, Listed, ListedNode, ListedEquation, ReadsBody, ReadsEquation, RankedBy};
 
 // 1 if a node is a fixpoint, else 0.
 pub fn fixpoints_at(formula: &[u32], node: usize) -> usize
@@ -229,11 +229,12 @@ pub fn priority_of(formula: &[u32], table: &[u32; 4098], equation: usize) -> Pri
     Priority(2 * (d / 2) + operator_of(table, equation))
 }
 
-// Lists the priorities of all equations at the front of a table, and leaves the rest of it as it is.
+// Lists the priorities of all equations, by depth, at the front of a table, and leaves the rest of it as it is.
 pub fn list_priorities(formula: &[u32], table: &[u32; 4098], count: usize, priorities: &mut [u32])
     requires { ⌜ Listed (now formula) (now table) ⌝ }
     requires { ⌜ (count ≡ equationCount (now formula)) × (count ≤ length (now priorities)) ⌝ }
-    ensures { λ _. ⌜ Ranked (now (formula .entry)) count (now (priorities .entry)) (now (priorities .exit)) ⌝ }
+    ensures { λ _. ⌜ RankedBy byDepth (now (formula .entry)) count
+        (now (priorities .entry)) (now (priorities .exit)) ⌝ }
 {
     let mut i: usize = 0;
     while i < count {

@@ -12,7 +12,7 @@ use Rattle.rules.specs.Lists.{word, one}
 use Rattle.rules.specs.Labels.{labelCount, multiset}
 use Rattle.rules.specs.System.{stateCount, transitionCount, degree, transitionLabel, firstTransition}
 use Rattle.rules.specs.Actions.{Action, actionTree, matches}
-use Rattle.rules.specs.Good.{GoodSystem}
+use Rattle.tables.specs.Good.{GoodSystem}
 use Rattle.arena.proofs.Inside.{transitions-within}
 use Rattle.match_table.specs.Rows.{RowAt}
 use Rattle.modalities.specs.Matched.{HaveBytes, Answered}

@@ -8,8 +8,8 @@ use lib.Dec.{eqb, lit<}
 use lib.ListN.{length, set, take, drop, length-append}
 use lib.Seq.{getD-set-same, getD-set-other, drop-set-lt}
 use Rattle.player.specs.declared.VertexIndex.{VertexIndex}
-use Rattle.rules.specs.Lists.{word, In, place, insert}
-use Rattle.lists.proofs.Members.{place-out}
+use Rattle.rules.specs.Lists.{word, In, position, insert}
+use Rattle.lists.proofs.Members.{position-out}
 use Rattle.lists.proofs.Inserts.{insert-old, insert-new}
 use Rattle.lists.proofs.Equalities.{number-equality}
 use Rattle.words.specs.Regions.{region, putWord}
@@ -50,9 +50,9 @@ module _ (w : List ℕ) (v n s q : ℕ) (a : Asks w v n s q) where
   -- what `find` answered is f
   pub there : (f : Place) (i : VertexIndex) → Finding w v n k f → f ≡ Known i → Numbers w w v n k (i .0) n
   there f i d e =
-      let p : In k (keysOf w v n) × (i .0 ≡ place eqb k (keysOf w v n)) = subst (Finding w v n k) e d in
+      let p : In k (keysOf w v n) × (i .0 ≡ position eqb k (keysOf w v n)) = subst (Finding w v n k) e d in
       let o : insert eqb (keysOf w v n) k ≡ keysOf w v n = insert-old number-equality (keysOf w v n) k (p .0) in
-      record { keys = sym o; vertex = p .1 ∙ ap (place eqb k) (sym o); table = a .table; rest = refl }
+      record { keys = sym o; vertex = p .1 ∙ ap (position eqb k) (sym o); table = a .table; rest = refl }
 
   longer : (¬ In k (keysOf w v n)) → length (insert eqb (keysOf w v n) k) ≡ n + 1
   longer f =
@@ -121,7 +121,7 @@ module _ (w : List ℕ) (v n s q : ℕ) (a : Asks w v n s q) where
         let o : insert eqb (keysOf w v n) k ≡ keysOf w v n ++ (k ∷ []) = insert-new number-equality (keysOf w v n) k (f .new) in
         record {
           keys = keys ∙ sym o;
-          vertex = sym (length-keysIn _ n) ∙ sym (place-out number-equality k (keysOf w v n) [] (f .new)) ∙ ap (place eqb k) (sym o);
+          vertex = sym (length-keysIn _ n) ∙ sym (position-out number-equality k (keysOf w v n) [] (f .new)) ∙ ap (position eqb k) (sym o);
           table =
               record {
                 slots =

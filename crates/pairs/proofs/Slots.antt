@@ -10,8 +10,8 @@ use borrow.Author.Tests.{lt-ltb, le-ltb}
 use lib.Dec.{eqb, ltb}
 use lib.ListN.{length, set, length-append, length-set, List·getD-append}
 use lib.Seq.{getD-set-same, getD-set-other, getD-at}
-use Rattle.rules.specs.Lists.{word, tally, In, place}
-use Rattle.lists.proofs.Members.{in-at, place-below, place-at, place-of, distinct-snoc}
+use Rattle.rules.specs.Lists.{word, tally, In, position}
+use Rattle.lists.proofs.Members.{in-at, position-below, position-at, position-of, distinct-snoc}
 use Rattle.lists.proofs.Equalities.{number-equality}
 use Rattle.lists.proofs.Tallies.{tally-all, tally-gains}
 use Rattle.pairs.specs.Slot.{slotOf}
@@ -71,20 +71,20 @@ in-by k ks i l e = subst (λ (x : ℕ). In x ks) e (in-at ks i 0 l)
 
 module _ (slots ks : List ℕ) (v n : ℕ) (c : Slots slots ks v n) (long : length ks ≡ n) where
   -- a taken slot with the key shows its vertex
-  pub found-at : (p k i : ℕ) → p < slotCount v → keyIn slots p ≡ k → heldIn slots p ≡ i + 1 → In k ks × (i ≡ place eqb k ks)
+  pub found-at : (p k i : ℕ) → p < slotCount v → keyIn slots p ≡ k → heldIn slots p ≡ i + 1 → In k ks × (i ≡ position eqb k ks)
   found-at p k i h e g =
       let m = c .holding p h (omega arith) in
       let l : i < length ks = omega (arith, m .known) in
       let f : heldIn slots p - 1 ≡ i = omega arith in
       let w : word ks i ≡ k = sym (m .key ∙ ap (λ (j : ℕ). word ks j) f) ∙ e in
-      (in-by k ks i l w, sym (ap (λ (x : ℕ). place eqb x ks) (sym w) ∙ place-of number-equality ks i 0 (c .distinct) l))
+      (in-by k ks i l w, sym (ap (λ (x : ℕ). position eqb x ks) (sym w) ∙ position-of number-equality ks i 0 (c .distinct) l))
 
   -- a key that no slot has to which a search for it comes is not known
   pub absent : (k : ℕ) → ((p : ℕ) → Path slots (slotCount v) (slotOf k (slotCount v)) p → 0 < heldIn slots p → keyIn slots p ≡ k → ⊥) → ¬ In k ks
   absent k none m =
-      let i : ℕ = place eqb k ks in
-      let l : i < n = omega (arith, place-below number-equality k ks m) in
-      let w : word ks i ≡ k = place-at number-equality k ks 0 m in
+      let i : ℕ = position eqb k ks in
+      let l : i < n = omega (arith, position-below number-equality k ks m) in
+      let w : word ks i ≡ k = position-at number-equality k ks 0 m in
       let r = c .vertex i l in
       let p : ℕ = r .slot in
       let g : heldIn slots p ≡ i + 1 = r .holds in

@@ -7,7 +7,7 @@ use native.Mathlib.Omega.{arith}
 use lib.Dec.{eqb, lit<}
 use lib.ListN.{length, length-append}
 use Rattle.player.specs.declared.VertexIndex.{VertexIndex}
-use Rattle.rules.specs.Lists.{word, In, place, insert}
+use Rattle.rules.specs.Lists.{word, In, position, insert}
 use Rattle.lists.proofs.Members.{in-or}
 use Rattle.lists.proofs.Inserts.{insert-old, insert-new}
 use Rattle.lists.proofs.Equalities.{number-equality}
@@ -70,8 +70,8 @@ module _ (w w′ : List ℕ) (v n k i m : ℕ) (p : Numbers w w′ v n k i m) wh
   pub known-now : m ≡ length (insert eqb (keysOf w v n) k)
   known-now = sym (length-keys w′ v m) ∙ ap length (p .keys)
 
-  pub vertex-place : i ≡ place eqb k (keysOf w′ v m)
-  vertex-place = p .vertex ∙ ap (place eqb k) (sym (p .keys))
+  pub vertex-place : i ≡ position eqb k (keysOf w′ v m)
+  vertex-place = p .vertex ∙ ap (position eqb k) (sym (p .keys))
 
   -- it was there, or is new: the count tells which
   pub known-old : In k (keysOf w v n) → m ≡ n

@@ -4,7 +4,7 @@ use mathlib.Core.List.{List}
 use Prim.Native.Nat.{ℕ, _+_, _*_, _≤_, _<_}
 use lib.ListN.{length, drop}
 use lib.Dec.{eqb}
-use Rattle.rules.specs.Lists.{In, place, insert}
+use Rattle.rules.specs.Lists.{In, position, insert}
 use Rattle.pairs.specs.declared.Place.{Place}
 use Rattle.pairs.specs.declared.Place.the-variants.{Known, Free, Nowhere}
 use Rattle.pairs.specs.declared.Numbered.{Numbered}
@@ -49,14 +49,14 @@ pub record Fresh (w : List ℕ) (v n k p : ℕ) : Type 0 where
 
 -- key k is looked up: it is known by its place among the keys, or it is new; no slot is empty only where there is no room for one vertex more
 abbrev pub Finding : List ℕ → (v n k : ℕ) → Place → Type 0
-Finding w v n k (Known i) = In k (keysOf w v n) × (i .0 ≡ place eqb k (keysOf w v n))
+Finding w v n k (Known i) = In k (keysOf w v n) × (i .0 ≡ position eqb k (keysOf w v n))
 Finding w v n k (Free p) = Fresh w v n k p
 Finding w v n k Nowhere = (¬ In k (keysOf w v n)) × (n ≡ v)
 
 -- key k is inserted: it stands for vertex i, and m vertices are known now. All from region 4 on is as it was
 pub record Numbers (w w′ : List ℕ) (v n k i m : ℕ) : Type 0 where
   pub keys : keysOf w′ v m ≡ insert eqb (keysOf w v n) k
-  pub vertex : i ≡ place eqb k (insert eqb (keysOf w v n) k)
+  pub vertex : i ≡ position eqb k (insert eqb (keysOf w v n) k)
   pub table : Table w′ v m
   pub rest : drop (4 * v) w′ ≡ drop (4 * v) w
 

@@ -1,5 +1,5 @@
--- The key of a pair, and the slot from which the search for it starts (document 01, "Modules": "wrapping sums of byte multiples .. giving the starting slot of a pair"). Assumes nothing:
--- these are definitions.
+-- The key of a pair, and the slot from which the search for it starts (document 01, "Forms for each place": "wrapping
+-- sums of byte multiples .. giving the starting slot of a pair"). Assumes nothing: these are definitions.
 use mathlib.Core.Path.{_≡_}
 use mathlib.Core.List.{List}
 use Prim.Native.Nat.{ℕ, _+_, _*_, _/_, _%_, _^_, _<_}

@@ -1,5 +1,5 @@
 -- What a game says that 51 does not refuse. Assumes nothing.
-use Prim.Native.Nat.{ℕ, _+_, _*_}
+use Prim.Native.Nat.{ℕ}
 use native.Mathlib.Omega.{arith}
 use mathlib.Core.Path.{_≡_}
 use mathlib.Core.List.{List}
@@ -8,19 +8,19 @@ use lib.Dec.{eqb, ltb}
 use borrow.Author.Tests.{ltb-false, eqb-false}
 use Rattle.rules.specs.declared.Check.the-variants.{Passed}
 use Rattle.rules.specs.Words.{mostVertices, mostEdges}
-use Rattle.rules.specs.Game.{vertexCount, edgesIn}
+use Rattle.rules.specs.Game.{vertexCount, edgesIn, gameEnd}
 use Rattle.rules.specs.Refusal.{differ}
-use Rattle.rules.specs.GameRefusal.{refusal51}
+use Rattle.rules.specs.GameRefusal.{aboveRoom, refusal51}
 use Rattle.tables.proofs.Faults.{if-passed}
 use Rattle.lists.proofs.Tests.{or-false}
 use Rattle.tables.proofs.Choices.{differ-false}
 use Rattle.parity_game.specs.Sizes.{Sizes}
 
 pub sizes : (g : List ℕ) → refusal51 g ≡ Passed → Sizes g
-unfolding refusal51 mostVertices mostEdges
+unfolding aboveRoom refusal51 mostVertices mostEdges
 sizes g e =
     let a = or-false (ltb (length g) 3) _ (if-passed 51 0 _ e) in
-    let b = or-false (differ (length g) (4 + 3 * vertexCount g + edgesIn g)) _ (a .1) in
+    let b = or-false (differ (length g) (gameEnd g)) _ (a .1) in
     let c = or-false (eqb (vertexCount g) 0) _ (b .1) in
     let d = or-false (ltb 1_048_576 (vertexCount g)) _ (c .1) in
     let z = eqb-false (vertexCount g) 0 (c .0) in

@@ -1,11 +1,16 @@
 -- The words of a game as stretches, one after the other: those that a program writes from left to right. Assumes nothing.
-use Prim.Native.Nat.{ℕ, _+_, _-_, _≤_}
+use Prim.Native.Nat.{ℕ, suc, _+_, _-_, _*_, _≤_, _<_}
+use native.Mathlib.Numerals.{add-one}
 use native.Mathlib.Omega.{arith}
-use mathlib.Core.Path.{_≡_, refl, ap, _∙_}
-use mathlib.Core.List.{List, [], _∷_, _++_, map, append-nil}
-use lib.ListN.{length, take, set, replicate}
-use Rattle.rules.specs.Game.{Vertex, edgeCount, offsets, edgeTargets, gameOf, padded}
+use mathlib.Core.Path.{_≡_, refl, sym, ap, _∙_}
+use mathlib.Core.List.{List, [], _∷_, _++_, map}
+use lib.ListN.{length, getD, take, drop, set, replicate, length-append, length-map}
+use Rattle.rules.specs.Game.{Edge, Vertex, vertexColumns, edgeCount, offsets, allEdges, columns, gameOf, padded}
 use Rattle.words.specs.Stretches.{Wrote}
+use Rattle.words.proofs.Stretches.{Writing, turn, called, done}
+use Rattle.games.specs.Columns.{edgeColumnOf}
+use Rattle.games.proofs.Columns.{length-columns, columns-more, columns-none}
+use Rattle.games.proofs.Reading.{map-append}
 
 -- the header
 pub three : (a b c : ℕ) (out : List ℕ) → 3 ≤ length out → Wrote 0 (a ∷ b ∷ c ∷ []) out (set (set (set out 0 a) 1 b) 2 c) 3
@@ -14,11 +19,11 @@ three a b c (x ∷ []) h = absurd (omega arith)
 three a b c (x ∷ y ∷ []) h = absurd (omega arith)
 three a b c (x ∷ y ∷ z ∷ out) h = record { past = refl; words = refl; rest = refl }
 
--- the whole game, by the counts and the arrays that are written
-pub game-stretches : (vs : List Vertex) (n m : ℕ) (os ps : List ℕ) → n ≡ length vs → m ≡ edgeCount vs → os ≡ map (λ v. v .owner) vs → ps ≡ map (λ v. v .priority) vs
-    → gameOf vs ≡ (n ∷ m ∷ 0 ∷ []) ++ (os ++ (ps ++ (offsets 0 vs ++ (edgeTargets vs ++ []))))
-unfolding gameOf
-game-stretches vs n m os ps a b c d = rw (a, b, c, d, append-nil (edgeTargets vs))
+-- the whole game, by the counts that are written
+pub game-stretches : (vs : List Vertex) (n m : ℕ) → n ≡ length vs → m ≡ edgeCount vs
+    → gameOf 0 vs ≡ (n ∷ m ∷ 0 ∷ []) ++ (columns vertexColumns vs ++ (offsets 0 vs ++ (edgeColumnOf 0 vs ++ [])))
+unfolding gameOf columns
+game-stretches vs n m a b = rw (a, b)
 
 -- the game, and zeros past it
 pub game-padded : (stretch out out₁ out′ : List ℕ) (r : ℕ) → Wrote 0 stretch out out₁ r → length out₁ ≡ length out → out′ ≡ take r out₁ ++ replicate (length out₁ - r) 0
@@ -27,6 +32,42 @@ unfolding padded
 game-padded stretch out out₁ out′ r w l e =
     let n : length out₁ - r ≡ length out - length stretch = omega (arith, w .past) in
     e ∙ ap (λ (ws : List ℕ). ws ++ replicate (length out₁ - r) 0) (w .words) ∙ ap (λ (k : ℕ). stretch ++ replicate k 0) n
+
+-- ---- one column at a time
+
+module _ {A : Type 0} (fs : List (A → ℕ)) (xs : List A) where
+  -- there is room for column c
+  pub columns-room : (c : ℕ) {p at₀ : ℕ} {out out₀ : List ℕ} → c < length fs → at₀ + length fs * length xs ≤ length out₀
+      → Writing p (columns (drop c fs) xs) out at₀ (columns fs xs) out₀ → p + length xs ≤ length out
+  columns-room c h k w =
+      omega (
+        arith,
+        w .long,
+        w .last,
+        length-columns fs xs,
+        ap length (columns-more fs xs c h),
+        length-append (map (getD fs c (λ x. 0)) xs) (columns (drop (suc c) fs) xs),
+        length-map xs (getD fs c (λ x. 0)),
+      )
+
+  pub columns-put : (c : ℕ) {p r at₀ : ℕ} {column stretch out out′ out₀ : List ℕ} → c < length fs
+      → column ≡ map (getD fs c (λ x. 0)) xs
+      → length out′ ≡ length out → Wrote p column out out′ r → Writing p (columns (drop c fs) xs) out at₀ stretch out₀
+      → Writing r (columns (drop (c + 1) fs) xs) out′ at₀ stretch out₀
+  columns-put c {column = column} h e l wrote w =
+      called l wrote
+      (turn (columns-more fs xs c h ∙ ap (λ (k : List ℕ). k ++ columns (drop (suc c) fs) xs) (sym e)
+      ∙ ap (λ (i : ℕ). column ++ columns (drop i fs) xs) (sym (add-one c))) w)
+
+  pub columns-done : (c : ℕ) {p at₀ : ℕ} {stretch out out₀ : List ℕ} → length fs ≤ c
+      → Writing p (columns (drop c fs) xs) out at₀ stretch out₀
+      → Wrote at₀ stretch out₀ out p
+  columns-done c h w = done (turn (columns-none fs xs c h) w)
+
+  -- where they end
+  pub columns-past : {at r : ℕ} {out out′ : List ℕ} → Wrote at (columns fs xs) out out′ r
+      → r ≡ at + length fs * length xs
+  columns-past w = omega (arith, w .past, length-columns fs xs)
 
 -- ---- one vertex at a time
 
@@ -38,13 +79,15 @@ pub offsets-more : (e : ℕ) (v : Vertex) (vs : List Vertex) → offsets e (v �
 unfolding offsets
 offsets-more e v vs = refl
 
-pub targets-none : edgeTargets [] ≡ []
-unfolding edgeTargets
-targets-none = refl
+-- a column of all edges
+pub column-none : (f : Edge → ℕ) → map f (allEdges []) ≡ []
+unfolding allEdges
+column-none f = refl
 
-pub targets-more : (v : Vertex) (vs : List Vertex) → edgeTargets (v ∷ vs) ≡ v .edges ++ edgeTargets vs
-unfolding edgeTargets
-targets-more v vs = refl
+pub column-more : (f : Edge → ℕ) (v : Vertex) (vs : List Vertex)
+    → map f (allEdges (v ∷ vs)) ≡ map f (v .edges) ++ map f (allEdges vs)
+unfolding allEdges
+column-more f v vs = map-append f (v .edges) (allEdges vs)
 
 pub edges-none : edgeCount [] ≡ 0
 unfolding edgeCount Rattle.rules.specs.Lists.sum

@@ -1,12 +1,12 @@
 -- What the words of a game say that 51 does not refuse: the functions that check the rest ask for this. Assumes nothing: this is a definition.
-use Prim.Native.Nat.{ℕ, _+_, _*_, _≤_}
+use Prim.Native.Nat.{ℕ, _≤_}
 use mathlib.Core.Path.{_≡_}
 use mathlib.Core.List.{List}
 use lib.ListN.{length}
-use Rattle.rules.specs.Game.{vertexCount, edgesIn}
+use Rattle.rules.specs.Game.{vertexCount, edgesIn, gameEnd}
 
 pub record Sizes (g : List ℕ) : Type 0 where
-  pub whole : length g ≡ 4 + 3 * vertexCount g + edgesIn g
+  pub whole : length g ≡ gameEnd g
   pub some : 1 ≤ vertexCount g
   pub few : vertexCount g ≤ 1_048_576
   pub fewEdges : edgesIn g ≤ 4_194_304

@@ -1,13 +1,77 @@
-// The words of a parity game: the check of a game that is handed over, and the first words of a game that is written.
+// The words of a parity game: where they stand, the check of a game that is handed over, and the first words of a game that is written.
 use rules::Check;
 ghost use mathlib.Core.Path.{_≡_};
 ghost use mathlib.Core.List.{[], _∷_};
 ghost use Prim.Native.Nat.{_+_, _*_, _<_, _≤_};
 ghost use lib.ListN.{length};
+ghost use Rattle.rules.specs.Game.{vertexColumns, edgeColumns, gameWords, vertexCount, gameEnd, vertexWord};
+ghost use Rattle.rules.specs.Game.{edgesFrom};
 ghost use Rattle.rules.specs.Refusal.{faultFrom};
-ghost use Rattle.rules.specs.GameRefusal.{falls, refusal51, refusal52, refusal53, gameRefusal};
+ghost use Rattle.rules.specs.GameRefusal.{falls, aboveRoom, refusal51, refusal52, refusal53, gameRefusal};
 ghost use Rattle.words.specs.Stretches.{Wrote};
 ghost use Rattle.parity_game.specs.Sizes.{Sizes};
+
+// ---- where the words stand
+
+// The place where a column of the vertices begins, in a game of n of them.
+pub fn vertex_column_at(n: usize, column: usize) -> usize
+    requires { ⌜ (n < 4294967296) × (column ≤ length vertexColumns) ⌝ }
+    ensures { λ r. ⌜ r ≡ 3 + column * n ⌝ }
+{
+    3 + column * n
+}
+
+// How many columns the vertices have.
+pub fn vertex_columns() -> usize
+    ensures { λ r. ⌜ r ≡ length vertexColumns ⌝ }
+{
+    2
+}
+
+// The place where the offsets begin.
+fn offsets_at(n: usize) -> usize
+    requires { ⌜ n < 4294967296 ⌝ }
+    ensures { λ r. ⌜ r ≡ 3 + length vertexColumns * n ⌝ }
+{
+    vertex_column_at(n, vertex_columns())
+}
+
+// The place where a column of the edges begins, in a game of n vertices and m edges.
+fn edge_column_at(n: usize, m: usize, column: usize) -> usize
+    requires { ⌜ (n < 4294967296) × (m < 4294967296) × (column ≤ length edgeColumns) ⌝ }
+    ensures { λ r. ⌜ r ≡ 4 + (length vertexColumns + 1) * n + column * m ⌝ }
+{
+    offsets_at(n) + n + 1 + column * m
+}
+
+// How many words a game of n vertices and m edges has: it ends behind one column of the edges.
+fn game_words(n: usize, m: usize) -> usize
+    requires { ⌜ (n < 4294967296) × (m < 4294967296) ⌝ }
+    ensures { λ r. ⌜ r ≡ gameWords n m ⌝ }
+{
+    edge_column_at(n, m, 1)
+}
+
+// The word of vertex v in a column.
+pub fn vertex_word(game: &[u32], column: usize, v: usize) -> usize
+    requires { ⌜ gameEnd (now game) ≤ length (now game) ⌝ }
+    requires { ⌜ (column < length vertexColumns) × (v < vertexCount (now game)) ⌝ }
+    ensures { λ r. ⌜ r ≡ vertexWord (now (game .entry)) column v ⌝ }
+{
+    let n = words::at(game, 0);
+    words::at(game, vertex_column_at(n, column) + v)
+}
+
+// The place where the words of the edges of vertex v begin in a column; for the vertex count, the place where the last ones end.
+pub fn edges_from(game: &[u32], column: usize, v: usize) -> usize
+    requires { ⌜ gameEnd (now game) ≤ length (now game) ⌝ }
+    requires { ⌜ (column < length edgeColumns) × (v ≤ vertexCount (now game)) ⌝ }
+    ensures { λ r. ⌜ r ≡ edgesFrom (now (game .entry)) column v ⌝ }
+{
+    let n = words::at(game, 0);
+    let m = words::at(game, 1);
+    edge_column_at(n, m, column) + words::at(game, offsets_at(n) + v)
+}
 
 // ---- the check
 
@@ -27,6 +91,16 @@ fn check_rising(ws: &[u32], first: usize, end: usize) -> Check
     Check::Passed
 }
 
+// So many vertices or edges are above the room limits.
+pub fn above_room(n: usize, m: usize) -> bool
+    ensures { λ r. ⌜ r ≡ aboveRoom n m ⌝ }
+{
+    if 1_048_576 < n {
+        return true;
+    }
+    4_194_304 < m
+}
+
 // 51: the length and the sizes.
 fn check_sizes(game: &[u32]) -> Check
     ensures { λ r. ⌜ r ≡ refusal51 (now (game .entry)) ⌝ }
@@ -36,16 +110,13 @@ fn check_sizes(game: &[u32]) -> Check
     }
     let n = words::at(game, 0);
     let m = words::at(game, 1);
-    if game.len() != 4 + 3 * n + m {
+    if game.len() != game_words(n, m) {
         return Check::Fault(51, 0);
     }
     if n < 1 {
         return Check::Fault(51, 0);
     }
-    if 1_048_576 < n {
-        return Check::Fault(51, 0);
-    }
-    if 4_194_304 < m {
+    if above_room(n, m) {
         return Check::Fault(51, 0);
     }
     Check::Passed
@@ -58,8 +129,8 @@ fn check_offsets(game: &[u32]) -> Check
 {
     let n = words::at(game, 0);
     let m = words::at(game, 1);
-    let first = 3 + 2 * n;
-    let last = 3 + 3 * n;
+    let first = offsets_at(n);
+    let last = first + n;
     if words::at(game, first) != 0 {
         return Check::Fault(52, first as u32);
     }
@@ -85,10 +156,16 @@ fn check_vertices(game: &[u32]) -> Check
     if n <= words::at(game, 2) {
         return Check::Fault(53, 2);
     }
-    let owners = faults::check_below(game, 3, 3 + n, 2, 53);
+    let first = vertex_column_at(n, 0);
+    let end = vertex_column_at(n, 1);
+    let owners = faults::check_below(game, first, end, 2, 53);
     match owners {
         Check::Fault(number, place) => Check::Fault(number, place),
-        Check::Passed => faults::check_below(game, 4 + 3 * n, 4 + 3 * n + m, n, 53),
+        Check::Passed => {
+            let target = edge_column_at(n, m, 0);
+            let past = edge_column_at(n, m, 1);
+            faults::check_below(game, target, past, n, 53)
+        }
     }
 }
 

@@ -12,19 +12,19 @@ use Rattle.tables.proofs.Faults.{if-true, then-fault, then-passed}
 use Rattle.lists.proofs.Tests.{or-left, or-right}
 use Rattle.tables.proofs.Choices.{differ-yes}
 
-module _ (g : List ℕ) (out numbers work : ℕ) where
-  pub refused-game : {n p : ℕ} → gameRefusal g ≡ Fault n p → restrictionRefusal g out numbers work ≡ Fault n p
+module _ (g : List ℕ) (out mapping work : ℕ) where
+  pub refused-game : {n p : ℕ} → gameRefusal g ≡ Fault n p → restrictionRefusal g out mapping work ≡ Fault n p
   unfolding restrictionRefusal
   refused-game e = then-fault _ e
 
-  pub other-out : gameRefusal g ≡ Passed → (out ≡ length g → ⊥) → restrictionRefusal g out numbers work ≡ Fault 2 0
+  pub other-out : gameRefusal g ≡ Passed → (out ≡ length g → ⊥) → restrictionRefusal g out mapping work ≡ Fault 2 0
   unfolding restrictionRefusal
   other-out e h = then-passed _ e ∙ if-true 2 0 (or-left _ (differ-yes h))
 
-  pub other-map : gameRefusal g ≡ Passed → (numbers ≡ vertexCount g → ⊥) → restrictionRefusal g out numbers work ≡ Fault 2 0
+  pub other-map : gameRefusal g ≡ Passed → (mapping ≡ vertexCount g → ⊥) → restrictionRefusal g out mapping work ≡ Fault 2 0
   unfolding restrictionRefusal
   other-map e h = then-passed _ e ∙ if-true 2 0 (or-right (differ out (length g)) (or-left _ (differ-yes h)))
 
-  pub other-work : gameRefusal g ≡ Passed → (work ≡ vertexCount g → ⊥) → restrictionRefusal g out numbers work ≡ Fault 2 0
+  pub other-work : gameRefusal g ≡ Passed → (work ≡ vertexCount g → ⊥) → restrictionRefusal g out mapping work ≡ Fault 2 0
   unfolding restrictionRefusal
-  other-work e h = then-passed _ e ∙ if-true 2 0 (or-right (differ out (length g)) (or-right (differ numbers (vertexCount g)) (differ-yes h)))
+  other-work e h = then-passed _ e ∙ if-true 2 0 (or-right (differ out (length g)) (or-right (differ mapping (vertexCount g)) (differ-yes h)))

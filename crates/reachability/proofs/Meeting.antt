@@ -11,7 +11,7 @@ use lib.ListN.{length, getD, take, set, replicate, length-set, length-replicate,
 use lib.Seq.{take-suc-set, getD-set-same, getD-set-other, length-take-le, getD-take}
 use Rattle.rules.specs.Lists.{word, In, has, from, insert}
 use Rattle.rules.specs.Restrict.{newNumber}
-use Rattle.lists.proofs.Members.{in-at, in-last, in-left, in-or, in-either, no-more, distinct-snoc, place-append, place-out}
+use Rattle.lists.proofs.Members.{in-at, in-last, in-left, in-or, in-either, no-more, distinct-snoc, position-append, position-out}
 use Rattle.lists.proofs.Inserts.{insert-new, insert-old}
 use Rattle.lists.proofs.Equalities.{number-equality}
 use Rattle.lists.proofs.Ranges.{from-length, from-in}
@@ -21,12 +21,12 @@ use Rattle.reachability.specs.Search.{Knows}
 -- ---- the new number, once one more vertex is met
 
 number-new : (t : ℕ) (met : List ℕ) → (¬ In t met) → newNumber (met ++ (t ∷ [])) t ≡ length met
-number-new t met n = number-in (met ++ (t ∷ [])) t (in-last t met) ∙ place-out number-equality t met [] n
+number-new t met n = number-in (met ++ (t ∷ [])) t (in-last t met) ∙ position-out number-equality t met [] n
 
 number-same : (t v : ℕ) (met : List ℕ) → (¬ (v ≡ t)) → newNumber (met ++ (t ∷ [])) v ≡ newNumber met v
 number-same t v met d =
     ⊎-elim
-    (λ m. number-in (met ++ (t ∷ [])) v (in-left v met (t ∷ []) m) ∙ place-append number-equality v met (t ∷ []) m ∙ sym (number-in met v m))
+    (λ m. number-in (met ++ (t ∷ [])) v (in-left v met (t ∷ []) m) ∙ position-append number-equality v met (t ∷ []) m ∙ sym (number-in met v m))
     (λ n. number-out (met ++ (t ∷ [])) v (λ m. ⊎-elim n (λ l. ⊎-elim d (λ z. z) l) (in-either v met (t ∷ []) m)) ∙ sym (number-out met v n))
     (in-or number-equality v met)
 
@@ -47,27 +47,27 @@ room-for n t xs d f b h = omega (arith, no-more (t ∷ xs) (from 0 n) (f, d) bel
 
 -- ---- the two slices
 
-pub length-known : {count : ℕ} {numbers work : List ℕ} → Knows count numbers work → length (take count work) ≡ count
-length-known {count} {numbers} {work} k = length-take-le count work (omega (arith, k .within, k .workLong))
+pub length-known : {count : ℕ} {mapping work : List ℕ} → Knows count mapping work → length (take count work) ≡ count
+length-known {count} {mapping} {work} k = length-take-le count work (omega (arith, k .within, k .workLong))
 
 -- the slices once vertex t has got the next number
-pub record Met (count t : ℕ) (numbers work : List ℕ) : Type 0 where
+pub record Met (count t : ℕ) (mapping work : List ℕ) : Type 0 where
   pub room : count < length work
-  pub knows : Knows (count + 1) (set numbers t count) (set work count t)
+  pub knows : Knows (count + 1) (set mapping t count) (set work count t)
   pub known : take (count + 1) (set work count t) ≡ insert eqb (take count work) t
 
-pub fresh : (count t : ℕ) (numbers work : List ℕ) → Knows count numbers work → t < length numbers → word numbers t ≡ 4_294_967_295 → Met count t numbers work
-fresh count t numbers work k h e =
+pub fresh : (count t : ℕ) (mapping work : List ℕ) → Knows count mapping work → t < length mapping → word mapping t ≡ 4_294_967_295 → Met count t mapping work
+fresh count t mapping work k h e =
     record {
       room = room;
       knows =
           record {
-            workLong = length-set work count t ∙ k .workLong ∙ sym (length-set numbers t count);
+            workLong = length-set work count t ∙ k .workLong ∙ sym (length-set mapping t count);
             few = rw length-set (k .few);
             within = rw length-set (omega (arith, room, k .workLong));
-            right = λ v l. rw snoc (right v (subst (λ (n : ℕ). v < n) (length-set numbers t count) l));
+            right = λ v l. rw snoc (right v (subst (λ (n : ℕ). v < n) (length-set mapping t count) l));
             distinct = rw snoc (distinct-snoc (take count work) t (k .distinct) new);
-            below = λ v m. subst (λ (n : ℕ). v < n) (sym (length-set numbers t count)) (below v (rw snoc at m));
+            below = λ v m. subst (λ (n : ℕ). v < n) (sym (length-set mapping t count)) (below v (rw snoc at m));
           };
       known = snoc ∙ sym (insert-new number-equality (take count work) t new);
     }
@@ -79,42 +79,42 @@ fresh count t numbers work k h e =
     new = number-away (take count work) t (omega (arith, long, k .within, k .few)) (sym (k .right t h) ∙ e)
 
     room : count < length work
-    room = omega (arith, long, k .workLong, room-for (length numbers) t (take count work) (k .distinct) new (k .below) h)
+    room = omega (arith, long, k .workLong, room-for (length mapping) t (take count work) (k .distinct) new (k .below) h)
 
     snoc : take (count + 1) (set work count t) ≡ take count work ++ (t ∷ [])
     snoc = rw add-one (take-suc-set work count t room)
 
-    right : (v : ℕ) → v < length numbers → word (set numbers t count) v ≡ newNumber (take count work ++ (t ∷ [])) v
+    right : (v : ℕ) → v < length mapping → word (set mapping t count) v ≡ newNumber (take count work ++ (t ∷ [])) v
     right v l = go (ℕ-discrete v t)
       where
-        go : Dec (v ≡ t) → word (set numbers t count) v ≡ newNumber (take count work ++ (t ∷ [])) v
-        go (yes p) = rw p (getD-set-same numbers t count 0 h ∙ sym long ∙ sym (number-new t (take count work) new))
-        go (no d) = getD-set-other numbers t v count 0 d ∙ k .right v l ∙ sym (number-same t v (take count work) d)
+        go : Dec (v ≡ t) → word (set mapping t count) v ≡ newNumber (take count work ++ (t ∷ [])) v
+        go (yes p) = rw p (getD-set-same mapping t count 0 h ∙ sym long ∙ sym (number-new t (take count work) new))
+        go (no d) = getD-set-other mapping t v count 0 d ∙ k .right v l ∙ sym (number-same t v (take count work) d)
 
-    below : (v : ℕ) → In v (take count work ++ (t ∷ [])) → v < length numbers
+    below : (v : ℕ) → In v (take count work ++ (t ∷ [])) → v < length mapping
     below v m = ⊎-elim (k .below v) (λ w. ⊎-elim (λ p. omega (arith, p, h)) (λ z. absurd z) w) (in-either v (take count work) (t ∷ []) m)
 
-pub old : (count t : ℕ) (numbers work : List ℕ) → Knows count numbers work → t < length numbers → (word numbers t ≡ 4_294_967_295 → ⊥)
+pub old : (count t : ℕ) (mapping work : List ℕ) → Knows count mapping work → t < length mapping → (word mapping t ≡ 4_294_967_295 → ⊥)
     → take count work ≡ insert eqb (take count work) t
-old count t numbers work k h n =
+old count t mapping work k h n =
     sym (insert-old number-equality (take count work) t (number-known (take count work) t (λ e. n (k .right t h ∙ e))))
 
 -- no vertex is met yet
-pub none-known : (numbers work : List ℕ) → length work ≡ length numbers → length numbers ≤ 1_048_576 → numbers ≡ replicate (length numbers) 4_294_967_295
-    → Knows 0 numbers work
-none-known numbers work e h f =
+pub none-known : (mapping work : List ℕ) → length work ≡ length mapping → length mapping ≤ 1_048_576 → mapping ≡ replicate (length mapping) 4_294_967_295
+    → Knows 0 mapping work
+none-known mapping work e h f =
     record {
       workLong = e;
       few = h;
       within = omega arith;
-      right = λ v l. ap (λ (xs : List ℕ). word xs v) f ∙ getD-replicate (length numbers) v 4_294_967_295 0 l ∙ sym (number-out [] v (λ z. z));
+      right = λ v l. ap (λ (xs : List ℕ). word xs v) f ∙ getD-replicate (length mapping) v 4_294_967_295 0 l ∙ sym (number-out [] v (λ z. z));
       distinct = tt;
       below = λ v m. absurd m;
     }
 
 -- the vertex that has a number that is given is one
-pub knows-at : {count : ℕ} {numbers work : List ℕ} → Knows count numbers work → (i : ℕ) → i < count → word work i < length numbers
-knows-at {count} {numbers} {work} k i h =
+pub knows-at : {count : ℕ} {mapping work : List ℕ} → Knows count mapping work → (i : ℕ) → i < count → word work i < length mapping
+knows-at {count} {mapping} {work} k i h =
     let e : getD (take count work) i 0 ≡ getD work i 0 = getD-take count work i 0 h in
     k .below (word work i) (subst (λ (x : ℕ). In x (take count work)) e (in-at (take count work) i 0 (omega (arith, length-known k))))
 

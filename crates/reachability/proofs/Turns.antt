@@ -9,11 +9,11 @@ use lib.Dec.{eqb}
 use lib.ListN.{length, getD, take, length-take, drop-of-length-le}
 use lib.Seq.{slice, slice-cons, getD-take}
 use Rattle.rules.specs.Lists.{word, insert, insertAll}
-use Rattle.rules.specs.Game.{vertexCount, initialIn, targetsIn}
+use Rattle.rules.specs.Game.{vertexCount, initialIn, edgesFrom, targetsIn}
 use Rattle.rules.specs.Restrict.{searchFrom, reachedVertices}
 use Rattle.lists.proofs.Inserts.{inserts-none, inserts-cons, insert-new}
 use Rattle.lists.proofs.Equalities.{number-equality}
-use Rattle.reachability.specs.Search.{edgesFrom, Knows}
+use Rattle.reachability.specs.Search.{Knows}
 use Rattle.reachability.proofs.Edges.{targets-between}
 use Rattle.reachability.proofs.Meeting.{length-known}
 
@@ -56,10 +56,11 @@ search-start g met t e f =
     let one : met ≡ initialIn g ∷ [] = f ∙ insert-new number-equality [] t (λ m. m) ∙ ap (λ (x : ℕ). x ∷ []) e in
     rw (z, one)
 
-pub search-step : (g : List ℕ) (count i v a b : ℕ) (numbers work met′ whole : List ℕ) → Knows count numbers work → length numbers ≡ vertexCount g → i < count
-    → v ≡ word work i → a ≡ edgesFrom g v → b ≡ edgesFrom g (v + 1) → met′ ≡ insertAll eqb (take count work) (slice a b g)
+pub search-step : (g : List ℕ) (count i v a b : ℕ) (mapping work met′ whole : List ℕ) → Knows count mapping work → length mapping ≡ vertexCount g → i < count
+    → v ≡ word work i → a ≡ edgesFrom g 0 v → b ≡ edgesFrom g 0 (v + 1)
+    → met′ ≡ insertAll eqb (take count work) (slice a b g)
     → whole ≡ searchFrom g (vertexCount g - i) i (take count work) → whole ≡ searchFrom g (vertexCount g - (i + 1)) (i + 1) met′
-search-step g count i v a b numbers work met′ whole k n h p q r s w =
+search-step g count i v a b mapping work met′ whole k n h p q r s w =
     w ∙ search-more g (vertexCount g) i (take count work) (omega (arith, length-known k)) (omega (arith, k .within))
     ∙ ap (λ (l : List ℕ). searchFrom g (vertexCount g - (i + 1)) (i + 1) l) (sym (s ∙ ap (insertAll eqb (take count work)) same))
   where
@@ -69,6 +70,6 @@ search-step g count i v a b numbers work met′ whole k n h p q r s w =
     same : slice a b g ≡ targetsIn g (getD (take count work) i 0)
     same = rw (q, r) (sym (targets-between g v)) ∙ ap (targetsIn g) (sym at-v)
 
-pub search-done : (g : List ℕ) (count i : ℕ) (numbers work whole : List ℕ) → Knows count numbers work → count ≤ i
+pub search-done : (g : List ℕ) (count i : ℕ) (mapping work whole : List ℕ) → Knows count mapping work → count ≤ i
     → whole ≡ searchFrom g (vertexCount g - i) i (take count work) → take count work ≡ whole
-search-done g count i numbers work whole k h w = sym (w ∙ search-end g (vertexCount g - i) i (take count work) (omega (arith, length-known k)))
+search-done g count i mapping work whole k h w = sym (w ∙ search-end g (vertexCount g - i) i (take count work) (omega (arith, length-known k)))

@@ -9,17 +9,18 @@ ghost use lib.Seq.{slice};
 ghost use lib.Dec.{eqb};
 ghost use Rattle.rules.specs.declared.Check.the-variants.{Passed};
 ghost use Rattle.rules.specs.Lists.{word, insert, insertAll};
-ghost use Rattle.rules.specs.Answers.{said};
-ghost use Rattle.rules.specs.Game.{edgeCount, offsets, edgeTargets, gameOf, padded, vertexCount};
+ghost use Rattle.rules.specs.Answers.{said, Accepted};
+ghost use Rattle.rules.specs.Game.{vertexColumns, edgeCount, offsets, columns, gameOf, padded, vertexCount};
 ghost use Rattle.rules.specs.Restrict.{reachedVertices, keptVertices, restrictionRefusal, restrictedTo, restriction};
-ghost use Rattle.rules.specs.Restricts.{Restricts};
+ghost use Rattle.rules.specs.Restricts.{Restricts, RestrictionDemand1};
+ghost use Rattle.games.specs.Columns.{edgeColumnOf};
 ghost use Rattle.words.specs.Stretches.{Wrote};
 ghost use Rattle.restrictions.specs.GoodGame.{GoodGame};
-ghost use Rattle.reachability.specs.Search.{edgesFrom, Knows, Chosen};
+ghost use Rattle.reachability.specs.Search.{Knows, Chosen};
 
 // 51, 52, 53, then 2, for slices of these lengths.
-fn check_lent(game: &[u32], out: usize, numbers: usize, work: usize) -> Check
-    ensures { λ r. ⌜ r ≡ restrictionRefusal (now (game .entry)) out numbers work ⌝ }
+fn check_lent(game: &[u32], out: usize, mapping: usize, work: usize) -> Check
+    ensures { λ r. ⌜ r ≡ restrictionRefusal (now (game .entry)) out mapping work ⌝ }
 {
     let checked = parity_game::check_game(game);
     match checked {
@@ -29,7 +30,7 @@ fn check_lent(game: &[u32], out: usize, numbers: usize, work: usize) -> Check
                 return Check::Fault(2, 0);
             }
             let n = words::at(game, 0);
-            if numbers != n {
+            if mapping != n {
                 return Check::Fault(2, 0);
             }
             if work != n {
@@ -43,14 +44,14 @@ fn check_lent(game: &[u32], out: usize, numbers: usize, work: usize) -> Check
 // ---- the search
 
 // Vertex t is met: it gets the next number if it is new. The answer is how many are known now.
-fn discover(numbers: &mut [u32], work: &mut [u32], count: usize, t: usize) -> usize
-    requires { ⌜ Knows count (now numbers) (now work) ⌝ }
-    requires { ⌜ t < length (now numbers) ⌝ }
-    ensures { λ r. ⌜ Knows r (now (numbers .exit)) (now (work .exit)) ⌝ }
+fn discover(mapping: &mut [u32], work: &mut [u32], count: usize, t: usize) -> usize
+    requires { ⌜ Knows count (now mapping) (now work) ⌝ }
+    requires { ⌜ t < length (now mapping) ⌝ }
+    ensures { λ r. ⌜ Knows r (now (mapping .exit)) (now (work .exit)) ⌝ }
     ensures { λ r. ⌜ take r (now (work .exit)) ≡ insert eqb (take count (now (work .entry))) t ⌝ }
 {
-    if numbers[t] == 4_294_967_295 {
-        numbers[t] = count as u32;
+    if mapping[t] == 4_294_967_295 {
+        mapping[t] = count as u32;
         work[count] = t as u32;
         count + 1
     } else {
@@ -63,52 +64,42 @@ fn discover_all(
     game: &[u32],
     from: usize,
     end: usize,
-    numbers: &mut [u32],
+    mapping: &mut [u32],
     work: &mut [u32],
     known: usize,
 ) -> usize
-    requires { ⌜ Knows known (now numbers) (now work) ⌝ }
+    requires { ⌜ Knows known (now mapping) (now work) ⌝ }
     requires { ⌜ end ≤ length (now game) ⌝ }
-    requires { ⌜ ((p : ℕ) → from ≤ p → p < end → word (now game) p < length (now numbers)) ⌝ }
-    ensures { λ r. ⌜ Knows r (now (numbers .exit)) (now (work .exit)) ⌝ }
+    requires { ⌜ ((p : ℕ) → from ≤ p → p < end → word (now game) p < length (now mapping)) ⌝ }
+    ensures { λ r. ⌜ Knows r (now (mapping .exit)) (now (work .exit)) ⌝ }
     ensures { λ r. ⌜ take r (now (work .exit)) ≡ insertAll eqb (take known (now (work .entry))) (slice from end (now (game .entry))) ⌝ }
 {
     let mut count = known;
     let mut p = from;
     while p < end {
         let t = words::at(game, p);
-        count = discover(numbers, work, count, t);
+        count = discover(mapping, work, count, t);
         p += 1;
     }
     count
 }
 
-// The place where the targets of vertex v begin; for the vertex count, the place where the last ones end.
-fn edges_from(game: &[u32], v: usize) -> usize
-    requires { ⌜ GoodGame (now game) ⌝ }
-    requires { ⌜ v ≤ vertexCount (now game) ⌝ }
-    ensures { λ r. ⌜ (r ≡ edgesFrom (now (game .entry)) v) × (r ≤ length (now (game .entry))) × (4 + 3 * vertexCount (now (game .entry)) ≤ r) ⌝ }
-{
-    let n = words::at(game, 0);
-    4 + 3 * n + words::at(game, 3 + 2 * n + v)
-}
-
 // Breadth first from the initial vertex. The answer is how many vertices are reached.
-fn explore(game: &[u32], numbers: &mut [u32], work: &mut [u32]) -> usize
+fn explore(game: &[u32], mapping: &mut [u32], work: &mut [u32]) -> usize
     requires { ⌜ GoodGame (now game) ⌝ }
-    requires { ⌜ (length (now numbers) ≡ vertexCount (now game)) × (length (now work) ≡ vertexCount (now game)) ⌝ }
-    ensures { λ r. ⌜ Knows r (now (numbers .exit)) (now (work .exit)) ⌝ }
+    requires { ⌜ (length (now mapping) ≡ vertexCount (now game)) × (length (now work) ≡ vertexCount (now game)) ⌝ }
+    ensures { λ r. ⌜ Knows r (now (mapping .exit)) (now (work .exit)) ⌝ }
     ensures { λ r. ⌜ take r (now (work .exit)) ≡ reachedVertices (now (game .entry)) ⌝ }
 {
-    words::fill(numbers, 0, 4_294_967_295);
+    words::fill(mapping, 0, 4_294_967_295);
     let first = words::at(game, 2);
-    let mut count = discover(numbers, work, 0, first);
+    let mut count = discover(mapping, work, 0, first);
     let mut i = 0;
     while i < count {
         let v = words::at(work, i);
-        let from = edges_from(game, v);
-        let end = edges_from(game, v + 1);
-        count = discover_all(game, from, end, numbers, work, count);
+        let from = parity_game::edges_from(game, 0, v);
+        let end = parity_game::edges_from(game, 0, v + 1);
+        count = discover_all(game, from, end, mapping, work, count);
         i += 1;
     }
     count
@@ -125,12 +116,30 @@ fn count_edges(game: &[u32], work: &[u32], count: usize) -> usize
     let mut i = 0;
     while i < count {
         let v = words::at(work, i);
-        let from = edges_from(game, v);
-        let end = edges_from(game, v + 1);
+        let from = parity_game::edges_from(game, 0, v);
+        let end = parity_game::edges_from(game, 0, v + 1);
         e += end - from;
         i += 1;
     }
     e
+}
+
+// The columns of the vertices reached, one after another.
+fn write_columns(game: &[u32], work: &[u32], count: usize, out: &mut [u32], start: usize) -> usize
+    requires { ⌜ Chosen (now game) count (now work) ⌝ }
+    requires { ⌜ start + length vertexColumns * count ≤ length (now out) ⌝ }
+    ensures { λ r. ⌜ Wrote start (columns vertexColumns (keptVertices (now (game .entry)) (take count (now (work .entry))))) (now (out .entry)) (now (out .exit)) r ⌝ }
+{
+    let n = words::at(game, 0);
+    let all = parity_game::vertex_columns();
+    let mut column: usize = 0;
+    let mut p = start;
+    while column < all {
+        let base = parity_game::vertex_column_at(n, column);
+        p = words::carry(game, base, work, count, out, p);
+        column += 1;
+    }
+    p
 }
 
 // Where the edges of each vertex reached begin, and where the last ones end.
@@ -146,8 +155,8 @@ fn write_offsets(game: &[u32], work: &[u32], count: usize, out: &mut [u32], star
         out[p] = e as u32;
         p += 1;
         let v = words::at(work, i);
-        let from = edges_from(game, v);
-        let end = edges_from(game, v + 1);
+        let from = parity_game::edges_from(game, 0, v);
+        let end = parity_game::edges_from(game, 0, v + 1);
         e += end - from;
         i += 1;
     }
@@ -160,19 +169,19 @@ fn write_numbers(
     game: &[u32],
     from: usize,
     end: usize,
-    numbers: &[u32],
+    mapping: &[u32],
     out: &mut [u32],
     start: usize,
 ) -> usize
     requires { ⌜ (from ≤ end) × (end ≤ length (now game)) × (start + (end - from) ≤ length (now out)) ⌝ }
-    requires { ⌜ ((p : ℕ) → from ≤ p → p < end → word (now game) p < length (now numbers)) ⌝ }
-    ensures { λ r. ⌜ Wrote start (map (λ t. word (now (numbers .entry)) t) (slice from end (now (game .entry)))) (now (out .entry)) (now (out .exit)) r ⌝ }
+    requires { ⌜ ((p : ℕ) → from ≤ p → p < end → word (now game) p < length (now mapping)) ⌝ }
+    ensures { λ r. ⌜ Wrote start (map (λ t. word (now (mapping .entry)) t) (slice from end (now (game .entry)))) (now (out .entry)) (now (out .exit)) r ⌝ }
 {
     let mut q = from;
     let mut p = start;
     while q < end {
         let t = words::at(game, q);
-        out[p] = numbers[t];
+        out[p] = mapping[t];
         p += 1;
         q += 1;
     }
@@ -182,55 +191,56 @@ fn write_numbers(
 // The targets of the vertices reached, by their new numbers.
 fn write_targets(
     game: &[u32],
-    numbers: &[u32],
+    mapping: &[u32],
     work: &[u32],
     count: usize,
     out: &mut [u32],
     start: usize,
 ) -> usize
     requires { ⌜ Chosen (now game) count (now work) ⌝ }
-    requires { ⌜ Knows count (now numbers) (now work) ⌝ }
-    requires { ⌜ (length (now numbers) ≡ vertexCount (now game)) × (start + edgeCount (keptVertices (now game) (take count (now work))) ≤ length (now out)) ⌝ }
-    ensures { λ r. ⌜ Wrote start (edgeTargets (keptVertices (now (game .entry)) (take count (now (work .entry))))) (now (out .entry)) (now (out .exit)) r ⌝ }
+    requires { ⌜ Knows count (now mapping) (now work) ⌝ }
+    requires { ⌜ (length (now mapping) ≡ vertexCount (now game)) × (start + edgeCount (keptVertices (now game) (take count (now work))) ≤ length (now out)) ⌝ }
+    ensures { λ r. ⌜ Wrote start (edgeColumnOf 0 (keptVertices (now (game .entry)) (take count (now (work .entry))))) (now (out .entry)) (now (out .exit)) r ⌝ }
 {
     let mut i = 0;
     let mut p = start;
     while i < count {
         let v = words::at(work, i);
-        let from = edges_from(game, v);
-        let end = edges_from(game, v + 1);
-        p = write_numbers(game, from, end, numbers, out, p);
+        let from = parity_game::edges_from(game, 0, v);
+        let end = parity_game::edges_from(game, 0, v + 1);
+        p = write_numbers(game, from, end, mapping, out, p);
         i += 1;
     }
     p
 }
 
 // The game of the vertices reached, and zeros past it. The answer is how many edges it has.
-fn write_game(game: &[u32], numbers: &[u32], work: &[u32], count: usize, out: &mut [u32]) -> usize
+fn write_game(game: &[u32], mapping: &[u32], work: &[u32], count: usize, out: &mut [u32]) -> usize
     requires { ⌜ Chosen (now game) count (now work) ⌝ }
-    requires { ⌜ Knows count (now numbers) (now work) ⌝ }
-    requires { ⌜ (length (now numbers) ≡ vertexCount (now game)) × (length (now out) ≡ length (now game)) ⌝ }
+    requires { ⌜ Knows count (now mapping) (now work) ⌝ }
+    requires { ⌜ (length (now mapping) ≡ vertexCount (now game)) × (length (now out) ≡ length (now game)) ⌝ }
     ensures { λ r. ⌜ r ≡ edgeCount (keptVertices (now (game .entry)) (take count (now (work .entry)))) ⌝ }
-    ensures { λ _. ⌜ now (out .exit) ≡ padded (length (now (out .entry))) (gameOf (keptVertices (now (game .entry)) (take count (now (work .entry))))) ⌝ }
+    ensures { λ _. ⌜ now (out .exit) ≡ padded (length (now (out .entry))) (gameOf 0 (keptVertices (now (game .entry)) (take count (now (work .entry))))) ⌝ }
 {
-    let n = words::at(game, 0);
     let edges = count_edges(game, work, count);
     let header = parity_game::write_header(count as u32, edges as u32, out);
-    let owners = words::carry(game, 3, work, count, out, header);
-    let priorities = words::carry(game, 3 + n, work, count, out, owners);
-    let places = write_offsets(game, work, count, out, priorities);
-    let end = write_targets(game, numbers, work, count, out, places);
+    let places = write_columns(game, work, count, out, header);
+    let targets = write_offsets(game, work, count, out, places);
+    let end = write_targets(game, mapping, work, count, out, targets);
     words::fill(out, end, 0);
     edges
 }
 
 // The restriction of a game that is not refused, into slices of the right lengths.
-fn restrict(game: &[u32], out: &mut [u32], numbers: &mut [u32], work: &mut [u32]) -> Answer
-    requires { ⌜ restrictionRefusal (now game) (length (now out)) (length (now numbers)) (length (now work)) ≡ Passed ⌝ }
-    ensures { λ r. ⌜ record { answer = said r; out = now (out .exit); numbers = now (numbers .exit); work = now (work .exit) } ≡ restrictedTo (now (game .entry)) (reachedVertices (now (game .entry))) (now (out .entry)) (now (work .entry)) ⌝ }
+fn restrict(game: &[u32], out: &mut [u32], mapping: &mut [u32], work: &mut [u32]) -> Answer
+    requires { ⌜ restrictionRefusal (now game) (length (now out)) (length (now mapping)) (length (now work)) ≡ Passed ⌝ }
+    ensures { λ r. ⌜
+        record { answer = r; out = now (out .exit); mapping = now (mapping .exit); work = now (work .exit) }
+        ≡ restrictedTo (now (game .entry)) (reachedVertices (now (game .entry)))
+        (now (out .entry)) (now (work .entry)) ⌝ }
 {
-    let count = explore(game, numbers, work);
-    let edges = write_game(game, numbers, work, count, out);
+    let count = explore(game, mapping, work);
+    let edges = write_game(game, mapping, work, count, out);
     words::fill(work, 0, 0);
     let vertices = count as u32;
     Answer::Done(vertices, vertices, edges as u32)
@@ -238,8 +248,16 @@ fn restrict(game: &[u32], out: &mut [u32], numbers: &mut [u32], work: &mut [u32]
 
 // The part of the game that its initial vertex reaches; the map has the new number of each vertex, 4,294,967,295 for one that is not reached.
 pub fn compute_reachable(game: &[u32], out: &mut [u32], map: &mut [u32], work: &mut [u32]) -> Answer
-    ensures { λ r. ⌜ record { answer = said r; out = now (out .exit); numbers = now (map .exit); work = now (work .exit) } ≡ restriction (now (game .entry)) (now (out .entry)) (now (map .entry)) (now (work .entry)) ⌝ }
-    ensures { λ r. ⌜ ((¬ (word (said r) 0 ≡ 2)) → Restricts (now (game .entry)) (said r) (now (out .exit)) (now (map .exit)) (reachedVertices (now (game .entry)))) ⌝ }
+    ensures equals { λ r. ⌜
+        record { answer = r; out = now (out .exit); mapping = now (map .exit); work = now (work .exit) }
+        ≡ restriction (now (game .entry)) (now (out .entry)) (now (map .entry)) (now (work .entry)) ⌝ }
+    ensures coded { λ r. ⌜ said r
+        ≡ said (restriction (now (game .entry)) (now (out .entry)) (now (map .entry)) (now (work .entry)) .answer) ⌝ }
+    ensures restricts { λ r. ⌜ (Accepted r
+        → Restricts (now (game .entry)) r (now (out .exit)) (now (map .exit)) (reachedVertices (now (game .entry)))) ⌝ }
+    ensures demand1 { λ r. ⌜ RestrictionDemand1
+        (now (game .entry)) (now (out .entry)) (now (map .entry)) (now (work .entry)) r
+        (now (out .exit)) (now (map .exit)) (now (work .exit)) ⌝ }
 {
     let checked = check_lent(game, out.len(), map.len(), work.len());
     match checked {

@@ -2,7 +2,7 @@
 use mathlib.Core.Path.{_≡_, refl, sym, _∙_, subst}
 use mathlib.Core.List.{List}
 use mathlib.Core.Logic.{_⊎_, ⊎-elim}
-use Prim.Native.Nat.{ℕ, zero, suc, _+_, _-_, _*_, _≤_, _<_}
+use Prim.Native.Nat.{ℕ, zero, suc, _+_, _-_, _≤_, _<_}
 use native.Mathlib.Omega.{arith}
 use lib.ListN.{length}
 use lib.Seq.{slice, slice-empty, slice-cons, length-slice}
@@ -11,9 +11,10 @@ use borrow.Author.Tests.{ltb-false, leb-false, eqb-false}
 use Rattle.rules.specs.declared.Check.the-variants.{Passed}
 use Rattle.rules.specs.Lists.{word, In}
 use Rattle.rules.specs.Words.{mostVertices, mostEdges}
-use Rattle.rules.specs.Game.{vertexCount, edgesIn, initialIn, offsetIn, targetsAt, targetsIn}
+use Rattle.rules.specs.Game.{vertexCount, edgesIn, initialIn, vertexColumnAt, offsetsAt, edgeColumnAt, gameEnd}
+use Rattle.rules.specs.Game.{offsetIn, edgesFrom, targetsIn}
 use Rattle.rules.specs.Refusal.{differ, tooLarge}
-use Rattle.rules.specs.GameRefusal.{refusal51, falls, refusal52, refusal53, gameRefusal}
+use Rattle.rules.specs.GameRefusal.{aboveRoom, refusal51, falls, refusal52, refusal53, gameRefusal}
 use Rattle.rules.specs.Restrict.{restrictionRefusal}
 use Rattle.tables.proofs.Faults.{if-passed, if-false, from-passed, first-passed, lower-both, then-both, then-passed}
 use Rattle.restrictions.specs.GoodGame.{GoodGame}
@@ -22,46 +23,58 @@ use Rattle.tables.proofs.Choices.{differ-no, differ-false}
 use Rattle.games.proofs.Offsets.{offset-within}
 
 module _ (g : List ℕ) (r51 : refusal51 g ≡ Passed) (r52 : refusal52 g ≡ Passed) (r53 : refusal53 g ≡ Passed) where
-  sizes : (length g ≡ 4 + 3 * vertexCount g + edgesIn g) × (1 ≤ vertexCount g) × (vertexCount g ≤ 1_048_576) × (edgesIn g ≤ 4_194_304)
-  unfolding refusal51 mostVertices mostEdges
+  sizes : (length g ≡ gameEnd g) × (1 ≤ vertexCount g) × (vertexCount g ≤ 1_048_576) × (edgesIn g ≤ 4_194_304)
+  unfolding aboveRoom refusal51 mostVertices mostEdges
   sizes =
       let (short, a) = or-false (ltb (length g) 3) _ (if-passed 51 0 _ r51) in
-      let (other, b) = or-false (differ (length g) (4 + 3 * vertexCount g + edgesIn g)) _ a in
+      let (other, b) = or-false (differ (length g) (gameEnd g)) _ a in
       let (empty, c) = or-false (eqb (vertexCount g) 0) _ b in
       let (many, most) = or-false (ltb mostVertices (vertexCount g)) (ltb mostEdges (edgesIn g)) c in
-      let some : ¬ (vertexCount g ≡ 0) = eqb-false (vertexCount g) 0 empty in
-      (differ-false (length g) (4 + 3 * vertexCount g + edgesIn g) other, go some, ltb-false 1_048_576 (vertexCount g) many, ltb-false 4_194_304 (edgesIn g) most)
+      let some : ¬ (vertexCount g ≡ 0) = eqb-false (vertexCount g) 0 empty in (
+        differ-false (length g) (gameEnd g) other,
+        go some,
+        ltb-false 1_048_576
+            (vertexCount g) many,
+        ltb-false 4_194_304 (edgesIn g) most,
+      )
     where
       go : (¬ (vertexCount g ≡ 0)) → 1 ≤ vertexCount g
       go n = omega arith
 
-  steady : (w : ℕ) → 4 + 2 * vertexCount g ≤ w → w < 4 + 3 * vertexCount g → word g (w - 1) ≤ word g w
+  steady : (w : ℕ) → 1 + offsetsAt g ≤ w → w < 1 + offsetsAt g + vertexCount g → word g (w - 1) ≤ word g w
   unfolding refusal52 falls
   steady w a b =
       ltb-false (word g w) (word g (w - 1))
-      (from-passed 52 (4 + 2 * vertexCount g) (4 + 3 * vertexCount g) (falls g) (lower-both _ _ (lower-both _ _ r52 .1) .0) w a b)
+      (from-passed 52 (1 + offsetsAt g) (1 + offsetsAt g + vertexCount g) (falls g)
+      (lower-both _ _ (lower-both _ _ r52 .1) .0) w a b)
 
   first-offset : offsetIn g 0 ≡ 0
   unfolding refusal52
-  first-offset = differ-false (offsetIn g 0) 0 (if-passed 52 (3 + 2 * vertexCount g) _ (lower-both _ _ r52 .0))
+  first-offset = differ-false (offsetIn g 0) 0 (if-passed 52 (offsetsAt g) _ (lower-both _ _ r52 .0))
 
   last-offset : offsetIn g (vertexCount g) ≡ edgesIn g
   unfolding refusal52
-  last-offset = differ-false (offsetIn g (vertexCount g)) (edgesIn g) (if-passed 52 (3 + 3 * vertexCount g) _ (lower-both _ _ (lower-both _ _ r52 .1) .1))
+  last-offset =
+      differ-false (offsetIn g (vertexCount g)) (edgesIn g)
+      (if-passed 52 (offsetsAt g + vertexCount g) _ (lower-both _ _ (lower-both _ _ r52 .1) .1))
 
   initial-small : initialIn g < vertexCount g
   unfolding refusal53
   initial-small = leb-false (vertexCount g) (initialIn g) (if-passed 53 2 _ (lower-both _ _ r53 .0))
 
-  owner-small : (w : ℕ) → 3 ≤ w → w < 3 + vertexCount g → word g w ≤ 1
+  owner-small : (w : ℕ) → vertexColumnAt g 0 ≤ w → w < vertexColumnAt g 1 → word g w ≤ 1
   unfolding refusal53
-  owner-small w a b = ltb-false 1 (word g w) (from-passed 53 3 (3 + vertexCount g) (λ w. ltb 1 (word g w)) (lower-both _ _ (lower-both _ _ r53 .1) .0) w a b)
+  owner-small w a b =
+      ltb-false 1 (word g w)
+      (from-passed 53 (vertexColumnAt g 0) (vertexColumnAt g 1) (λ w. ltb 1 (word g w))
+      (lower-both _ _ (lower-both _ _ r53 .1) .0) w a b)
 
-  target-small : (w : ℕ) → 4 + 3 * vertexCount g ≤ w → w < 4 + 3 * vertexCount g + edgesIn g → word g w < vertexCount g
+  target-small : (w : ℕ) → edgeColumnAt g 0 ≤ w → w < edgeColumnAt g 1 → word g w < vertexCount g
   unfolding refusal53 tooLarge
   target-small w a b =
       leb-false (vertexCount g) (word g w)
-      (from-passed 53 (4 + 3 * vertexCount g) (4 + 3 * vertexCount g + edgesIn g) (tooLarge g (vertexCount g)) (lower-both _ _ (lower-both _ _ r53 .1) .1) w a b)
+      (from-passed 53 (edgeColumnAt g 0) (edgeColumnAt g 1) (tooLarge g (vertexCount g))
+      (lower-both _ _ (lower-both _ _ r53 .1) .1) w a b)
 
   good-words : GoodGame g
   good-words =
@@ -73,12 +86,13 @@ module _ (g : List ℕ) (r51 : refusal51 g ≡ Passed) (r52 : refusal52 g ≡ Pa
         light = light;
         begins = first-offset;
         rises = λ v h.
-            let e : 3 + 2 * vertexCount g + suc v - 1 ≡ 3 + 2 * vertexCount g + v = omega arith in
-            subst (λ (w : ℕ). word g w ≤ offsetIn g (suc v)) e (steady (3 + 2 * vertexCount g + suc v) (omega arith) (omega arith));
+            let e : offsetsAt g + suc v - 1 ≡ offsetsAt g + v = omega arith in
+            subst (λ (w : ℕ). word g w ≤ offsetIn g (suc v)) e
+            (steady (offsetsAt g + suc v) (omega arith) (omega arith));
         ends = last-offset;
         initial = initial-small;
-        owned = λ v h. let b = owner-small (3 + v) (omega arith) (omega arith) in omega arith;
-        leads = λ e h. target-small (targetsAt g + e) (omega arith) (omega arith);
+        owned = λ v h. let b = owner-small (vertexColumnAt g 0 + v) (omega arith) (omega arith) in omega arith;
+        leads = λ e h. target-small (edgeColumnAt g 0 + e) (omega arith) (omega arith);
       }
 
 pub good-game : (g : List ℕ) → gameRefusal g ≡ Passed → GoodGame g
@@ -107,12 +121,12 @@ module _ (g : List ℕ) (good : GoodGame g) where
   pub most-offset : (v : ℕ) → v ≤ vertexCount g → offsetIn g v ≤ edgesIn g
   most-offset = offset-within g (good .rises) (good .ends)
 
-  targets-end : (v : ℕ) → v < vertexCount g → targetsAt g + offsetIn g (suc v) ≤ length g
+  targets-end : (v : ℕ) → v < vertexCount g → edgesFrom g 0 (suc v) ≤ length g
   targets-end v h = omega (arith, good .sized, most-offset (suc v) h)
 
   pub degree : (v : ℕ) → v < vertexCount g → offsetIn g (suc v) ≡ offsetIn g v + length (targetsIn g v)
   degree v h =
-      omega (arith, good .rises v h, length-slice (targetsAt g + offsetIn g v) (targetsAt g + offsetIn g (suc v)) g (targets-end v h))
+      omega (arith, good .rises v h, length-slice (edgesFrom g 0 v) (edgesFrom g 0 (suc v)) g (targets-end v h))
 
   -- what holds of the words from a to b holds of the slice's members
   in-slice : (P : ℕ → Type 0) (d a b : ℕ) → b ≤ length g → a + d ≡ b → ((p : ℕ) → a ≤ p → p < b → P (word g p)) → (t : ℕ) → In t (slice a b g) → P t
@@ -126,7 +140,8 @@ module _ (g : List ℕ) (good : GoodGame g) where
   target-below v h =
       let more = good .rises v h in
       let last = most-offset (suc v) h in
-      in-slice (λ t. t < vertexCount g) (offsetIn g (suc v) - offsetIn g v) (targetsAt g + offsetIn g v) (targetsAt g + offsetIn g (suc v)) (targets-end v h) (omega arith)
+      in-slice (λ t. t < vertexCount g) (offsetIn g (suc v) - offsetIn g v) (edgesFrom g 0 v) (edgesFrom g 0 (suc v))
+      (targets-end v h) (omega arith)
       (λ p a b.
-      let e : p ≡ targetsAt g + (p - targetsAt g) = omega arith in
-      subst (λ (q : ℕ). word g q < vertexCount g) (sym e) (good .leads (p - targetsAt g) (omega arith)))
+      let e : p ≡ edgeColumnAt g 0 + (p - edgeColumnAt g 0) = omega arith in
+      subst (λ (q : ℕ). word g q < vertexCount g) (sym e) (good .leads (p - edgeColumnAt g 0) (omega arith)))

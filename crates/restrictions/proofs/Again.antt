@@ -7,13 +7,15 @@ use native.Mathlib.Omega.{arith}
 use lib.ListN.{length, getD, length-append}
 use lib.Seq.{getD-append-seam}
 use lib.Dec.{eqb}
-use Rattle.rules.specs.Lists.{word, In, from, place}
+use Rattle.rules.specs.declared.Answer.{Answer}
+use Rattle.rules.specs.declared.Answer.the-variants.{Done}
+use Rattle.rules.specs.Lists.{word, In, from, position}
 use Rattle.rules.specs.Reach.{onward}
 use Rattle.rules.specs.Game.{edgesIn, initialIn, ownerIn, priorityIn, targetsIn}
 use Rattle.rules.specs.Demands.{Numbers, numbered, old, new}
 use Rattle.rules.specs.Restricts.{Searched, begun, gone, Restricts}
 use Rattle.lists.specs.Shapes.{Begins}
-use Rattle.lists.proofs.Members.{in-at, in-map, place-below, place-at, distinct-places}
+use Rattle.lists.proofs.Members.{in-at, in-map, position-below, position-at, distinct-positions}
 use Rattle.lists.proofs.Shapes.{begins-refl, begins-trans, begins-at, begins-length}
 use Rattle.lists.proofs.Equalities.{number-equality}
 use Rattle.lists.proofs.Ranges.{from-length, from-in, in-from, from-snoc, from-at}
@@ -25,7 +27,7 @@ from-word n v h = omega (arith, from-at 0 n v 0 h)
 from-below : (n v : ℕ) → In v (from 0 n) → v < n
 from-below n v m = let (a, b) = in-from v 0 n m in omega arith
 
-module _ (g a h ns met : List ℕ) (r : Restricts g a h ns met) where
+module _ (g : List ℕ) (a : Answer) (h ns met : List ℕ) (r : Restricts g a h ns met) where
   abbrev n : ℕ
   n = length met
 
@@ -33,7 +35,7 @@ module _ (g a h ns met : List ℕ) (r : Restricts g a h ns met) where
   pub number-back : (u : ℕ) → u < length met → word ns (getD met u 0) ≡ u
   number-back u l =
       let (i, e) = r .sends (getD met u 0) (r .exactly (getD met u 0) .0 (in-at met u 0 l)) in
-      distinct-places met 0 (r .once) (word ns (getD met u 0)) u i l e
+      distinct-positions met 0 (r .once) (word ns (getD met u 0)) u i l e
 
   -- ---- the search in the result
 
@@ -46,8 +48,8 @@ module _ (g a h ns met : List ℕ) (r : Restricts g a h ns met) where
   numbers-again m ts more numbered b = numbered
   numbers-again m ts more (old {ts = us} {t = t} i o) b =
       let m-begins = begins-trans m more met (numbers-begins g m us more o) b in
-      let l = place-below number-equality t m i in
-      let e = number-place m m-begins (place eqb t m) t l (place-at number-equality t m 0 i) in
+      let l = position-below number-equality t m i in
+      let e = number-place m m-begins (position eqb t m) t l (position-at number-equality t m 0 i) in
       old (from-in (word ns t) 0 (length m) (omega arith) (omega arith)) (numbers-again m us more o b)
   numbers-again m ts more (new {ts = us} {t = t} i o) b =
       let m-begins = begins-trans (m ++ t ∷ []) more met (numbers-begins g (m ++ t ∷ []) us more o) b in
@@ -103,7 +105,7 @@ module _ (g a h ns met : List ℕ) (r : Restricts g a h ns met) where
         searched = whole-again;
         exactly = exactly;
         once = met-distinct h (from 0 n) whole-again;
-        answer = r .answer ∙ ap (λ (k : ℕ). 0 ∷ k ∷ k ∷ edgesIn h ∷ []) (sym long);
+        answer = r .answer ∙ ap (λ (k : ℕ). Done k k (edgesIn h)) (sym long);
         first = (r .first .0 ∙ sym long, r .first .1, from-word n 0 (begins-length (initialIn g ∷ []) met begins) ∙ sym (r .first .1));
         mapped = long ∙ sym (r .first .0);
         sends = λ v q.

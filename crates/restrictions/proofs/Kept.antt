@@ -5,10 +5,10 @@ use Prim.Native.Nat.{ℕ, zero, suc, _+_, _-_, _≤_, _<_}
 use native.Mathlib.Omega.{arith}
 use lib.ListN.{length, getD, length-map}
 use lib.Dec.{eqb}
-use Rattle.rules.specs.Lists.{word, In, Distinct, from, sum, place}
-use Rattle.rules.specs.Game.{Vertex, edgeCount, gameOf, vertexCount, edgesIn, offsetIn, targetsIn}
+use Rattle.rules.specs.Lists.{word, In, Distinct, from, sum, position}
+use Rattle.rules.specs.Game.{Vertex, edgeTo, edgeCount, gameOf, vertexCount, edgesIn, offsetIn, targetsIn}
 use Rattle.rules.specs.Restrict.{newNumber, keptVertex, keptVertices, vertexMap}
-use Rattle.lists.proofs.Members.{in-at, in-has, not-in, map-at, place-below, place-of}
+use Rattle.lists.proofs.Members.{in-at, in-has, not-in, map-at, position-below, position-of}
 use Rattle.lists.proofs.Equalities.{number-equality}
 use Rattle.lists.proofs.Ranges.{from-length, from-in, in-from, from-at}
 use Rattle.games.proofs.Reading.{length-read}
@@ -24,7 +24,7 @@ from-distinct i (suc n) = (λ m. let l = in-from i (suc i) n m .0 in omega arith
 -- ---- new numbers
 
 module _ (met : List ℕ) where
-  pub number-in : (v : ℕ) → In v met → newNumber met v ≡ place eqb v met
+  pub number-in : (v : ℕ) → In v met → newNumber met v ≡ position eqb v met
   unfolding newNumber
   number-in v m = rw (in-has number-equality v met m)
 
@@ -33,10 +33,10 @@ module _ (met : List ℕ) where
   number-out v n = rw (not-in number-equality v met n)
 
   pub number-below : (v : ℕ) → In v met → newNumber met v < length met
-  number-below v m = subst (λ (n : ℕ). n < length met) (sym (number-in v m)) (place-below number-equality v met m)
+  number-below v m = subst (λ (n : ℕ). n < length met) (sym (number-in v m)) (position-below number-equality v met m)
 
   pub number-at : Distinct met → (u : ℕ) → u < length met → newNumber met (getD met u 0) ≡ u
-  number-at d u h = number-in (getD met u 0) (in-at met u 0 h) ∙ place-of number-equality met u 0 d h
+  number-at d u h = number-in (getD met u 0) (in-at met u 0 h) ∙ position-of number-equality met u 0 d h
 
 -- ---- the map
 
@@ -66,7 +66,8 @@ kept-at g met u d h = map-at (keptVertex g met) met u 0 d h
 degrees : (g met xs : List ℕ) → sum (map (λ v. length (v .edges)) (map (keptVertex g met) xs)) ≡ sum (map (λ v. length (targetsIn g v)) xs)
 unfolding keptVertex sum
 degrees g met [] = refl
-degrees g met (x ∷ xs) = ap₂ (λ (m n : ℕ). m + n) (length-map (targetsIn g x) (newNumber met)) (degrees g met xs)
+degrees g met (x ∷ xs) =
+    ap₂ (λ (m n : ℕ). m + n) (length-map (targetsIn g x) (λ t. edgeTo (newNumber met t))) (degrees g met xs)
 
 module _ (g : List ℕ) (good : GoodGame g) where
   -- the edges of the n vertices from v on
@@ -109,5 +110,7 @@ module _ (g : List ℕ) (good : GoodGame g) where
       )
 
   -- and so they fit where the game stood
-  pub words-fit : (met : List ℕ) → Distinct met → ((v : ℕ) → In v met → v < vertexCount g) → length met ≤ vertexCount g → length (gameOf (keptVertices g met)) ≤ length g
-  words-fit met d b few = omega (arith, length-read (keptVertices g met) [], kept-length g met, edges-fit met d b, good .sized)
+  pub words-fit : (met : List ℕ) → Distinct met → ((v : ℕ) → In v met → v < vertexCount g) → length met ≤ vertexCount g
+      → length (gameOf 0 (keptVertices g met)) ≤ length g
+  words-fit met d b few =
+      omega (arith, length-read 0 (keptVertices g met), kept-length g met, edges-fit met d b, good .sized)

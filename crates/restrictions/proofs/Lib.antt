@@ -3,6 +3,7 @@ pub mod Searching
 pub mod Weights
 pub mod Kept
 pub mod Restriction
+pub mod Refusals
 pub mod Once
 pub mod Again
 pub mod Twice

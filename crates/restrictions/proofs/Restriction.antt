@@ -1,20 +1,24 @@
 -- What a restriction leaves satisfies `Restricts`, for all words and lent slices that are not refused; a refusal alters nothing. Assumes nothing.
 use mathlib.Core.Path.{_≡_, refl, sym, ap, ap₂, _∙_, subst}
-use mathlib.Core.List.{List, [], _∷_, _++_, map}
+use mathlib.Core.List.{List, [], _∷_, map}
 use mathlib.Core.Logic.{inl, inr, _↔_}
 use Prim.Native.Nat.{ℕ, zero, _+_, _-_, _≤_, _<_}
 use native.Mathlib.Omega.{arith}
 use lib.ListN.{length, getD, replicate, length-append, length-replicate}
+use Rattle.rules.specs.declared.Answer.the-variants.{Done, Refused}
 use Rattle.rules.specs.declared.Check.{Check}
 use Rattle.rules.specs.declared.Check.the-variants.{Passed, Fault}
 use Rattle.rules.specs.Lists.{word, In, Distinct, zeros}
+use Rattle.rules.specs.Answers.{Accepted}
 use Rattle.rules.specs.Reach.{Reachable}
-use Rattle.rules.specs.Game.{Vertex, waitingVertex, edgeCount, gameOf, padded, vertexCount, edgesIn, initialIn, ownerIn, priorityIn, targetsIn}
+use Rattle.rules.specs.Game.{Edge, Vertex, waitingVertex, edgeCount, gameOf, padded, vertexCount, edgesIn, initialIn}
+use Rattle.rules.specs.Game.{ownerIn, priorityIn, targetsIn}
 use Rattle.rules.specs.Restrict.{reachedVertices, newNumber, keptVertex, keptVertices, vertexMap, restrictionRefusal, Restricted, restrictedTo, restrictedOr, restriction}
 use Rattle.rules.specs.Restricts.{Restricts}
-use Rattle.lists.proofs.Members.{in-at, place-at}
+use Rattle.lists.proofs.Members.{in-at, position-at}
 use Rattle.lists.proofs.Equalities.{number-equality}
-use Rattle.games.proofs.Reading.{count-read, owner-read, priority-read, targets-read}
+use Rattle.games.proofs.Columns.{targets-edges}
+use Rattle.games.proofs.Reading.{count-read, vertex-read, edge-words-read}
 use Rattle.games.proofs.Rewriting.{Whole}
 use Rattle.theorems.proofs.Read.{whole-game}
 use Rattle.restrictions.specs.GoodGame.{GoodGame}
@@ -25,8 +29,8 @@ use Rattle.restrictions.proofs.Kept.{number-in, number-out, number-belo
 -- ---- by what the check says
 
 module _ (g out numbers work : List ℕ) where
-  abbrev said : Check
-  said = restrictionRefusal g (length out) (length numbers) (length work)
+  abbrev checked : Check
+  checked = restrictionRefusal g (length out) (length numbers) (length work)
 
   pub restriction-passed : restrictionRefusal g (length out) (length numbers) (length work) ≡ Passed → restriction g out numbers work ≡ restrictedTo g (reachedVertices g) out work
   unfolding restriction restrictedOr
@@ -34,21 +38,23 @@ module _ (g out numbers work : List ℕ) where
 
   -- a refusal says why, and alters nothing
   pub restriction-refused : (n p : ℕ) → restrictionRefusal g (length out) (length numbers) (length work) ≡ Fault n p
-      → restriction g out numbers work ≡ record { answer = 2 ∷ n ∷ p ∷ 0 ∷ []; out = out; numbers = numbers; work = work }
+      → restriction g out numbers work ≡ record { answer = Refused n p; out = out; mapping = numbers; work = work }
   unfolding restriction restrictedOr
   restriction-refused n p e = rw e
 
-  -- the answer begins with 2 exactly if it is refused
-  pub passed-not-two : restrictionRefusal g (length out) (length numbers) (length work) ≡ Passed → word (restriction g out numbers work .answer) 0 ≡ 0
+  -- the answer is Refused exactly if the check says so
+  pub passed-accepted : restrictionRefusal g (length out) (length numbers) (length work) ≡ Passed
+      → Accepted (restriction g out numbers work .answer)
   unfolding restrictedTo
-  passed-not-two e = ap (λ (r : Restricted). word (r .answer) 0) (restriction-passed e)
+  passed-accepted e = subst (λ (r : Restricted). Accepted (r .answer)) (sym (restriction-passed e)) tt
 
-  pub not-two-passed : (¬ (word (restriction g out numbers work .answer) 0 ≡ 2)) → restrictionRefusal g (length out) (length numbers) (length work) ≡ Passed
-  not-two-passed n = go said refl
+  pub accepted-passed : Accepted (restriction g out numbers work .answer)
+      → restrictionRefusal g (length out) (length numbers) (length work) ≡ Passed
+  accepted-passed a = go checked refl
     where
-      go : (c : Check) → said ≡ c → said ≡ Passed
+      go : (c : Check) → checked ≡ c → checked ≡ Passed
       go Passed e = e
-      go (Fault m p) e = absurd (n (ap (λ (r : Restricted). word (r .answer) 0) (restriction-refused m p e)))
+      go (Fault m p) e = absurd (subst (λ (r : Restricted). Accepted (r .answer)) (restriction-refused m p e) a)
 
 -- ---- what is written
 
@@ -61,7 +67,7 @@ unfolding padded
 padded-length n ws h = omega (arith, length-append ws (replicate (n - length ws) 0), length-replicate {A = ℕ} (n - length ws) 0)
 
 -- the words fit where the game stood
-pub kept-fit : (g : List ℕ) → GoodGame g → length (gameOf (keptVertices g (reachedVertices g))) ≤ length g
+pub kept-fit : (g : List ℕ) → GoodGame g → length (gameOf 0 (keptVertices g (reachedVertices g))) ≤ length g
 kept-fit g good =
     words-fit g good (reachedVertices g) (met-distinct g (reachedVertices g) (reached-searched g good)) (reached-below g good) (reached-few g good)
 
@@ -73,7 +79,7 @@ module _ (g : List ℕ) (good : GoodGame g) (n : ℕ) where
   vs = keptVertices g met
 
   abbrev h : List ℕ
-  h = padded n (gameOf vs)
+  h = padded n (gameOf 0 vs)
 
   abbrev ns : List ℕ
   ns = vertexMap g met
@@ -86,7 +92,7 @@ module _ (g : List ℕ) (good : GoodGame g) (n : ℕ) where
 
   count-is : vertexCount h ≡ length met
   unfolding padded
-  count-is = count-read vs (replicate (n - length (gameOf vs)) 0) ∙ kept-length g met
+  count-is = count-read 0 vs (replicate (n - length (gameOf 0 vs)) 0) ∙ kept-length g met
 
   edges-are : edgesIn h ≡ edgeCount vs
   unfolding padded gameOf
@@ -100,25 +106,28 @@ module _ (g : List ℕ) (good : GoodGame g) (n : ℕ) where
   row : (u : ℕ) → u < length met → (ownerIn h u ≡ ownerIn g (getD met u 0)) × (priorityIn h u ≡ priorityIn g (getD met u 0)) × (targetsIn h u ≡ map (newNumber met) (targetsIn g (getD met u 0)))
   unfolding padded keptVertex
   row u l =
-      let rest : List ℕ = replicate (n - length (gameOf vs)) 0 in
+      let rest : List ℕ = replicate (n - length (gameOf 0 vs)) 0 in
       let k : u < length vs = omega (arith, kept-length g met) in
       let e : getD vs u waitingVertex ≡ keptVertex g met (getD met u 0) = kept-at g met u waitingVertex l in (
-        owner-read vs rest u waitingVertex k ∙ ap (λ (v : Vertex). v .owner) e,
-        ap (λ (c : ℕ). word (gameOf vs ++ rest) (3 + c + u)) (count-read vs rest) ∙ priority-read vs rest u waitingVertex k ∙ ap (λ (v : Vertex). v .priority) e,
-        targets-read vs rest u waitingVertex k ∙ ap (λ (v : Vertex). v .edges) e,
+        vertex-read 0 vs rest 0 u waitingVertex (omega arith) k ∙ ap (λ (v : Vertex). v .owner) e,
+        vertex-read 0 vs rest 1 u waitingVertex (omega arith) k ∙ ap (λ (v : Vertex). v .priority) e,
+        edge-words-read 0 vs rest 0 u waitingVertex (omega arith) k
+            ∙ ap (λ (v : Vertex). map (λ (z : Edge). z .target) (v .edges)) e
+            ∙ targets-edges (newNumber met) (targetsIn g (getD met u 0)),
       )
 
   sent : (v : ℕ) → In v met → (word ns v < length met) × (getD met (word ns v) 0 ≡ v)
   sent v m =
       let e : word ns v ≡ newNumber met v = map-word g met v (reached-below g good v m) in
-      (subst (λ (k : ℕ). k < length met) (sym e) (number-below met v m), ap (λ (k : ℕ). getD met k 0) (e ∙ number-in met v m) ∙ place-at number-equality v met 0 m)
+      (subst (λ (k : ℕ). k < length met) (sym e) (number-below met v m), ap (λ (k : ℕ). getD met k 0) (e ∙ number-in met v m) ∙ position-at number-equality v met 0 m)
 
   renumbered : (v : ℕ) → In v met → map (newNumber met) (targetsIn g v) ≡ map (λ t. word ns t) (targetsIn g v)
   renumbered v m =
       same-map (newNumber met) (λ t. word ns t) (targetsIn g v) (λ t i. sym (map-word g met t (target-below g good v (reached-below g good v m) t i)))
 
-  pub kept-restricts : (room : length (gameOf (keptVertices g (reachedVertices g))) ≤ n)
-      → Restricts g (0 ∷ length vs ∷ length vs ∷ edgeCount vs ∷ []) (padded n (gameOf (keptVertices g (reachedVertices g)))) (vertexMap g (reachedVertices g)) (reachedVertices g)
+  pub kept-restricts : (room : length (gameOf 0 (keptVertices g (reachedVertices g))) ≤ n)
+      → Restricts g (Done (length vs) (length vs) (edgeCount vs))
+      (padded n (gameOf 0 (keptVertices g (reachedVertices g)))) (vertexMap g (reachedVertices g)) (reachedVertices g)
   kept-restricts room =
       let s = reached-searched g good in
       let whole : Whole h = whole-game vs n room in
@@ -127,7 +136,7 @@ module _ (g : List ℕ) (good : GoodGame g) (n : ℕ) where
         searched = s;
         exactly = exactly;
         once = distinct;
-        answer = ap₂ (λ (k m : ℕ). 0 ∷ k ∷ k ∷ m ∷ []) many (sym edges-are);
+        answer = ap₂ (λ (k m : ℕ). Done k k m) many (sym edges-are);
         first = (count-is, initial-is, met-first g met s .1);
         mapped = map-length g met;
         sends = λ v r. sent v (exactly v .1 r);
@@ -145,30 +154,31 @@ module _ (g : List ℕ) (good : GoodGame g) (n : ℕ) where
 
 module _ (g out numbers work : List ℕ) where
   abbrev Claim : Restricted → Type 0
-  Claim r = Restricts g (r .answer) (r .out) (r .numbers) (reachedVertices g)
+  Claim r = Restricts g (r .answer) (r .out) (r .mapping) (reachedVertices g)
 
   pub passed-restricts : restrictionRefusal g (length out) (length numbers) (length work) ≡ Passed
-      → Restricts g (restriction g out numbers work .answer) (restriction g out numbers work .out) (restriction g out numbers work .numbers) (reachedVertices g)
+      → Restricts g (restriction g out numbers work .answer) (restriction g out numbers work .out) (restriction g out numbers work .mapping) (reachedVertices g)
   unfolding restrictedTo
   passed-restricts e =
       let (a, b, c, d) = accepted-slices g (length out) (length numbers) (length work) e in
       let good = good-game g a in
       subst Claim (sym (restriction-passed g out numbers work e)) (kept-restricts g good (length out) (omega (arith, kept-fit g good)))
 
-  pub restriction-restricts : (¬ (word (restriction g out numbers work .answer) 0 ≡ 2))
-      → Restricts g (restriction g out numbers work .answer) (restriction g out numbers work .out) (restriction g out numbers work .numbers) (reachedVertices g)
-  restriction-restricts n = passed-restricts (not-two-passed g out numbers work n)
+  pub restriction-restricts : Accepted (restriction g out numbers work .answer)
+      → Restricts g (restriction g out numbers work .answer) (restriction g out numbers work .out) (restriction g out numbers work .mapping) (reachedVertices g)
+  restriction-restricts a = passed-restricts (accepted-passed g out numbers work a)
 
   -- the slices keep their lengths, and the work slice is then all zero
-  pub restriction-slices : (¬ (word (restriction g out numbers work .answer) 0 ≡ 2))
-      → (length (restriction g out numbers work .out) ≡ length out) × (length (restriction g out numbers work .numbers) ≡ length numbers) × (restriction g out numbers work .work ≡ zeros work)
+  pub restriction-slices : Accepted (restriction g out numbers work .answer)
+      → (length (restriction g out numbers work .out) ≡ length out) × (length (restriction g out numbers work .mapping) ≡ length numbers) × (restriction g out numbers work .work ≡ zeros work)
   unfolding restrictedTo
   restriction-slices n =
-      let e = not-two-passed g out numbers work n in
+      let e = accepted-passed g out numbers work n in
       let (a, b, c, d) = accepted-slices g (length out) (length numbers) (length work) e in
       let good = good-game g a in
       let r = restriction-passed g out numbers work e in (
-        ap (λ (x : Restricted). length (x .out)) r ∙ padded-length (length out) (gameOf (keptVertices g (reachedVertices g))) (omega (arith, kept-fit g good)),
-        ap (λ (x : Restricted). length (x .numbers)) r ∙ map-length g (reachedVertices g) ∙ sym c,
+        ap (λ (x : Restricted). length (x .out)) r
+            ∙ padded-length (length out) (gameOf 0 (keptVertices g (reachedVertices g))) (omega (arith, kept-fit g good)),
+        ap (λ (x : Restricted). length (x .mapping)) r ∙ map-length g (reachedVertices g) ∙ sym c,
         ap (λ (x : Restricted). x .work) r,
       )

@@ -10,14 +10,14 @@ use native.Mathlib.Decide.{ℕ-discrete}
 use lib.ListN.{length, getD}
 use lib.Dec.{eqb, ltb}
 use borrow.Author.Tests.{ltb-true, ltb-false}
-use Rattle.rules.specs.Lists.{In, Distinct, from, place, insertAll}
+use Rattle.rules.specs.Lists.{In, Distinct, from, position, insertAll}
 use Rattle.rules.specs.Reach.{Reachable, atRoot, onward}
 use Rattle.rules.specs.Game.{vertexCount, initialIn, targetsIn}
 use Rattle.rules.specs.Demands.{Numbers}
 use Rattle.rules.specs.Restrict.{searchFrom, reachedVertices}
 use Rattle.rules.specs.Restricts.{Searched, begun, gone}
 use Rattle.lists.specs.Shapes.{Begins}
-use Rattle.lists.proofs.Members.{in-at, place-below, place-at, no-more}
+use Rattle.lists.proofs.Members.{in-at, position-below, position-at, no-more}
 use Rattle.lists.proofs.Shapes.{begins-refl, begins-trans, begins-in, begins-at, begins-length}
 use Rattle.lists.proofs.Inserts.{inserts-begins, inserts-holds, inserts-distinct}
 use Rattle.lists.proofs.Equalities.{number-equality}
@@ -97,8 +97,8 @@ module _ (g : List ℕ) where
 
     pub met-closed : (v : ℕ) → In v met → (t : ℕ) → In t (targetsIn g v) → In t met
     met-closed v m t i =
-        searched-closed (length met) met s (place eqb v met) (place-below number-equality v met m) t
-        (subst (λ (u : ℕ). In t (targetsIn g u)) (sym (place-at number-equality v met 0 m)) i)
+        searched-closed (length met) met s (position eqb v met) (position-below number-equality v met m) t
+        (subst (λ (u : ℕ). In t (targetsIn g u)) (sym (position-at number-equality v met 0 m)) i)
 
     pub met-exactly : (v : ℕ) → In v met ↔ Reachable (targetsIn g) (initialIn g) v
     met-exactly v = (
@@ -164,6 +164,16 @@ module _ (g : List ℕ) where
     pub reached-searched : Searched g (length (reachedVertices g)) (reachedVertices g)
     unfolding reachedVertices
     reached-searched = search-all (vertexCount g) 0 (initialIn g ∷ []) (omega arith) begun
+
+    -- so all of them are found: every target of a vertex reached is reached
+    pub reached-all : (v : ℕ) → In v (reachedVertices g) → (t : ℕ) → In t (targetsIn g v) → In t (reachedVertices g)
+    reached-all = met-closed g (reachedVertices g) reached-searched
+
+    -- and more turns change nothing
+    pub turns-enough : (turns : ℕ) → vertexCount g ≤ turns → searchFrom g turns 0 (initialIn g ∷ []) ≡ reachedVertices g
+    turns-enough turns h =
+        met-once g (searchFrom g turns 0 (initialIn g ∷ [])) (reachedVertices g)
+        (search-all turns 0 (initialIn g ∷ []) (omega arith) begun) reached-searched
 
     pub reached-below : (v : ℕ) → In v (reachedVertices g) → v < vertexCount g
     reached-below = met-below (length (reachedVertices g)) (reachedVertices g) reached-searched

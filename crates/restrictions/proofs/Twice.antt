@@ -1,14 +1,17 @@
 -- Restricting twice: the result of a restriction, without the words past its end, is accepted, and its restriction gives the same words and sends each vertex to
 -- itself. Assumes nothing.
 use mathlib.Core.Path.{_≡_, sym, ap, _∙_, subst}
-use mathlib.Core.List.{List, [], _∷_, _++_, append-nil}
+use mathlib.Core.List.{List, [], _++_, append-nil}
 use Prim.Native.Nat.{ℕ, _+_, _-_, _<_}
 use native.Mathlib.Omega.{arith}
 use lib.ListN.{length, getD, take, replicate}
 use lib.Seq.{take-append-seam}
+use Rattle.rules.specs.declared.Answer.the-variants.{Done}
 use Rattle.rules.specs.declared.Check.the-variants.{Passed}
-use Rattle.rules.specs.Lists.{word, In, from, zeros}
-use Rattle.rules.specs.Game.{Vertex, waitingVertex, edgeCount, gameOf, padded, vertexCount, targetsIn, gameEnd}
+use Rattle.rules.specs.Lists.{In, from, zeros}
+use Rattle.rules.specs.Answers.{Accepted}
+use Rattle.rules.specs.Game.{Edge, Vertex, edgeTo, waitingVertex, edgeCount, gameOf, padded}
+use Rattle.rules.specs.Game.{vertexCount, targetsIn, gameEnd}
 use Rattle.rules.specs.GameRefusal.{gameRefusal}
 use Rattle.rules.specs.Restrict.{reachedVertices, newNumber, keptVertex, keptVertices, vertexMap, restrictionRefusal, Restricted, restrictedTo, restriction}
 use Rattle.rules.specs.Restricts.{Restricts}
@@ -20,20 +23,23 @@ use Rattle.restrictions.specs.Trimmed.{trimmed}
 use Rattle.restrictions.proofs.Accepted.{good-game, accepted-slices, slices-accepted}
 use Rattle.restrictions.proofs.Searching.{met-first, met-closed, met-distinct, reached-searched, reached-below, reached-few}
 use Rattle.restrictions.proofs.Kept.{number-below, kept-length, kept-at, edges-fit}
-use Rattle.restrictions.proofs.Restriction.{restriction-passed, passed-not-two, not-two-passed, kept-restricts, passed-restricts, restriction-slices}
+use Rattle.restrictions.proofs.Restriction.{restriction-passed, passed-accepted, accepted-passed, kept-restricts}
+use Rattle.restrictions.proofs.Restriction.{passed-restricts, restriction-slices}
 use Rattle.restrictions.proofs.Once.{restricts-once}
 use Rattle.restrictions.proofs.Again.{restricts-itself}
 
 -- ---- the words without those past the end
 
-pub trimmed-game : (vs : List Vertex) (n : ℕ) → trimmed (padded n (gameOf vs)) ≡ gameOf vs
+pub trimmed-game : (vs : List Vertex) (n : ℕ) → trimmed (padded n (gameOf 0 vs)) ≡ gameOf 0 vs
 unfolding trimmed padded
 trimmed-game vs n =
-    let e : gameEnd (gameOf vs ++ replicate (n - length (gameOf vs)) 0) ≡ length (gameOf vs) = end-is (replicate (n - length (gameOf vs)) 0) in
-    ap (λ (k : ℕ). take k (gameOf vs ++ replicate (n - length (gameOf vs)) 0)) e ∙ take-append-seam (gameOf vs) (replicate (n - length (gameOf vs)) 0)
+    let e : gameEnd (gameOf 0 vs ++ replicate (n - length (gameOf 0 vs)) 0) ≡ length (gameOf 0 vs)
+    = end-is (replicate (n - length (gameOf 0 vs)) 0) in
+    ap (λ (k : ℕ). take k (gameOf 0 vs ++ replicate (n - length (gameOf 0 vs)) 0)) e
+    ∙ take-append-seam (gameOf 0 vs) (replicate (n - length (gameOf 0 vs)) 0)
   where
-    end-is : (rest : List ℕ) → gameEnd (gameOf vs ++ rest) ≡ length (gameOf vs)
-    end-is rest = unfold gameOf in omega (arith, length-read vs [])
+    end-is : (rest : List ℕ) → gameEnd (gameOf 0 vs ++ rest) ≡ length (gameOf 0 vs)
+    end-is rest = unfold gameOf in omega (arith, length-read 0 vs)
 
 no-pad : (ws : List ℕ) → padded (length ws) ws ≡ ws
 unfolding padded
@@ -51,11 +57,13 @@ module _ (g : List ℕ) (passed : gameRefusal g ≡ Passed) where
   good : GoodGame g
   good = good-game g passed
 
-  inside : (u : ℕ) → u < length vs → (t : ℕ) → In t (getD vs u waitingVertex .edges) → t < length vs
+  inside : (u : ℕ) → u < length vs → (f : Edge) → In f (getD vs u waitingVertex .edges) → f .target < length vs
   unfolding keptVertex
-  inside u l t m =
+  inside u l f m =
       let k : u < length met = omega (arith, kept-length g met) in
-      let (q, i, e) = in-map (newNumber met) t (targetsIn g (getD met u 0)) (subst (λ (v : Vertex). In t (v .edges)) (kept-at g met u waitingVertex k) m) in
+      let (q, i, e) = in-map (λ t. edgeTo (newNumber met t)) f (targetsIn g (getD met u 0))
+      (subst (λ (v : Vertex). In f (v .edges)) (kept-at g met u waitingVertex k) m) in
+      let z : f .target ≡ newNumber met q = ap (λ (y : Edge). y .target) e in
       let b = number-below met q (met-closed g met (reached-searched g good) (getD met u 0) (in-at met u 0 k) q i) in
       omega (arith, kept-length g met)
 
@@ -65,7 +73,7 @@ module _ (g : List ℕ) (passed : gameRefusal g ≡ Passed) where
       let k : u < length met = omega (arith, kept-length g met) in
       subst (λ (v : Vertex). v .owner < 2) (sym (kept-at g met u waitingVertex k)) (good .owned (getD met u 0) (reached-below g good (getD met u 0) (in-at met u 0 k)))
 
-  pub result-accepted : gameRefusal (gameOf (keptVertices g (reachedVertices g))) ≡ Passed
+  pub result-accepted : gameRefusal (gameOf 0 (keptVertices g (reachedVertices g))) ≡ Passed
   result-accepted =
       owned-passes vs waitingVertex
       (omega (arith, met-first g met (reached-searched g good) .0, kept-length g met))
@@ -74,46 +82,47 @@ module _ (g : List ℕ) (passed : gameRefusal g ≡ Passed) where
       inside owned
 
   -- and is what `Restricts` says, in a slice of just its length
-  result-restricts : Restricts g (0 ∷ length vs ∷ length vs ∷ edgeCount vs ∷ []) (gameOf vs) (vertexMap g met) met
+  result-restricts : Restricts g (Done (length vs) (length vs) (edgeCount vs)) (gameOf 0 vs) (vertexMap g met) met
   result-restricts =
-      subst (λ (h : List ℕ). Restricts g (0 ∷ length vs ∷ length vs ∷ edgeCount vs ∷ []) h (vertexMap g met) met) (no-pad (gameOf vs))
-      (kept-restricts g good (length (gameOf vs)) (omega arith))
+      subst (λ (h : List ℕ). Restricts g (Done (length vs) (length vs) (edgeCount vs)) h (vertexMap g met) met)
+      (no-pad (gameOf 0 vs))
+      (kept-restricts g good (length (gameOf 0 vs)) (omega arith))
 
-  count-is : vertexCount (gameOf vs) ≡ length met
+  count-is : vertexCount (gameOf 0 vs) ≡ length met
   count-is = result-restricts .first .0
 
-  module _ (out numbers work : List ℕ) (a : length out ≡ length (gameOf (keptVertices g (reachedVertices g)))) (b : length numbers ≡ vertexCount (gameOf (keptVertices g (reachedVertices g))))
-      (c : length work ≡ vertexCount (gameOf (keptVertices g (reachedVertices g)))) where
+  module _ (out numbers work : List ℕ) (a : length out ≡ length (gameOf 0 (keptVertices g (reachedVertices g)))) (b : length numbers ≡ vertexCount (gameOf 0 (keptVertices g (reachedVertices g))))
+      (c : length work ≡ vertexCount (gameOf 0 (keptVertices g (reachedVertices g)))) where
     abbrev r : Restricted
-    r = restriction (gameOf vs) out numbers work
+    r = restriction (gameOf 0 vs) out numbers work
 
-    again-passed : restrictionRefusal (gameOf vs) (length out) (length numbers) (length work) ≡ Passed
-    again-passed = slices-accepted (gameOf vs) (length out) (length numbers) (length work) result-accepted a b c
+    again-passed : restrictionRefusal (gameOf 0 vs) (length out) (length numbers) (length work) ≡ Passed
+    again-passed = slices-accepted (gameOf 0 vs) (length out) (length numbers) (length work) result-accepted a b c
 
-    not-two : ¬ (word (r .answer) 0 ≡ 2)
-    not-two e = let z = passed-not-two (gameOf vs) out numbers work again-passed in omega arith
-
-    pub result-again : restriction (gameOf (keptVertices g (reachedVertices g))) out numbers work
+    pub result-again : restriction (gameOf 0 (keptVertices g (reachedVertices g))) out numbers work
         ≡ record {
-          answer = 0 ∷ length (keptVertices g (reachedVertices g)) ∷ length (keptVertices g (reachedVertices g)) ∷ edgeCount (keptVertices g (reachedVertices g)) ∷ [];
-          out = gameOf (keptVertices g (reachedVertices g));
-          numbers = from 0 (length (reachedVertices g));
+          answer = Done (length (keptVertices g (reachedVertices g))) (length (keptVertices g (reachedVertices g)))
+              (edgeCount (keptVertices g (reachedVertices g)));
+          out = gameOf 0 (keptVertices g (reachedVertices g));
+          mapping = from 0 (length (reachedVertices g));
           work = zeros work;
         }
     result-again =
-        let s = restriction-slices (gameOf vs) out numbers work not-two in
-        let (p, q, n, m) = restricts-once (gameOf vs) (r .answer) (r .out) (r .numbers) (reachedVertices (gameOf vs))
-        (0 ∷ length vs ∷ length vs ∷ edgeCount vs ∷ []) (gameOf vs) (from 0 (length met)) (from 0 (length met))
-        (passed-restricts (gameOf vs) out numbers work again-passed)
-        (restricts-itself g (0 ∷ length vs ∷ length vs ∷ edgeCount vs ∷ []) (gameOf vs) (vertexMap g met) met result-restricts)
+        let s = restriction-slices (gameOf 0 vs) out numbers work
+        (passed-accepted (gameOf 0 vs) out numbers work again-passed) in
+        let (p, q, n, m) = restricts-once (gameOf 0 vs) (r .answer) (r .out) (r .mapping) (reachedVertices (gameOf 0 vs))
+        (Done (length vs) (length vs) (edgeCount vs)) (gameOf 0 vs) (from 0 (length met)) (from 0 (length met))
+        (passed-restricts (gameOf 0 vs) out numbers work again-passed)
+        (restricts-itself g (Done (length vs) (length vs) (edgeCount vs)) (gameOf 0 vs) (vertexMap g met) met
+        result-restricts)
         (s .0 ∙ a) in
-        λ i. record { answer = p i; out = q i; numbers = n i; work = s .2 i }
+        λ i. record { answer = p i; out = q i; mapping = n i; work = s .2 i }
 
 -- ---- the theorem
 
-module _ (g out numbers work : List ℕ) (accepted : ¬ (word (restriction g out numbers work .answer) 0 ≡ 2)) where
+module _ (g out numbers work : List ℕ) (accepted : Accepted (restriction g out numbers work .answer)) where
   passed : restrictionRefusal g (length out) (length numbers) (length work) ≡ Passed
-  passed = not-two-passed g out numbers work accepted
+  passed = accepted-passed g out numbers work accepted
 
   game-passed : gameRefusal g ≡ Passed
   game-passed = accepted-slices g (length out) (length numbers) (length work) passed .0
@@ -121,12 +130,13 @@ module _ (g out numbers work : List ℕ) (accepted : ¬ (word (restriction g out
   once : restriction g out numbers work ≡ restrictedTo g (reachedVertices g) out work
   once = restriction-passed g out numbers work passed
 
-  pub restricted-trimmed : trimmed (restriction g out numbers work .out) ≡ gameOf (keptVertices g (reachedVertices g))
+  pub restricted-trimmed : trimmed (restriction g out numbers work .out) ≡ gameOf 0 (keptVertices g (reachedVertices g))
   unfolding restrictedTo
   restricted-trimmed = ap (λ (r : Restricted). trimmed (r .out)) once ∙ trimmed-game (keptVertices g (reachedVertices g)) (length out)
 
   answer-is : restriction g out numbers work .answer
-      ≡ 0 ∷ length (keptVertices g (reachedVertices g)) ∷ length (keptVertices g (reachedVertices g)) ∷ edgeCount (keptVertices g (reachedVertices g)) ∷ []
+      ≡ Done (length (keptVertices g (reachedVertices g))) (length (keptVertices g (reachedVertices g)))
+      (edgeCount (keptVertices g (reachedVertices g)))
   unfolding restrictedTo
   answer-is = ap (λ (r : Restricted). r .answer) once
 
@@ -136,12 +146,12 @@ module _ (g out numbers work : List ℕ) (accepted : ¬ (word (restriction g out
 
   pub restricted-twice : (h : List ℕ) → h ≡ trimmed (restriction g out numbers work .out)
       → (out′ numbers′ work′ : List ℕ) → length out′ ≡ length h → length numbers′ ≡ vertexCount h → length work′ ≡ vertexCount h
-      → restriction h out′ numbers′ work′ ≡ record { answer = restriction g out numbers work .answer; out = h; numbers = from 0 (vertexCount h); work = zeros work′ }
+      → restriction h out′ numbers′ work′ ≡ record { answer = restriction g out numbers work .answer; out = h; mapping = from 0 (vertexCount h); work = zeros work′ }
   restricted-twice h e out′ numbers′ work′ a b c =
-      let f : h ≡ gameOf (keptVertices g (reachedVertices g)) = e ∙ restricted-trimmed in
+      let f : h ≡ gameOf 0 (keptVertices g (reachedVertices g)) = e ∙ restricted-trimmed in
       let a′ = a ∙ ap length f in
       let b′ = b ∙ ap vertexCount f in
       let c′ = c ∙ ap vertexCount f in
       let n : length (reachedVertices g) ≡ vertexCount h = sym (ap vertexCount f ∙ count-is g game-passed) in
       ap (λ (w : List ℕ). restriction w out′ numbers′ work′) f ∙ result-again g game-passed out′ numbers′ work′ a′ b′ c′
-      ∙ (λ i. record { answer = sym answer-is i; out = sym f i; numbers = from 0 (n i); work = zeros work′ })
+      ∙ (λ i. record { answer = sym answer-is i; out = sym f i; mapping = from 0 (n i); work = zeros work′ })

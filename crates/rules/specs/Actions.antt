@@ -3,6 +3,7 @@
 use Prim.Native.Nat.{ℕ, zero, suc}
 use mathlib.Core.Bool.{Bool, true, false, not, _&&_, _||_}
 use mathlib.Core.List.{List}
+use mathlib.Core.Path.{_≡_}
 use lib.Dec.{eqb}
 use Rattle.rules.specs.Labels.{multiset}
 use Rattle.rules.specs.Table.{size, ActionNode, trueNode, falseNode, multiActionNode, unionNode, intersectionNode, negationNode, noActionNode, actionNode}
@@ -24,14 +25,18 @@ actionOf tree ls v (intersectionNode r) = intersection (tree (suc v)) (tree r)
 actionOf tree ls v negationNode = negation (tree (suc v))
 actionOf tree ls v noActionNode = neverAction
 
--- The tree of node v, read to a depth. Children have larger numbers, so the node count is deep enough (theorem `action-tree`: the tree is `actionOf` of
--- the trees)
+-- The tree of node v, read to a depth. Children have larger numbers, so the node count is deep enough:
+-- `ActionTreeEquation`
 unfoldable pub actionTo : (depth : ℕ) → List ℕ → List ℕ → ℕ → Action
 actionTo zero ls acts v = neverAction
 actionTo (suc d) ls acts v = actionOf (λ u. actionTo d ls acts u) ls v (actionNode acts v)
 
 unfoldable pub actionTree : List ℕ → List ℕ → ℕ → Action
 actionTree ls acts v = actionTo (size acts) ls acts v
+
+-- The tree of a node is `actionOf` of the trees (theorem `action-tree`: of each node of accepted words)
+abbrev pub ActionTreeEquation : List ℕ → List ℕ → ℕ → Type 0
+ActionTreeEquation ls acts v = actionTree ls acts v ≡ actionOf (actionTree ls acts) ls v (actionNode acts v)
 
 -- an action formula decided at a label's multiset
 unfoldable pub matches : ℕ → Action → Bool

@@ -1,4 +1,5 @@
 -- The answers of the calls (document 01, "Who can cause a refusal"). Assumes nothing: these are definitions.
+use mathlib.Core.Path.{_≡_}
 use Prim.Native.Nat.{ℕ}
 use mathlib.Core.Bool.{Bool, true, false}
 use mathlib.Core.List.{List, [], _∷_}
@@ -13,6 +14,16 @@ unfoldable pub said : Answer → List ℕ
 said (Done s v e) = 0 ∷ s ∷ v ∷ e ∷ []
 said (Cut s v e) = 1 ∷ s ∷ v ∷ e ∷ []
 said (Refused n p) = 2 ∷ n ∷ p ∷ 0 ∷ []
+
+-- these words are those of an answer of which P holds (theorem `said-once`: they are those of one answer only)
+abbrev pub Says : List ℕ → (Answer → Type 0) → Type 0
+Says ws P = (a : Answer) × (ws ≡ said a) × P a
+
+-- an answer other than Refused
+abbrev pub Accepted : Answer → Type 0
+Accepted (Done s v e) = Unit {0}
+Accepted (Cut s v e) = Unit {0}
+Accepted (Refused n p) = ⊥
 
 -- ---- checks
 

@@ -1,5 +1,6 @@
--- Demands 1 and 3 of a run, said of the answer's words and of the words that stand in the lent slices afterwards. No walk, stack or list of vertices is mentioned, but in
--- `pairsOf`, which the field `walked` pins. "Demand" quotes are from the project's mission. Assumes nothing: these are statements.
+-- Demands 1 and 3 of a run, said of the answer and of the words that stand in the lent slices afterwards. No definition
+-- of a run, of a walk with its stack or of a computed refusal is used: the demands can be held beside document 01 by
+-- themselves. Assumes nothing: these are statements.
 use mathlib.Core.Path.{_≡_}
 use mathlib.Core.Bool.{cond}
 use mathlib.Core.List.{List, [], _∷_, _++_, map}
@@ -9,17 +10,18 @@ use lib.ListN.{length, getD}
 use lib.Dec.{ltb}
 use Rattle.player.specs.Player.{playerIndex}
 use Rattle.player.specs.declared.Player.{Player}
-use Rattle.rules.specs.declared.Check.the-variants.{Passed, Fault}
+use Rattle.rules.specs.declared.Answer.{Answer}
+use Rattle.rules.specs.declared.Answer.the-variants.{Done, Cut, Refused}
 use Rattle.rules.specs.Lists.{word, sum, zeros, In, Distinct}
 use Rattle.rules.specs.Words.{Input, Room}
+use Rattle.rules.specs.Answers.{Accepted}
 use Rattle.rules.specs.System.{stateCount}
 use Rattle.rules.specs.Depth.{Ranking}
 use Rattle.rules.specs.Items.{items}
 use Rattle.rules.specs.Pairs.{Pair, initialPair, owner, priority, targets}
 use Rattle.rules.specs.Reach.{Reachable, reachablePairs, N}
 use Rattle.rules.specs.Game.{stuckPriority, vertexCount, edgesIn, initialIn, ownerIn, priorityIn, offsetIn, targetsIn, gameEnd}
-use Rattle.rules.specs.Refusal.{refusal}
-use Rattle.rules.specs.Run.{walkOf}
+use Rattle.rules.specs.Faulty.{FirstFaulty, Faultless}
 
 -- ---- 01's "One step" as a relation: no stack
 
@@ -48,10 +50,6 @@ unfoldable pub settledBelow : List ℕ → ℕ → ℕ
 settledBelow g zero = 0
 settledBelow g (suc v) = cond (ltb (ownerIn g v) 2) 1 0 + settledBelow g v
 
--- the pair of each vertex
-abbrev pub pairsOf : Input → ℕ → List Pair
-pairsOf x k = walkOf x k .known
-
 -- vertex v stands for the pair p
 abbrev pub Stands : Input → List Pair → ℕ → Pair → Type 0
 Stands x ps v p = (v < length ps) × (getD ps v (initialPair x) ≡ p)
@@ -78,18 +76,22 @@ pub record SettledRow (rank : Ranking) (x : Input) (g : List ℕ) (ps : List Pai
   pub leads : Lead x ps ruled (targets x p)
   pub total : Totalised v (owner x p) (priority rank x p) ruled (priorityIn g v) added
 
--- a: the answer's words; g: the game slice's words; ps: the pair of each vertex
-pub record CutTheorem (rank : Ranking) (x : Input) (k : ℕ) (a g : List ℕ) (ps : List Pair) : Type 0 where
-  -- "the settled vertices number exactly the smaller of k and N", and the answer's steps say so
+-- a: the answer; g: the game slice's words; ps: the pair of each vertex
+pub record CutTheorem (rank : Ranking) (x : Input) (k : ℕ) (a : Answer) (g : List ℕ) (ps : List Pair) : Type 0 where
+  -- demand 3: the settled vertices number exactly the smaller of k and N
   pub counted : settledBelow g (vertexCount g) ≡ min k (N x)
-  pub steps : word a 1 ≡ settledBelow g (vertexCount g)
-  pub sizes : (word a 2 ≡ vertexCount g) × (word a 3 ≡ edgesIn g) × (length ps ≡ vertexCount g)
+  -- demand 3: cut exactly when k < N. "Done (steps, vertices, edges), Cut (steps, vertices known, edges)"
+  pub answered : let s = settledBelow g (vertexCount g) in
+      a ≡ cond (ltb k (N x)) (Cut s (vertexCount g) (edgesIn g)) (Done s (vertexCount g) (edgesIn g))
+  -- each vertex has a pair of a state and an item
+  pub paired : length ps ≡ vertexCount g
+  pub inside : (p : Pair) → In p ps → (p .0 < stateCount (x .system)) × (p .1 < length (items x))
   -- "Vertex 0 is (initial state, equation 0)"
   pub first : (initialIn g ≡ 0) × Stands x ps 0 (initialPair x)
-  -- "distinct reachable pairs", waiting ones too
+  -- demand 3: distinct reachable pairs, waiting ones too
   pub distinct : Distinct ps
   pub reached : (p : Pair) → In p ps → Reachable (targets x) (initialPair x) p
-  -- "right owners, priorities, edges"
+  -- demand 3: right owners, priorities, edges
   pub settled : (v : ℕ) → v < vertexCount g → ownerIn g v < 2 → SettledRow rank x g ps v (getD ps v (initialPair x))
   pub waiting : (v : ℕ) → v < vertexCount g → (¬ (ownerIn g v < 2)) → (ownerIn g v ≡ 2) × (priorityIn g v ≡ 0) × (targetsIn g v ≡ [])
   -- which pairs are known, under which numbers, and which are settled is as 01's steps leave it, in a cut game too
@@ -101,20 +103,20 @@ pub record CutTheorem (rank : Ranking) (x : Input) (k : ℕ) (a g : List ℕ) (p
   pub follows : (v : ℕ) → v < vertexCount g → offsetIn g (suc v) ≡ offsetIn g v + length (targetsIn g v)
   pub ends : (offsetIn g (vertexCount g) ≡ edgesIn g) × (gameEnd g ≤ length g)
   pub past : (i : ℕ) → gameEnd g ≤ i → word g i ≡ 0
-  -- "N counted from the words alone": it is the number of all reachable pairs, and at most states times items
+  -- demand 3: N is counted from the words alone. It is the number of all reachable pairs, at most states times items
   pub exactly : (p : Pair) → In p (reachablePairs x) ↔ Reachable (targets x) (initialPair x) p
   pub once : Distinct (reachablePairs x)
   pub within : N x ≤ stateCount (x .system) * length (items x)
-  -- "cut exactly when k < N", and a vertex then waits
-  pub cut : word a 0 ≡ cond (ltb k (N x)) 1 0
+  -- in a cut game a vertex waits
   pub waits : k < N x → (v : ℕ) × (v < vertexCount g) × (ownerIn g v ≡ 2)
-  -- else the run finishes after exactly N steps, and every reachable pair is a settled vertex
-  pub finished : N x ≤ k → word a 1 ≡ N x
+  -- else the run ends after exactly N steps, and every reachable pair is a settled vertex
+  pub ended : N x ≤ k → a ≡ Done (N x) (vertexCount g) (edgesIn g)
   pub complete : N x ≤ k → (p : Pair) → Reachable (targets x) (initialPair x) p → (v : ℕ) × Stands x ps v p × (ownerIn g v < 2)
 
--- in every run that is not refused
-abbrev pub Demand3 : Ranking → Input → ℕ → List ℕ → List ℕ → Type 0
-Demand3 rank x k a g = (¬ (word a 0 ≡ 2)) → CutTheorem rank x k a g (pairsOf x k)
+-- in every run that is not refused there is a list of pairs such that the cut theorem holds; there is only one such
+-- list, answer and game (theorems `pairs-once`, `answer-once`, `game-once`)
+abbrev pub Demand3 : Ranking → Input → ℕ → Answer → List ℕ → Type 0
+Demand3 rank x k a g = Accepted a → (ps : List Pair) × CutTheorem rank x k a g ps
 
 -- ---- demand 1: the exact conditions of refusal, and what a refusal leaves
 
@@ -127,8 +129,14 @@ abbrev pub Exceeded : Input → Room → ℕ → Type 0
 Exceeded x r k = (j : ℕ) × (known : List Pair) × (settled : List ℕ) × (j ≤ k) × After (targets x) (initialPair x) j known settled
     × ((r .vertices < length known) ⊎ (r .edges < edgesAfter x known settled))
 
--- the slices at entry, the answer's words, the slices afterwards
-pub record Demand1 (x : Input) (r : Room) (k : ℕ) (game work a game′ work′ : List ℕ) : Type 0 where
-  pub refused : (n p : ℕ) → refusal x r (length game) (length work) ≡ Fault n p → (a ≡ 2 ∷ n ∷ p ∷ 0 ∷ []) × (game′ ≡ game) × (work′ ≡ work)
-  pub full : refusal x r (length game) (length work) ≡ Passed → Exceeded x r k → (a ≡ 2 ∷ 60 ∷ 0 ∷ 0 ∷ []) × (game′ ≡ zeros game) × (work′ ≡ zeros work)
-  pub accepted : refusal x r (length game) (length work) ≡ Passed → (¬ Exceeded x r k) → (¬ (word a 0 ≡ 2)) × (work′ ≡ zeros work)
+-- the slices at entry, the answer, the slices afterwards. Every run is of one of three kinds (theorem `kinds-of-run`)
+pub record Demand1 (x : Input) (r : Room) (k : ℕ) (game work : List ℕ) (a : Answer) (game′ work′ : List ℕ)
+    : Type 0 where
+  -- "Within a number the smallest place wins"; "Except for 60, a refusal alters nothing"
+  pub refused : (n p : ℕ) → FirstFaulty x r (length game) (length work) n p
+      → (a ≡ Refused n p) × (game′ ≡ game) × (work′ ≡ work)
+  -- "60 last"; "Game and work are then all zero"
+  pub full : Faultless x r (length game) (length work) → Exceeded x r k
+      → (a ≡ Refused 60 0) × (game′ ≡ zeros game) × (work′ ≡ zeros work)
+  -- "After Done and Cut the work slice is all zero"
+  pub accepted : Faultless x r (length game) (length work) → (¬ Exceeded x r k) → Accepted a × (work′ ≡ zeros work)

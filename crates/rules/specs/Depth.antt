@@ -1,6 +1,7 @@
 -- Depth and priority of an equation (document 01, "Depth"). Assumes nothing: these are definitions.
 use Prim.Native.Nat.{ℕ, zero, suc, _+_, _*_, _/_}
 use mathlib.Core.Bool.{cond}
+use mathlib.Core.Path.{_≡_}
 use mathlib.Core.List.{List, [], _∷_, _++_, map}
 use lib.Dec.{eqb, ltb}
 use Rattle.rules.specs.Lists.{largest}
@@ -30,13 +31,21 @@ unfoldable pub contribution : List ℕ → (t i j reading : ℕ) → ℕ
 contribution f t i j reading = cond (eqb j t) 1 (cond (ltb i j) (reading + alternates (equationOf f i .operator) (equationOf f j .operator)) 0)
 
 -- "To read equation i for target t, take the largest of these over the references in its body, 0 if there are none", read to a depth. Only later equations are entered,
--- so their count is deep enough (theorem `reading-equation`)
+-- so their count is deep enough: `ReadingEquation`
 unfoldable pub readingTo : (depth : ℕ) → Input → (t i : ℕ) → ℕ
 readingTo zero x t i = 0
 readingTo (suc d) x t i = largest (map (λ j. let r = readingTo d x t j in contribution (x .formula) t i j r) (references (bodyTree x (equationOf (x .formula) i))))
 
 unfoldable pub reading : Input → (t i : ℕ) → ℕ
 reading x t i = readingTo (equationCount (x .formula)) x t i
+
+-- The reading of an equation is the largest of what the references in its body count (theorem `reading-equation`: of
+-- each equation of accepted words)
+abbrev pub ReadingEquation : Input → (t i : ℕ) → Type 0
+ReadingEquation x t i =
+    reading x t i
+    ≡ largest
+    (map (λ j. contribution (x .formula) t i j (reading x t j)) (references (bodyTree x (equationOf (x .formula) i))))
 
 -- "The reading of an equation for itself is its depth d"
 unfoldable pub depth : Input → ℕ → ℕ

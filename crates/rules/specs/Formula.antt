@@ -1,18 +1,19 @@
 -- Equations and bodies (document 01, "Equations": "Nodes of kind 6 and 7, in table order, are equations 0, 1 and so on. If node 0 is neither, a placeholder
 -- least equation with the whole formula as body comes first. In a body each inner fixpoint stands as a reference to its own equation"). Assumes nothing: these are definitions.
 use Prim.Native.Nat.{ℕ, zero, suc, _-_}
-use mathlib.Core.Bool.{Bool, true, false, cond}
+use mathlib.Core.Bool.{Bool, cond}
 use mathlib.Core.List.{List, [], _∷_, _++_}
+use mathlib.Core.Option.{Option, none, some}
+use mathlib.Core.Path.{_≡_}
 use lib.ListN.{length, getD}
 use Rattle.rules.specs.Lists.{from, one}
 use Rattle.rules.specs.Words.{Input}
 use Rattle.rules.specs.Table.{size, FormulaNode, truthNode, falsityNode, andNode, orNode, boxNode, diamondNode, leastNode, greatestNode, referenceNode, noFormulaNode, formulaNode}
+use Rattle.rules.specs.Table.{isSome, fixpointOf}
+pub use Rattle.rules.specs.Table.{Operator, least, greatest}
 use Rattle.rules.specs.Actions.{Action, actionTree}
 
 -- ---- equations
-
-pub data Operator : Type 0 where
-  least greatest : Operator
 
 -- its operator, and the first node of its body
 pub record Equation : Type 0 where
@@ -20,29 +21,12 @@ pub record Equation : Type 0 where
   pub body : ℕ
 
 -- the equation of node v, if it is a fixpoint: its body is the next node
-unfoldable pub equationAt : ℕ → FormulaNode → List Equation
-equationAt v truthNode = []
-equationAt v falsityNode = []
-equationAt v (andNode r) = []
-equationAt v (orNode r) = []
-equationAt v (boxNode a) = []
-equationAt v (diamondNode a) = []
-equationAt v leastNode = record { operator = least; body = suc v } ∷ []
-equationAt v greatestNode = record { operator = greatest; body = suc v } ∷ []
-equationAt v (referenceNode u) = []
-equationAt v noFormulaNode = []
+unfoldable pub equationAt : ℕ → Option Operator → List Equation
+equationAt v none = []
+equationAt v (some o) = record { operator = o; body = suc v } ∷ []
 
 unfoldable pub isFixpoint : FormulaNode → Bool
-isFixpoint truthNode = false
-isFixpoint falsityNode = false
-isFixpoint (andNode r) = false
-isFixpoint (orNode r) = false
-isFixpoint (boxNode a) = false
-isFixpoint (diamondNode a) = false
-isFixpoint leastNode = true
-isFixpoint greatestNode = true
-isFixpoint (referenceNode u) = false
-isFixpoint noFormulaNode = false
+isFixpoint n = isSome (fixpointOf n)
 
 -- the placeholder, if node 0 is no fixpoint: its body is the whole formula
 unfoldable pub placeholder : List ℕ → List Equation
@@ -51,7 +35,7 @@ placeholder f = cond (isFixpoint (formulaNode f 0)) [] (record { operator = leas
 -- the equations that come before those of node v and later nodes
 unfoldable pub equationsBefore : List ℕ → ℕ → List Equation
 equationsBefore f zero = placeholder f
-equationsBefore f (suc v) = equationsBefore f v ++ equationAt v (formulaNode f v)
+equationsBefore f (suc v) = equationsBefore f v ++ equationAt v (fixpointOf (formulaNode f v))
 
 unfoldable pub equations : List ℕ → List Equation
 equations f = equationsBefore f (size f)
@@ -89,13 +73,18 @@ formulaOf tree x v greatestNode = reference (equationNumber (x .formula) v)
 formulaOf tree x v (referenceNode u) = reference (equationNumber (x .formula) u)
 formulaOf tree x v noFormulaNode = falsity
 
--- the subformula of node v as it stands in a body, read to a depth. The node count is deep enough (theorem `formula-tree`)
+-- the subformula of node v as it stands in a body, read to a depth. The node count is deep enough:
+-- `FormulaTreeEquation`
 unfoldable pub formulaTo : (depth : ℕ) → Input → ℕ → Formula
 formulaTo zero x v = falsity
 formulaTo (suc d) x v = formulaOf (λ u. formulaTo d x u) x v (formulaNode (x .formula) v)
 
 unfoldable pub formulaTree : Input → ℕ → Formula
 formulaTree x v = formulaTo (size (x .formula)) x v
+
+-- The subformula of a node is `formulaOf` of the subformulas (theorem `formula-tree`: of each node of accepted words)
+abbrev pub FormulaTreeEquation : Input → ℕ → Type 0
+FormulaTreeEquation x v = formulaTree x v ≡ formulaOf (formulaTree x) x v (formulaNode (x .formula) v)
 
 unfoldable pub bodyTree : Input → Equation → Formula
 bodyTree x e = formulaTree x (e .body)

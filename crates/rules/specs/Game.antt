@@ -6,44 +6,81 @@ use mathlib.Core.List.{List, [], _∷_, _++_, map}
 use lib.ListN.{getD, length, replicate}
 use lib.Seq.{slice}
 use lib.Dec.{eqb}
-use Rattle.player.specs.Player.{playerIndex}
+use Rattle.player.specs.Player.{playerIndex, otherPlayer}
 use Rattle.player.specs.declared.Player.{Player}
-use Rattle.player.specs.declared.Player.the-variants.{Even, Odd}
-use Rattle.rules.specs.Lists.{word, from, sum, has, place}
-use Rattle.rules.specs.Walk.{State}
+use Rattle.rules.specs.Lists.{word, from, sum, has, position}
+use Rattle.rules.specs.Walk.{Stand}
 
--- a vertex as the game's words show it
+-- an edge and a vertex as the game's words show them: what is written of each is a field here and a column below
+pub record Edge : Type 0 where
+  pub target : ℕ
+
 pub record Vertex : Type 0 where
   pub owner : ℕ
   pub priority : ℕ
-  pub edges : List ℕ
+  pub edges : List Edge
 
+abbrev pub edgeTo : ℕ → Edge
+edgeTo t = record { target = t }
+
+-- "A cut game shows a waiting vertex with owner 2, priority 0 and no edges"
 unfoldable pub waitingVertex : Vertex
 waitingVertex = record { owner = 2; priority = 0; edges = [] }
 
--- "A settled vertex without targets gets an edge to itself, and priority 0 if Odd, 1 if Even"
-unfoldable pub stuckPriority : Player → ℕ
-stuckPriority Even = 1
-stuckPriority Odd = 0
+-- ---- what the rules give a settled vertex
 
-unfoldable pub settledVertex : ℕ → Player → ℕ → List ℕ → Vertex
-settledVertex v o p [] = record { owner = playerIndex o; priority = stuckPriority o; edges = v ∷ [] }
-settledVertex v o p (t ∷ ts) = record { owner = playerIndex o; priority = p; edges = t ∷ ts }
+-- the owner, the priority and the edges that "One step" gives
+pub record Ruled : Type 0 where
+  pub owner : Player
+  pub priority : ℕ
+  pub edges : List Edge
+
+-- "priority 0 if Odd, 1 if Even": the opponent's index
+unfoldable pub stuckPriority : Player → ℕ
+stuckPriority o = playerIndex (otherPlayer o)
+
+-- "A settled vertex without targets gets an edge to itself, and priority 0 if Odd, 1 if Even": vertex v, to which the
+-- rules give r and these edges
+unfoldable pub totalisedBy : List Edge → ℕ → Ruled → Ruled
+totalisedBy [] v r = record { owner = r .owner; priority = stuckPriority (r .owner); edges = edgeTo v ∷ [] }
+totalisedBy (e ∷ es) v r = r
+
+unfoldable pub totalised : ℕ → Ruled → Ruled
+totalised v r = totalisedBy (r .edges) v r
+
+-- as words
+unfoldable pub settledVertex : Ruled → Vertex
+settledVertex r = record { owner = playerIndex (r .owner); priority = r .priority; edges = r .edges }
 
 -- ---- the vertices where a walk stands
 
 module _ {A : Type 0} (same : A → A → Bool) (next : A → List A) (root : A) (owner : A → Player) (priority : A → ℕ) where
-  -- vertex v: its edges lead, in order, to the vertices that stand for its pair's targets
-  unfoldable pub vertexAt : State A → ℕ → Vertex
+  -- what the rules give pair p: its edges lead, in order, to the vertices that stand for its targets
+  unfoldable pub ruledVertex : Stand A → A → Ruled
+  ruledVertex st p =
+      record { owner = owner p; priority = priority p; edges = map (λ q. edgeTo (position same q (st .known))) (next p) }
+
+  unfoldable pub vertexAt : Stand A → ℕ → Vertex
   vertexAt st v =
-      let p = getD (st .known) v root in
-      let settled = settledVertex v (owner p) (priority p) (map (λ q. place same q (st .known)) (next p)) in
+      let settled = settledVertex (totalised v (ruledVertex st (getD (st .known) v root))) in
       cond (has eqb v (st .waiting)) waitingVertex settled
 
-  unfoldable pub vertices : State A → List Vertex
+  unfoldable pub vertices : Stand A → List Vertex
   vertices st = map (vertexAt st) (from 0 (length (st .known)))
 
--- ---- the words of a game that begins at vertex 0
+-- ---- the words of a game
+
+-- "owners and priorities": what the game has of each vertex
+abbrev pub vertexColumns : List (Vertex → ℕ)
+vertexColumns = (λ v. v .owner) ∷ (λ v. v .priority) ∷ []
+
+-- "then the targets": what it has of each edge
+abbrev pub edgeColumns : List (Edge → ℕ)
+edgeColumns = (λ e. e .target) ∷ []
+
+-- n vertices and m edges: "4 + 3n + m", the offsets being "one more than there are vertices"
+abbrev pub gameWords : (n m : ℕ) → ℕ
+gameWords n m = 4 + (length vertexColumns + 1) * n + length edgeColumns * m
 
 unfoldable pub edgeCount : List Vertex → ℕ
 edgeCount vs = sum (map (λ v. length (v .edges)) vs)
@@ -53,21 +90,26 @@ unfoldable pub offsets : ℕ → List Vertex → List ℕ
 offsets e [] = e ∷ []
 offsets e (v ∷ vs) = e ∷ offsets (e + length (v .edges)) vs
 
--- the edges' targets, grouped by vertex
-unfoldable pub edgeTargets : List Vertex → List ℕ
-edgeTargets [] = []
-edgeTargets (v ∷ vs) = v .edges ++ edgeTargets vs
+-- "Edges stand grouped by vertex"
+unfoldable pub allEdges : List Vertex → List Edge
+allEdges [] = []
+allEdges (v ∷ vs) = v .edges ++ allEdges vs
 
-unfoldable pub gameOf : List Vertex → List ℕ
-gameOf vs =
-    length vs ∷ edgeCount vs ∷ 0
-    ∷ (map (λ v. v .owner) vs ++ (map (λ v. v .priority) vs ++ (offsets 0 vs ++ edgeTargets vs)))
+-- one column after another
+unfoldable pub columns : {A : Type 0} → List (A → ℕ) → List A → List ℕ
+columns [] xs = []
+columns (f ∷ fs) xs = map f xs ++ columns fs xs
+
+unfoldable pub gameOf : (initial : ℕ) → List Vertex → List ℕ
+gameOf initial vs =
+    length vs ∷ edgeCount vs ∷ initial
+    ∷ (columns vertexColumns vs ++ (offsets 0 vs ++ columns edgeColumns (allEdges vs)))
 
 -- the words, and zeros up to n words
 unfoldable pub padded : ℕ → List ℕ → List ℕ
 padded n ws = ws ++ replicate (n - length ws) 0
 
--- ---- reading the words of a game
+-- ---- reading the words of a game, by the column's number
 
 abbrev pub vertexCount : List ℕ → ℕ
 vertexCount g = word g 0
@@ -78,20 +120,41 @@ edgesIn g = word g 1
 abbrev pub initialIn : List ℕ → ℕ
 initialIn g = word g 2
 
-abbrev pub ownerIn : List ℕ → ℕ → ℕ
-ownerIn g v = word g (3 + v)
+-- where a column of the vertices begins, where the offsets do, and where a column of the edges does
+abbrev pub vertexColumnAt : List ℕ → (column : ℕ) → ℕ
+vertexColumnAt g column = 3 + column * vertexCount g
 
-abbrev pub priorityIn : List ℕ → ℕ → ℕ
-priorityIn g v = word g (3 + vertexCount g + v)
+abbrev pub offsetsAt : List ℕ → ℕ
+offsetsAt g = vertexColumnAt g (length vertexColumns)
 
-abbrev pub offsetIn : List ℕ → ℕ → ℕ
-offsetIn g v = word g (3 + 2 * vertexCount g + v)
-
-abbrev pub targetsAt : List ℕ → ℕ
-targetsAt g = 4 + 3 * vertexCount g
-
-abbrev pub targetsIn : List ℕ → ℕ → List ℕ
-targetsIn g v = slice (targetsAt g + offsetIn g v) (targetsAt g + offsetIn g (suc v)) g
+abbrev pub edgeColumnAt : List ℕ → (column : ℕ) → ℕ
+edgeColumnAt g column = 4 + (length vertexColumns + 1) * vertexCount g + column * edgesIn g
 
 abbrev pub gameEnd : List ℕ → ℕ
-gameEnd g = targetsAt g + edgesIn g
+gameEnd g = gameWords (vertexCount g) (edgesIn g)
+
+-- the word of vertex v, and that of edge e
+abbrev pub vertexWord : List ℕ → (column v : ℕ) → ℕ
+vertexWord g column v = word g (vertexColumnAt g column + v)
+
+abbrev pub edgeWord : List ℕ → (column e : ℕ) → ℕ
+edgeWord g column e = word g (edgeColumnAt g column + e)
+
+abbrev pub offsetIn : List ℕ → ℕ → ℕ
+offsetIn g v = word g (offsetsAt g + v)
+
+-- where the words of the edges of vertex v begin, and these words
+abbrev pub edgesFrom : List ℕ → (column v : ℕ) → ℕ
+edgesFrom g column v = edgeColumnAt g column + offsetIn g v
+
+abbrev pub edgeWordsIn : List ℕ → (column v : ℕ) → List ℕ
+edgeWordsIn g column v = slice (edgesFrom g column v) (edgesFrom g column (suc v)) g
+
+abbrev pub ownerIn : List ℕ → ℕ → ℕ
+ownerIn g v = vertexWord g 0 v
+
+abbrev pub priorityIn : List ℕ → ℕ → ℕ
+priorityIn g v = vertexWord g 1 v
+
+abbrev pub targetsIn : List ℕ → ℕ → List ℕ
+targetsIn g v = edgeWordsIn g 0 v

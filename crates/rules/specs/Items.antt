@@ -4,7 +4,7 @@ use Prim.Native.Nat.{ℕ, _+_}
 use mathlib.Core.Bool.{Bool, true, false, _&&_}
 use mathlib.Core.List.{List, _++_, map}
 use lib.Dec.{eqb}
-use Rattle.rules.specs.Lists.{place, once}
+use Rattle.rules.specs.Lists.{position, once}
 use Rattle.rules.specs.Words.{Input}
 use Rattle.rules.specs.Actions.{Action, anyAction, neverAction, multiAction, union, intersection, negation}
 use Rattle.rules.specs.Formula.{Equation, equations, equationCount, Formula, truth, falsity, conjunction, disjunction, box, diamond, reference, formulaTree, bodyNodes}
@@ -56,4 +56,4 @@ items x = map equation (equations (x .formula)) ++ map subformula (subformulas x
 
 -- the item number of a subformula. An equation's item number is its own
 unfoldable pub itemNumber : Input → Formula → ℕ
-itemNumber x f = equationCount (x .formula) + place alike f (subformulas x)
+itemNumber x f = equationCount (x .formula) + position alike f (subformulas x)

@@ -1,4 +1,5 @@
--- Labels (document 01, "Words handed over": "L, A; A label numbers; A action numbers. A label is the multiset of its actions"). Assumes nothing: these are definitions.
+-- Labels (document 01, "Words handed over": "L (0 to 4,096), A (0 to 16,384); A label numbers, never falling; A action
+-- numbers, any value"; "A label is the multiset of its actions"). Assumes nothing: these are definitions.
 use Prim.Native.Nat.{ℕ, _+_}
 use mathlib.Core.Bool.{Bool, _&&_}
 use mathlib.Core.List.{List}

@@ -12,11 +12,14 @@ pub mod Pairs
 pub mod Walk
 pub mod Reach
 pub mod Game
+pub mod Rows
+pub mod Faulty
 pub mod Refusal
+pub mod FaultyGame
 pub mod GameRefusal
 pub mod Run
-pub mod Good
 pub mod Demands
 pub mod Restrict
 pub mod Restricts
+pub mod Texts
 pub mod Program

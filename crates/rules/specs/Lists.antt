@@ -30,7 +30,7 @@ largest (x ∷ xs) = max x (largest xs)
 unfoldable pub zeros : List ℕ → List ℕ
 zeros ws = replicate (length ws) 0
 
--- ---- the places p, p + 1, .. (n of them) at which a test holds
+-- ---- the positions p, p + 1, .. (n of them) at which a test holds
 
 -- 1 if it holds
 abbrev pub one : Bool → ℕ
@@ -47,7 +47,7 @@ unfoldable pub every : (ℕ → Bool) → ℕ → ℕ → Bool
 every f p zero = true
 every f p (suc n) = every f p n && f (p + n)
 
--- the first of them, or the place after them if there is none
+-- the first of them, or the position after them if there is none
 unfoldable pub seek : (ℕ → Bool) → ℕ → ℕ → ℕ
 seek f p zero = p
 seek f p (suc n) = let later = seek f (suc p) n in cond (f p) p later
@@ -56,6 +56,11 @@ seek f p (suc n) = let later = seek f (suc p) n in cond (f p) p later
 unfoldable pub sumWords : List ℕ → ℕ → ℕ → ℕ
 sumWords ws p zero = 0
 sumWords ws p (suc n) = sumWords ws p n + word ws (p + n)
+
+-- the elements for which a test holds, in order
+unfoldable pub filter : {A : Type 0} → (A → Bool) → List A → List A
+filter f [] = []
+filter f (x ∷ xs) = let rest = filter f xs in cond (f x) (x ∷ rest) rest
 
 -- ---- membership
 
@@ -74,10 +79,10 @@ module _ {A : Type 0} (same : A → A → Bool) where
   has a [] = false
   has a (b ∷ bs) = same a b || has a bs
 
-  -- the place of a, and the length where it has none
-  unfoldable pub place : A → List A → ℕ
-  place a [] = 0
-  place a (b ∷ bs) = let later = suc (place a bs) in cond (same a b) 0 later
+  -- the position of a, and the length where it has none
+  unfoldable pub position : A → List A → ℕ
+  position a [] = 0
+  position a (b ∷ bs) = let later = suc (position a bs) in cond (same a b) 0 later
 
   -- the list with x at its end, unless it has it already
   unfoldable pub insert : List A → A → List A

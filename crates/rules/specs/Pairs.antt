@@ -6,10 +6,10 @@ use lib.ListN.{getD}
 use lib.Dec.{eqb, ltb}
 use Rattle.player.specs.declared.Player.{Player}
 use Rattle.player.specs.declared.Player.the-variants.{Even, Odd}
-use Rattle.rules.specs.Lists.{once}
+use Rattle.rules.specs.Lists.{filter, once}
 use Rattle.rules.specs.Words.{Input}
 use Rattle.rules.specs.Labels.{multiset}
-use Rattle.rules.specs.System.{initialState, transitions}
+use Rattle.rules.specs.System.{initialState, transitionLabel, transitionTarget, transitions}
 use Rattle.rules.specs.Actions.{Action, matches}
 use Rattle.rules.specs.Formula.{Operator, least, greatest, equationCount, Formula, truth, falsity, conjunction, disjunction, box, diamond, reference, bodyTree}
 use Rattle.rules.specs.Depth.{Ranking}
@@ -59,14 +59,14 @@ priority rank x p = let ranked = rank x (p .1) in cond (ltb (p .1) (equationCoun
 
 -- ---- targets
 
--- the target states of those transitions whose label matches, in order
-unfoldable pub matching : List ℕ → Action → List (ℕ × ℕ) → List ℕ
-matching ls a [] = []
-matching ls a (t ∷ ts) = let rest = matching ls a ts in cond (matches (multiset ls (t .0)) a) (t .1 ∷ rest) rest
+-- "each matching transition in order": the numbers of the state's transitions whose label has a multiset that matches
+unfoldable pub matchingTransitions : Input → Action → (state : ℕ) → List ℕ
+matchingTransitions x a s =
+    filter (λ t. matches (multiset (x .labels) (transitionLabel (x .system) t)) a) (transitions (x .system) s)
 
 -- "For each matching transition in order, an edge to (target state, operand), once per target"
 unfoldable pub successors : Input → Action → ℕ → List ℕ
-successors x a s = once eqb (matching (x .labels) a (transitions (x .system) s))
+successors x a s = once eqb (map (transitionTarget (x .system)) (matchingTransitions x a s))
 
 unfoldable pub formulaTargets : Input → ℕ → Formula → List Pair
 formulaTargets x s truth = []

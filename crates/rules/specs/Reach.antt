@@ -26,7 +26,7 @@ module _ {A : Type 0} (same : A → A → Bool) (next : A → List A) (root : A)
   reachedIn zero = root ∷ []
   reachedIn (suc k) = let before = reachedIn k in insertAll same before (allTargets before)
 
--- "states times items": no chain needs more targets than there are pairs
+-- states times items: no chain needs more targets than there are pairs
 abbrev pub pairCount : Input → ℕ
 pairCount x = stateCount (x .system) * length (items x)
 

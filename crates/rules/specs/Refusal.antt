@@ -14,8 +14,9 @@ use Rattle.rules.specs.Words.{Input, Room, mostLabels, mostActions, most
 use Rattle.rules.specs.Answers.{faultIf, firstFault}
 use Rattle.rules.specs.Labels.{labelCount, actionCount}
 use Rattle.rules.specs.System.{stateCount, transitionCount, initialState}
-use Rattle.rules.specs.Table.{size, kind, operand, ActionNode, trueNode, falseNode, multiActionNode, unionNode, intersectionNode, negationNode, noActionNode, actionNode, actionChildren}
-use Rattle.rules.specs.Table.{FormulaNode, truthNode, falsityNode, andNode, orNode, boxNode, diamondNode, leastNode, greatestNode, referenceNode, noFormulaNode, formulaNode, formulaChildren}
+use Rattle.rules.specs.Table.{size, kind, operand, OperandRule, zeroOperand, rightChild, outsideName, notJudged}
+use Rattle.rules.specs.Table.{actionNode, actionShape, actionChildren}
+use Rattle.rules.specs.Table.{formulaNode, formulaShape, formulaChildren, referenceOf}
 use Rattle.rules.specs.Table.{treeEnd, isNotEnd, isBeforeEnd, onRow}
 use Rattle.rules.specs.Formula.{isFixpoint}
 
@@ -108,20 +109,19 @@ refusal32 acts = faultIf 32 0 (ltb mostNodes (size acts))
 unfoldable pub refusal33 : List ℕ → Check
 refusal33 acts = faultFrom 33 0 (size acts) (λ v. ltb 5 (kind acts v))
 
--- the operand of node v is wrong: "Operands of 0, 1, 5 are 0"; of a multi-action a label (decision A4); of 3 and 4 the right child, which "isn't judged if its left
--- tree is unfinished" (decisions A5 to A7). `end` is where the tree of the next node ends
-unfoldable pub wrongActionOperand : (labels operand : ℕ) → (end : Option ℕ) → ActionNode → Bool
-wrongActionOperand labels o end trueNode = differ o 0
-wrongActionOperand labels o end falseNode = differ o 0
-wrongActionOperand labels o end (multiActionNode l) = leb labels l
-wrongActionOperand labels o end (unionNode r) = isNotEnd r end
-wrongActionOperand labels o end (intersectionNode r) = isNotEnd r end
-wrongActionOperand labels o end negationNode = differ o 0
-wrongActionOperand labels o end noActionNode = false
+-- An operand is not what the rule of its node asks, in any table. `end` is where the tree of the next node ends: "a
+-- right-child operand isn't judged if its left tree is unfinished" (decisions A5 to A7)
+unfoldable pub wrongOperand : (namesNothing : ℕ → Bool) → (operand : ℕ) → (end : Option ℕ) → OperandRule → Bool
+wrongOperand namesNothing o end zeroOperand = differ o 0
+wrongOperand namesNothing o end rightChild = isNotEnd o end
+wrongOperand namesNothing o end outsideName = namesNothing o
+wrongOperand namesNothing o end notJudged = false
 
+-- the operand of node v is wrong; that of a multi-action names a label (decision A4)
 unfoldable pub badActionOperand : List ℕ → List ℕ → ℕ → Bool
 badActionOperand ls acts v =
-    wrongActionOperand (labelCount ls) (operand acts v) (treeEnd (actionChildren acts) (size acts) (suc v)) (actionNode acts v)
+    wrongOperand (leb (labelCount ls)) (operand acts v) (treeEnd (actionChildren acts) (size acts) (suc v))
+    (actionShape (actionNode acts v) .rule)
 
 -- "34: operand or unfinished tree"
 unfoldable pub refusal34 : List ℕ → List ℕ → Check
@@ -147,22 +147,11 @@ refusal43 f = faultFrom 43 0 (size f) (λ v. ltb 8 (kind f v))
 unfoldable pub namesNoTree : List ℕ → ℕ → Bool
 namesNoTree acts a = leb (size acts) a || not (onRow (actionChildren acts) (size acts) a)
 
--- the operand of node v is wrong: "Operands of 0, 1, 6, 7 are 0"; of 2 and 3 the right child; of 4 and 5 an action formula; the operand of a reference is judged by 45
-unfoldable pub wrongFormulaOperand : List ℕ → (operand : ℕ) → (end : Option ℕ) → FormulaNode → Bool
-wrongFormulaOperand acts o end truthNode = differ o 0
-wrongFormulaOperand acts o end falsityNode = differ o 0
-wrongFormulaOperand acts o end (andNode r) = isNotEnd r end
-wrongFormulaOperand acts o end (orNode r) = isNotEnd r end
-wrongFormulaOperand acts o end (boxNode a) = namesNoTree acts a
-wrongFormulaOperand acts o end (diamondNode a) = namesNoTree acts a
-wrongFormulaOperand acts o end leastNode = differ o 0
-wrongFormulaOperand acts o end greatestNode = differ o 0
-wrongFormulaOperand acts o end (referenceNode u) = false
-wrongFormulaOperand acts o end noFormulaNode = false
-
-unfoldable pub badFormulaOperand : List ℕ → List ℕ → ℕ → Bool
-badFormulaOperand acts f v =
-    wrongFormulaOperand acts (operand f v) (treeEnd (formulaChildren f) (size f) (suc v)) (formulaNode f v)
+-- the operand of node v is wrong; that of a modality names a tree, that of a reference is judged by 45
+unfoldable pub badFormulaOperand : (namesNoTree : ℕ → Bool) → List ℕ → ℕ → Bool
+badFormulaOperand noTree f v =
+    wrongOperand noTree (operand f v) (treeEnd (formulaChildren f) (size f) (suc v))
+    (formulaShape (formulaNode f v) .rule)
 
 -- the formula's tree is unfinished, or nodes are left over past its end
 unfoldable pub wrongEnd : (size : ℕ) → Option ℕ → Check
@@ -170,30 +159,23 @@ wrongEnd n none = Fault 44 n
 wrongEnd n (some e) = faultIf 44 e (ltb e n)
 
 -- "44: operand of kinds 0 to 7, unfinished tree, or nodes left over": one pool (decision A12)
-unfoldable pub refusal44 : List ℕ → List ℕ → Check
-refusal44 acts f =
-    lowerFault (faultFrom 44 0 (size f) (badFormulaOperand acts f)) (wrongEnd (size f) (treeEnd (formulaChildren f) (size f) 0))
+unfoldable pub refusal44 : (namesNoTree : ℕ → Bool) → List ℕ → Check
+refusal44 noTree f =
+    lowerFault (faultFrom 44 0 (size f) (badFormulaOperand noTree f))
+    (wrongEnd (size f) (treeEnd (formulaChildren f) (size f) 0))
 
 -- node v stands in the tree of node u, below u
 unfoldable pub encloses : List ℕ → (u v : ℕ) → Bool
 encloses f u v = ltb u v && isBeforeEnd v (treeEnd (formulaChildren f) (size f) u)
 
 -- node v is a reference to something other than an enclosing fixpoint
-unfoldable pub wrongReference : List ℕ → ℕ → FormulaNode → Bool
-wrongReference f v truthNode = false
-wrongReference f v falsityNode = false
-wrongReference f v (andNode r) = false
-wrongReference f v (orNode r) = false
-wrongReference f v (boxNode a) = false
-wrongReference f v (diamondNode a) = false
-wrongReference f v leastNode = false
-wrongReference f v greatestNode = false
-wrongReference f v (referenceNode u) = not (isFixpoint (formulaNode f u) && encloses f u v)
-wrongReference f v noFormulaNode = false
+unfoldable pub wrongReference : List ℕ → ℕ → Option ℕ → Bool
+wrongReference f v none = false
+wrongReference f v (some u) = not (isFixpoint (formulaNode f u) && encloses f u v)
 
 -- "45: reference" (decision A9)
 unfoldable pub refusal45 : List ℕ → Check
-refusal45 f = faultFrom 45 0 (size f) (λ v. wrongReference f v (formulaNode f v))
+refusal45 f = faultFrom 45 0 (size f) (λ v. wrongReference f v (referenceOf (formulaNode f v)))
 
 -- ---- "Order for a run: 1, 2, then ascending, 60 last": 60 stands in Run
 
@@ -204,7 +186,8 @@ inputRefusal x =
     ∷ refusal21 (x .system) ∷ refusal22 (x .system) ∷ refusal23 (x .system) ∷ refusal24 (x .system)
     ∷ refusal25 (x .labels) (x .system) ∷ refusal26 (x .system)
     ∷ refusal31 (x .actions) ∷ refusal32 (x .actions) ∷ refusal33 (x .actions) ∷ refusal34 (x .labels) (x .actions)
-    ∷ refusal41 (x .formula) ∷ refusal42 (x .formula) ∷ refusal43 (x .formula) ∷ refusal44 (x .actions) (x .formula) ∷ refusal45 (x .formula)
+    ∷ refusal41 (x .formula) ∷ refusal42 (x .formula) ∷ refusal43 (x .formula)
+    ∷ refusal44 (namesNoTree (x .actions)) (x .formula) ∷ refusal45 (x .formula)
     ∷ [])
 
 -- the lengths are those of the game slice and the work slice

@@ -5,25 +5,29 @@ use mathlib.Core.Bool.{cond, _||_}
 use mathlib.Core.List.{List, [], _∷_, map}
 use lib.ListN.{length, getD}
 use lib.Dec.{eqb, ltb}
+use Rattle.rules.specs.declared.Answer.{Answer}
+use Rattle.rules.specs.declared.Answer.the-variants.{Done, Refused}
 use Rattle.rules.specs.declared.Check.{Check}
 use Rattle.rules.specs.declared.Check.the-variants.{Passed, Fault}
-use Rattle.rules.specs.Lists.{from, zeros, has, place, insertAll}
+use Rattle.rules.specs.Lists.{from, zeros, has, position, insertAll}
 use Rattle.rules.specs.Answers.{faultIf, andThen}
-use Rattle.rules.specs.Game.{Vertex, edgeCount, gameOf, padded, vertexCount, initialIn, ownerIn, priorityIn, targetsIn}
+use Rattle.rules.specs.Game.{Vertex, edgeTo, edgeCount, gameOf, padded}
+use Rattle.rules.specs.Game.{vertexCount, initialIn, ownerIn, priorityIn, targetsIn}
 use Rattle.rules.specs.Refusal.{differ}
 use Rattle.rules.specs.GameRefusal.{gameRefusal}
 
 -- ---- the search
 
 -- The vertices met, by their new numbers, once those numbered from i on have been gone through in turn, at most `turns` of them: the targets of each that are new
--- get the next numbers, in order
+-- get the next numbers, in order. Without turns it is the relation `Searched` (theorem `reached-searched`)
 unfoldable pub searchFrom : List ℕ → (turns i : ℕ) → List ℕ → List ℕ
 searchFrom g zero i met = met
 searchFrom g (suc turns) i met =
     let more = searchFrom g turns (suc i) (insertAll eqb met (targetsIn g (getD met i 0))) in
     cond (ltb i (length met)) more met
 
--- the vertices reached: no more are gone through than there are (theorem `reached-all`)
+-- The vertices reached. No more are gone through than there are: in an accepted game every target of a vertex reached
+-- is reached (theorem `reached-all`), and more turns change nothing (theorem `turns-enough`)
 unfoldable pub reachedVertices : List ℕ → List ℕ
 reachedVertices g = searchFrom g (vertexCount g) 0 (initialIn g ∷ [])
 
@@ -31,10 +35,15 @@ reachedVertices g = searchFrom g (vertexCount g) 0 (initialIn g ∷ [])
 
 -- the new number of vertex v, given the vertices reached
 unfoldable pub newNumber : List ℕ → ℕ → ℕ
-newNumber met v = cond (has eqb v met) (place eqb v met) 4_294_967_295
+newNumber met v = cond (has eqb v met) (position eqb v met) 4_294_967_295
 
 unfoldable pub keptVertex : List ℕ → List ℕ → ℕ → Vertex
-keptVertex g met v = record { owner = ownerIn g v; priority = priorityIn g v; edges = map (newNumber met) (targetsIn g v) }
+keptVertex g met v =
+    record {
+      owner = ownerIn g v;
+      priority = priorityIn g v;
+      edges = map (λ t. edgeTo (newNumber met t)) (targetsIn g v);
+    }
 
 unfoldable pub keptVertices : List ℕ → List ℕ → List Vertex
 keptVertices g met = map (keptVertex g met) met
@@ -45,28 +54,33 @@ vertexMap g met = map (newNumber met) (from 0 (vertexCount g))
 -- ---- the answer, and what the lent slices hold afterwards
 
 -- "For the restriction: output as long as the input, map and work as many words as vertices"; "51, 52, 53, then 2". The lengths are those of the lent slices
-unfoldable pub restrictionRefusal : List ℕ → (out numbers work : ℕ) → Check
-restrictionRefusal g out numbers work =
-    andThen (gameRefusal g) (faultIf 2 0 (differ out (length g) || (differ numbers (vertexCount g) || differ work (vertexCount g))))
+unfoldable pub restrictionRefusal : List ℕ → (out mapping work : ℕ) → Check
+restrictionRefusal g out mapping work =
+    andThen (gameRefusal g) (faultIf 2 0 (differ out (length g) || (differ mapping (vertexCount g) || differ work (vertexCount g))))
 
--- the four words of the answer (`said`), and the lent slices as the call leaves them
+-- the answer, and the lent slices as the call leaves them
 pub record Restricted : Type 0 where
-  pub answer : List ℕ
+  pub answer : Answer
   pub out : List ℕ
-  pub numbers : List ℕ
+  pub mapping : List ℕ
   pub work : List ℕ
 
 -- "A game that is restricted .. counts its vertices as steps"
 unfoldable pub restrictedTo : List ℕ → List ℕ → List ℕ → List ℕ → Restricted
 restrictedTo g met out work =
     let vs = keptVertices g met in
-    record { answer = 0 ∷ length vs ∷ length vs ∷ edgeCount vs ∷ []; out = padded (length out) (gameOf vs); numbers = vertexMap g met; work = zeros work }
+    record {
+      answer = Done (length vs) (length vs) (edgeCount vs);
+      out = padded (length out) (gameOf 0 vs);
+      mapping = vertexMap g met;
+      work = zeros work;
+    }
 
 -- a refusal alters nothing
 unfoldable pub restrictedOr : Check → List ℕ → List ℕ → List ℕ → List ℕ → Restricted
-restrictedOr Passed g out numbers work = restrictedTo g (reachedVertices g) out work
-restrictedOr (Fault n p) g out numbers work = record { answer = 2 ∷ n ∷ p ∷ 0 ∷ []; out = out; numbers = numbers; work = work }
+restrictedOr Passed g out mapping work = restrictedTo g (reachedVertices g) out work
+restrictedOr (Fault n p) g out mapping work = record { answer = Refused n p; out = out; mapping = mapping; work = work }
 
 -- the restriction of game g, with the slices as they are at entry
-unfoldable pub restriction : List ℕ → (out numbers work : List ℕ) → Restricted
-restriction g out numbers work = restrictedOr (restrictionRefusal g (length out) (length numbers) (length work)) g out numbers work
+unfoldable pub restriction : List ℕ → (out mapping work : List ℕ) → Restricted
+restriction g out mapping work = restrictedOr (restrictionRefusal g (length out) (length mapping) (length work)) g out mapping work

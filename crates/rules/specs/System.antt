@@ -1,7 +1,7 @@
--- The transition system (document 01, "Words handed over": "S, T, initial state, S out-degrees summing to T; then T labels and T targets, grouped by source
--- state"). Assumes nothing: these are definitions.
+-- The transition system (document 01, "Words handed over": "S (1 to 65,535), T (0 to 262,144), initial state, S
+-- out-degrees summing to T; then T labels and T targets, grouped by source state"). Assumes nothing: these are definitions.
 use Prim.Native.Nat.{ℕ, _+_}
-use mathlib.Core.List.{List, map}
+use mathlib.Core.List.{List}
 use Rattle.rules.specs.Lists.{word, from, sumWords}
 
 abbrev pub stateCount : List ℕ → ℕ
@@ -27,6 +27,6 @@ transitionTarget ss t = word ss (3 + stateCount ss + transitionCount ss + t)
 unfoldable pub firstTransition : List ℕ → ℕ → ℕ
 firstTransition ss s = sumWords ss 3 s
 
--- the transitions of state s in order, each with its label and its target
-unfoldable pub transitions : List ℕ → ℕ → List (ℕ × ℕ)
-transitions ss s = map (λ t. (transitionLabel ss t, transitionTarget ss t)) (from (firstTransition ss s) (degree ss s))
+-- the transitions of state s in order, each by its number
+unfoldable pub transitions : List ℕ → ℕ → List ℕ
+transitions ss s = from (firstTransition ss s) (degree ss s)

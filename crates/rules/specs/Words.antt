@@ -1,6 +1,7 @@
 -- The words handed over to a run and the room lent to it (document 01, "Words handed over"), and every limit. Assumes nothing: these are definitions.
 use Prim.Native.Nat.{ℕ, _+_, _*_}
 use mathlib.Core.List.{List}
+use Rattle.rules.specs.Game.{gameWords}
 
 -- the four slices of words that describe a run
 pub record Input : Type 0 where
@@ -49,7 +50,7 @@ mostEdges = 4_194_304
 
 -- "the game slice has exactly 4 + 3V + E words, the work slice exactly 8V + 2E"
 unfoldable pub gameLength : Room → ℕ
-gameLength r = 4 + 3 * r .vertices + r .edges
+gameLength r = gameWords (r .vertices) (r .edges)
 
 unfoldable pub workLength : Room → ℕ
 workLength r = 8 * r .vertices + 2 * r .edges

@@ -1,16 +1,18 @@
--- The laws of the stack and of the edge buffer. Assumes nothing.
+-- The laws of the stack, of the edge buffer and of what is read off for one vertex. Assumes nothing.
 use mathlib.Core.Path.{_≡_, refl, _∙_, ap}
+use mathlib.Core.Bool.{true, false}
 use mathlib.Core.List.{List, [], _∷_, _++_}
 use Prim.Native.Nat.{ℕ, zero, suc, _+_, _*_, _≤_, _<_}
 use native.Mathlib.Numerals.{add-one}
 use native.Mathlib.Omega.{arith}
-use lib.Dec.{lit≤}
+use lib.Dec.{ltb, lit≤}
 use lib.ListN.{length, set, take, drop, length-take, length-drop, length-set}
+use borrow.Author.Tests.{ltb-true, lt-ltb, le-ltb}
 use lib.Seq.{drop-set-add, take-suc-set, getD-set-same, getD-set-other}
 use Rattle.rules.specs.Lists.{word}
 use Rattle.words.specs.Regions.{region, putWord}
 use Rattle.words.proofs.Regions.{rise, region-past, rest-put, rest-later}
-use Rattle.settling.specs.Stand.{waitingIn, edgesOf, putEdge}
+use Rattle.settling.specs.Stand.{waitingIn, edgesOf, putEdge, settledIn, countIn, degreeIn}
 
 -- ---- the stack
 
@@ -66,3 +68,32 @@ edges-rest v n w w′ e = ap (take n) (rest-later 5 8 v w w′ e (lit≤ tt))
 pub length-edges : (w : List ℕ) (v n : ℕ) → 8 * v + n ≤ length w → length (edgesOf w v n) ≡ n
 unfolding edgesOf
 length-edges w v n h = simp (length-take, length-drop) (omega arith)
+
+-- ---- one vertex
+
+module _ (w : List ℕ) (v u : ℕ) where
+  pub settled-in : 0 < word (region 5 v w) u → settledIn w v u ≡ true
+  unfolding settledIn
+  settled-in h = lt-ltb 0 (word (region 5 v w) u) h
+
+  pub start-some : settledIn w v u ≡ true → 0 < word (region 5 v w) u
+  unfolding settledIn
+  start-some e = ltb-true 0 (word (region 5 v w) u) e
+
+  pub unsettled-in : word (region 5 v w) u ≤ 0 → settledIn w v u ≡ false
+  unfolding settledIn
+  unsettled-in h = le-ltb 0 (word (region 5 v w) u) h
+
+  pub degree-settled : settledIn w v u ≡ true → degreeIn w v u ≡ countIn w v u
+  unfolding degreeIn
+  degree-settled e = rw e refl
+
+  pub degree-unsettled : settledIn w v u ≡ false → degreeIn w v u ≡ 0
+  unfolding degreeIn
+  degree-unsettled e = rw e refl
+
+-- whether a vertex is settled goes by the starts alone
+pub settled-same : (w w′ : List ℕ) (v u : ℕ) → word (region 5 v w′) u ≡ word (region 5 v w) u
+    → settledIn w′ v u ≡ settledIn w v u
+unfolding settledIn
+settled-same w w′ v u e = ap (ltb 0) e

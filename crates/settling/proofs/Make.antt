@@ -6,11 +6,11 @@ use Prim.Native.Nat.{ℕ, suc, _+_, _-_, _*_, _≤_, _<_}
 use native.Mathlib.Omega.{arith}
 use lib.Dec.{eqb, lit≤, lit<}
 use lib.ListN.{length, drop, length-append}
-use Rattle.rules.specs.Lists.{word, In, place, insert, insertAll}
+use Rattle.rules.specs.Lists.{word, In, position, insert, insertAll}
 use Rattle.rules.specs.Walk.{pushNew}
-use Rattle.lists.specs.Shapes.{Begins, places}
+use Rattle.lists.specs.Shapes.{Begins, positions}
 use Rattle.lists.proofs.Shapes.{begins-length}
-use Rattle.lists.proofs.Inserts.{inserts-none, inserts-append, inserts-begins, inserts-holds, places-append, places-begins}
+use Rattle.lists.proofs.Inserts.{inserts-none, inserts-append, inserts-begins, inserts-holds, positions-append, positions-begins}
 use Rattle.lists.proofs.Equalities.{number-equality}
 use Rattle.words.specs.Regions.{region}
 use Rattle.words.proofs.Regions.{rest-region}
@@ -27,7 +27,7 @@ use Rattle.walks.proofs.Pushes.{push-on}
 -- ---- no target, and one stretch after another
 
 pub made-none : (w : List ℕ) (v e : ℕ) (c : Counters) → Ready w v e c → Made w v e c w c []
-unfolding pushNew places
+unfolding pushNew positions
 made-none w v e c r =
     let z : c .known - c .known ≡ 0 = omega arith in
     record {
@@ -61,9 +61,9 @@ module _ (v e : ℕ) (w w₁ w₂ : List ℕ) (c c₁ c₂ : Counters) (ts us : 
             ∙ push-on (c .known) (c₁ .known) (c₂ .known) (waitingOf w v (c .waiting)) (a .grows) (b .grows);
         row =
             b .row
-            ∙ ap (λ (l : List ℕ). l ++ places eqb ks₂ us) (a .row ∙ ap (λ (l : List ℕ). edgesOf w v (c .edges) ++ l) (sym (places-begins number-equality ts ks₁ ks₂ all on)))
-            ∙ append-assoc (edgesOf w v (c .edges)) (places eqb ks₂ ts) (places eqb ks₂ us)
-            ∙ ap (λ (l : List ℕ). edgesOf w v (c .edges) ++ l) (sym (places-append number-equality ks₂ ts us));
+            ∙ ap (λ (l : List ℕ). l ++ positions eqb ks₂ us) (a .row ∙ ap (λ (l : List ℕ). edgesOf w v (c .edges) ++ l) (sym (positions-begins number-equality ts ks₁ ks₂ all on)))
+            ∙ append-assoc (edgesOf w v (c .edges)) (positions eqb ks₂ ts) (positions eqb ks₂ us)
+            ∙ ap (λ (l : List ℕ). edgesOf w v (c .edges) ++ l) (sym (positions-append number-equality ks₂ ts us));
         row-length = omega (arith, a .row-length, b .row-length, length-append ts us);
         balance = omega (arith, a .balance, b .balance);
         grows = omega (arith, a .grows, b .grows);
@@ -127,7 +127,7 @@ module _ (v e : ℕ) (w w₁ w₂ w₃ : List ℕ) (c : Counters) (t u n m : ℕ
       }
 
   pub edge-made : Made w v e c w₃ (withEdge c n m) (t ∷ [])
-  unfolding insertAll places
+  unfolding insertAll positions
   edge-made =
       let ks : keysOf w₃ v n ≡ keysOf w₁ v n = keys-kept w₁ w₃ v n first in
       record {
@@ -137,7 +137,7 @@ module _ (v e : ℕ) (w w₁ w₂ w₃ : List ℕ) (c : Counters) (t u n m : ℕ
         row =
             ap (λ (l : List ℕ). edgesOf l v (c .edges + 1)) g
             ∙ edges-more v (c .edges) u w₂ (omega (arith, r .whole))
-            ∙ ap₂ (λ (l : List ℕ) (y : ℕ). l ++ (y ∷ [])) (same ∙ edges-rest v (c .edges) w w₁ (p .rest)) (p .vertex ∙ ap (place eqb t) (sym ks));
+            ∙ ap₂ (λ (l : List ℕ) (y : ℕ). l ++ (y ∷ [])) (same ∙ edges-rest v (c .edges) w w₁ (p .rest)) (p .vertex ∙ ap (position eqb t) (sym ks));
         row-length = omega arith;
         balance = p .balance;
         grows = p .grows;

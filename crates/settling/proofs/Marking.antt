@@ -9,9 +9,9 @@ use native.Mathlib.Omega.{arith}
 use lib.Dec.{eqb, lit≤, lit<}
 use lib.ListN.{length, set, length-append}
 use lib.Seq.{getD-set-same, getD-set-other}
-use Rattle.rules.specs.Lists.{word, In, Distinct, place, insert, insertAll, once}
-use Rattle.lists.specs.Shapes.{Begins, added, places}
-use Rattle.lists.proofs.Members.{distinct-places, place-below, place-at}
+use Rattle.rules.specs.Lists.{word, In, Distinct, position, insert, insertAll, once}
+use Rattle.lists.specs.Shapes.{Begins, added, positions}
+use Rattle.lists.proofs.Members.{distinct-positions, position-below, position-at}
 use Rattle.lists.proofs.Shapes.{begins-in, begins-at}
 use Rattle.lists.proofs.Inserts.{inserts-none, inserts-append, insert-old, insert-holds, insert-only, insert-begins, added-none, added-old, added-new, added-split}
 use Rattle.lists.proofs.Equalities.{number-equality}
@@ -42,7 +42,7 @@ module _ (marks ks ks₁ : List ℕ) (v n n₁ s t u : ℕ) (ts : List ℕ) (cou
   more = omega (arith, ap length (on .1), length-append ks (on .0))
 
   same-place : (i j : ℕ) → i < n₁ → j < n₁ → word ks₁ i ≡ word ks₁ j → i ≡ j
-  same-place i j h l = distinct-places ks₁ 0 apart i j (omega (arith, count₁)) (omega (arith, count₁))
+  same-place i j h l = distinct-positions ks₁ 0 apart i j (omega (arith, count₁)) (omega (arith, count₁))
 
   pub mark-more : MarkedIn (set marks u s) ks₁ v n₁ s (insert eqb ts t)
   mark-more = record { all = all; only = only; every = every }
@@ -72,9 +72,9 @@ module _ (marks ks ks₁ : List ℕ) (v n n₁ s t u : ℕ) (ts : List ℕ) (cou
           go (no d) (inl a) (yes l) = getD-set-other marks u i s 0 d ∙ m .every i l (subst (λ (q : ℕ). In q ts) (begins-at ks ks₁ 0 on i (omega arith)) a)
           go (no d) (inl a) (no l) =
               let k = m .all (word ks₁ i) a in
-              let j = place eqb (word ks₁ i) ks in
-              let b : j < length ks = place-below number-equality (word ks₁ i) ks k in
-              let z : i ≡ j = same-place i j h (omega (arith, more)) (sym (begins-at ks ks₁ 0 on j b ∙ place-at number-equality (word ks₁ i) ks 0 k)) in
+              let j = position eqb (word ks₁ i) ks in
+              let b : j < length ks = position-below number-equality (word ks₁ i) ks k in
+              let z : i ≡ j = same-place i j h (omega (arith, more)) (sym (begins-at ks ks₁ 0 on j b ∙ position-at number-equality (word ks₁ i) ks 0 k)) in
               absurd (omega arith)
 
 -- ---- one target, once
@@ -93,13 +93,13 @@ module _ (v e : ℕ) (w w₁ : List ℕ) (c : Counters) (t u n m : ℕ) (r : Rea
   begins₁ = subst (Begins (keysOf w v (c .known))) (sym (p .keys)) (insert-begins number-equality (keysOf w v (c .known)) t)
 
   met-known : u < n
-  met-known = omega (arith, place-below number-equality t (keysOf w₁ v n) holds₁, long₁, p .vertex)
+  met-known = omega (arith, position-below number-equality t (keysOf w₁ v n) holds₁, long₁, p .vertex)
 
   pub met-below : u < v
   met-below = omega (arith, met-known, p .table .slots .room)
 
   met-at : word (keysOf w₁ v n) u ≡ t
-  met-at = ap (word (keysOf w₁ v n)) (p .vertex) ∙ place-at number-equality t (keysOf w₁ v n) 0 holds₁
+  met-at = ap (word (keysOf w₁ v n)) (p .vertex) ∙ position-at number-equality t (keysOf w₁ v n) 0 holds₁
 
   met-stays : u < c .known → word (keysOf w v (c .known)) u ≡ t
   met-stays l = sym (begins-at (keysOf w v (c .known)) (keysOf w₁ v n) 0 begins₁ u (omega (arith, long))) ∙ met-at
@@ -116,7 +116,7 @@ module _ (v e : ℕ) (w w₁ : List ℕ) (c : Counters) (t u n m : ℕ) (r : Rea
   -- marked: it has its edge
   pub once-old : (ts : List ℕ) → 8 * v + 2 * e ≤ length w₁ → word (region 7 v w₁) u ≡ c .settled + 1 → Marked w v c ts
       → Turned w v e c ts (t ∷ []) w₁ (Room (record { known = n; settled = c .settled; edges = c .edges; waiting = m }))
-  unfolding insertAll places
+  unfolding insertAll positions
   once-old ts size h k =
       let o = k .only u met-below (ap (λ (l : List ℕ). word l u) (sym marks-same) ∙ h ∙ add-one (c .settled)) in
       let i : In t ts = subst (λ (q : ℕ). In q ts) (met-stays (o .0)) (o .1) in

@@ -6,7 +6,7 @@ use native.Mathlib.Omega.{arith}
 use lib.Dec.{eqb, lit≤, lit<}
 use lib.ListN.{length, drop}
 use Rattle.player.specs.declared.VertexIndex.{VertexIndex}
-use Rattle.rules.specs.Lists.{place}
+use Rattle.rules.specs.Lists.{position}
 use Rattle.rules.specs.Walk.{pushNew}
 use Rattle.words.specs.Regions.{region, putWord}
 use Rattle.words.proofs.Regions.{region-same, region-other, rest-put, rest-later, rest-region, length-region}
@@ -61,7 +61,7 @@ module _ (w w′ : List ℕ) (v n t : ℕ) (r : Numbered) (p : Numbering w w′ 
       record {
         table = table-kept w′ w″ v n′ kept (a .table);
         keys = ks ∙ a .keys;
-        vertex = subst (λ (l : List ℕ). i .0 ≡ place eqb t l) (sym ks) (vertex-place w w′ v n t (i .0) n′ a);
+        vertex = subst (λ (l : List ℕ). i .0 ≡ position eqb t l) (sym ks) (vertex-place w w′ v n t (i .0) n′ a);
         waits =
             ap (λ (u : List ℕ). waitingOf u v (m + 1)) g
             ∙ ap (λ (s : List ℕ). waitingIn s (m + 1)) (region-same 4 v m n w′ h)

@@ -1,20 +1,19 @@
 -- What holds of the work words and the counters between the steps of a walk over keys, and what a step and a walk answer. Assumes nothing: these are definitions.
 use mathlib.Core.Path.{_≡_}
+use mathlib.Core.Bool.{true, false}
 use mathlib.Core.List.{List}
 use mathlib.Core.Logic.{_⊎_}
 use Prim.Native.Nat.{ℕ, _+_, _≤_, _<_, max}
 use lib.Dec.{eqb}
 use lib.ListN.{length, getD, take, drop}
-use Rattle.rules.specs.Lists.{word}
-use Rattle.rules.specs.Walk.{State, step, walk}
+use Rattle.rules.specs.Walk.{Stand, step, walk}
 use Rattle.walks.specs.Sums.{Settled, sumSettled}
 use Rattle.walks.proofs.Steps.{Sound}
-use Rattle.words.specs.Regions.{region}
 use Rattle.pairs.specs.Table.{keysOf}
 use Rattle.settling.specs.declared.Counters.{Counters}
 use Rattle.settling.specs.declared.Stepped.{Stepped}
 use Rattle.settling.specs.declared.Stepped.the-variants.{Room, Full}
-use Rattle.settling.specs.Stand.{standOf, waitingOf, edgesOf, edgesFor}
+use Rattle.settling.specs.Stand.{standOf, waitingOf, edgesOf, edgesFor, settledIn, startIn, countIn}
 use Rattle.settling.specs.Made.{Ready, Marks}
 
 -- the edges of a settled vertex: one for each target, or one to itself
@@ -22,13 +21,14 @@ abbrev pub edgesDue : {A : Type 0} → (A → List A) → A → ℕ
 edgesDue targets p = max 1 (length (targets p))
 
 -- with the walk in this state the vertices or the edges are too many
-abbrev pub Exceeding : (ℕ → List ℕ) → ℕ → (v e : ℕ) → State ℕ → Type 0
+abbrev pub Exceeding : (ℕ → List ℕ) → ℕ → (v e : ℕ) → Stand ℕ → Type 0
 Exceeding targets root v e st = (v < length (st .known)) ⊎ (e < sumSettled (edgesDue targets) root st)
 
--- the stretch of the edge buffer that vertex u has
+-- vertex u is settled, and the stretch of the edge buffer that it has
 pub record Stretch (targets : ℕ → List ℕ) (root : ℕ) (w : List ℕ) (v : ℕ) (c : Counters) (u : ℕ) : Type 0 where
-  pub inside : word (region 5 v w) u + word (region 6 v w) u ≤ c .edges
-  pub row : take (word (region 6 v w) u) (drop (word (region 5 v w) u) (edgesOf w v (c .edges)))
+  pub settled : settledIn w v u ≡ true
+  pub inside : startIn w v u + countIn w v u ≤ c .edges
+  pub row : take (countIn w v u) (drop (startIn w v u) (edgesOf w v (c .edges)))
       ≡ edgesFor u (keysOf w v (c .known)) (targets (getD (keysOf w v (c .known)) u root))
 
 pub record Good (targets : ℕ → List ℕ) (root : ℕ) (w : List ℕ) (v e : ℕ) (c : Counters) : Type 0 where
@@ -38,8 +38,7 @@ pub record Good (targets : ℕ → List ℕ) (root : ℕ) (w : List ℕ) (v e : 
   pub marks : Marks w v (c .settled)
   pub total : c .edges ≡ sumSettled (edgesDue targets) root (standOf w v c)
   pub stretches : (u : ℕ) → Settled (standOf w v c) u → Stretch targets root w v c u
-  -- a vertex that is not settled has the count 0 (a settled one has at least 1)
-  pub unsettled : (u : ℕ) → u < v → (¬ Settled (standOf w v c) u) → word (region 6 v w) u ≤ 0
+  pub unsettled : (u : ℕ) → u < v → (¬ Settled (standOf w v c) u) → settledIn w v u ≡ false
 
 -- the walk stands where the definition does after one step, and all is well again
 pub record StepMade (targets : ℕ → List ℕ) (root : ℕ) (w : List ℕ) (v e : ℕ) (c : Counters) (w′ : List ℕ) (c′ : Counters) : Type 0 where

@@ -5,9 +5,9 @@ use mathlib.Core.Logic.{_⊎_}
 use Prim.Native.Nat.{ℕ, suc, _+_, _-_, _*_, _≤_, _<_}
 use lib.Dec.{eqb}
 use lib.ListN.{length, set, drop}
-use Rattle.rules.specs.Lists.{word, In, place, insert, insertAll}
+use Rattle.rules.specs.Lists.{word, In, position, insert, insertAll}
 use Rattle.rules.specs.Walk.{pushNew}
-use Rattle.lists.specs.Shapes.{added, places}
+use Rattle.lists.specs.Shapes.{added, positions}
 use Rattle.words.specs.Regions.{region}
 use Rattle.pairs.specs.Table.{Table, keysOf}
 use Rattle.settling.specs.declared.Counters.{Counters}
@@ -40,7 +40,7 @@ pub record Fitting (s q : ℕ) : Type 0 where
 pub record Meeting (w w′ : List ℕ) (v n m t u n′ m′ : ℕ) : Type 0 where
   pub table : Table w′ v n′
   pub keys : keysOf w′ v n′ ≡ insert eqb (keysOf w v n) t
-  pub vertex : u ≡ place eqb t (keysOf w′ v n′)
+  pub vertex : u ≡ position eqb t (keysOf w′ v n′)
   pub waits : waitingOf w′ v m′ ≡ pushNew n (n′ - n) (waitingOf w v m)
   pub balance : n′ + m ≡ n + m′
   pub grows : n ≤ n′
@@ -55,7 +55,7 @@ pub record Made (w : List ℕ) (v e : ℕ) (c : Counters) (w′ : List ℕ) (c�
   pub ready : Ready w′ v e c′
   pub keys : keysOf w′ v (c′ .known) ≡ insertAll eqb (keysOf w v (c .known)) ts
   pub waits : waitingOf w′ v (c′ .waiting) ≡ pushNew (c .known) (c′ .known - c .known) (waitingOf w v (c .waiting))
-  pub row : edgesOf w′ v (c′ .edges) ≡ edgesOf w v (c .edges) ++ places eqb (keysOf w′ v (c′ .known)) ts
+  pub row : edgesOf w′ v (c′ .edges) ≡ edgesOf w v (c .edges) ++ positions eqb (keysOf w′ v (c′ .known)) ts
   pub row-length : c′ .edges ≡ c .edges + length ts
   pub balance : c′ .known + c .waiting ≡ c .known + c′ .waiting
   pub grows : c .known ≤ c′ .known

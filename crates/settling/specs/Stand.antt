@@ -1,13 +1,15 @@
--- What is read off the work words: the known pairs, the waiting vertices, and the edges made so far. Regions of v words: 0 to 2 slots, 3 keys, 4 stack, 5 starts,
--- 6 counts, 7 marks; then the edge buffer. Assumes nothing: these are definitions.
+-- What is read off the work words: the known pairs, the waiting vertices, which are settled, and the edges made so far.
+-- Regions of v words: 0 to 2 slots, 3 keys, 4 stack, 5 starts, 6 counts, 7 marks; then the edge buffer.
+-- Assumes nothing: these are definitions.
+use mathlib.Core.Bool.{Bool, cond}
 use mathlib.Core.List.{List, [], _∷_}
-use Prim.Native.Nat.{ℕ, zero, suc, _+_, _*_}
-use lib.Dec.{eqb}
+use Prim.Native.Nat.{ℕ, zero, suc, _+_, _-_, _*_}
+use lib.Dec.{eqb, ltb}
 use lib.ListN.{set, take, drop}
 use Rattle.rules.specs.Lists.{word}
-use Rattle.rules.specs.Walk.{State}
-use Rattle.lists.specs.Shapes.{places}
-use Rattle.walks.specs.Sums.{stateOf}
+use Rattle.rules.specs.Walk.{Stand}
+use Rattle.lists.specs.Shapes.{positions}
+use Rattle.walks.specs.Sums.{standWith}
 use Rattle.words.specs.Regions.{region}
 use Rattle.pairs.specs.Table.{keysOf}
 use Rattle.settling.specs.declared.Counters.{Counters}
@@ -30,10 +32,32 @@ unfoldable pub putEdge : ℕ → ℕ → ℕ → List ℕ → List ℕ
 putEdge v i x w = set w (8 * v + i) x
 
 -- where the walk stands
-abbrev pub standOf : List ℕ → ℕ → Counters → State ℕ
-standOf w v c = stateOf (keysOf w v (c .known)) (waitingOf w v (c .waiting))
+abbrev pub standOf : List ℕ → ℕ → Counters → Stand ℕ
+standOf w v c = standWith (keysOf w v (c .known)) (waitingOf w v (c .waiting))
 
 -- the edges of vertex u, whose pair has the targets ts: to itself where there are none
 unfoldable pub edgesFor : ℕ → List ℕ → List ℕ → List ℕ
 edgesFor u known [] = u ∷ []
-edgesFor u known (t ∷ ts) = places eqb known (t ∷ ts)
+edgesFor u known (t ∷ ts) = positions eqb known (t ∷ ts)
+
+-- ---- one vertex. Its word among the starts is 0 until a step takes it, and then one more than where its edges begin
+
+-- vertex u is settled, or a step settles it now
+unfoldable pub settledIn : List ℕ → ℕ → ℕ → Bool
+settledIn w v u = ltb 0 (word (region 5 v w) u)
+
+-- where the edges of a settled vertex begin in the buffer, and how many they are
+abbrev pub startIn : List ℕ → ℕ → ℕ → ℕ
+startIn w v u = word (region 5 v w) u - 1
+
+abbrev pub countIn : List ℕ → ℕ → ℕ → ℕ
+countIn w v u = word (region 6 v w) u
+
+-- how many edges a vertex has: none before it is settled
+unfoldable pub degreeIn : List ℕ → ℕ → ℕ → ℕ
+degreeIn w v u = cond (settledIn w v u) (countIn w v u) 0
+
+-- how many edges the first n vertices have
+unfoldable pub degreesIn : List ℕ → ℕ → ℕ → ℕ
+degreesIn w v zero = 0
+degreesIn w v (suc n) = degreesIn w v n + degreeIn w v n

@@ -24,7 +24,7 @@ key-each : (l : ℕ) (ts : List ℕ) → map pairKey (map (λ t. (t, l)) ts) ≡
 key-each l [] = refl
 key-each l (t ∷ ts) = ap (λ (ks : List ℕ). keyOf t l ∷ ks) (key-each l ts)
 
-module _ (x : Input) (multiples classes samples matched kinds lefts rights priorities : List ℕ) (t : Tables x multiples classes samples matched kinds lefts rights priorities) (s q : ℕ)
+module _ (x : Input) (multiples classes samples matched kinds lefts rights : List ℕ) (t : Tables x multiples classes samples matched kinds lefts rights) (s q : ℕ)
     (i : Inside x (s, q)) where
   pub kinds-long : q < length kinds
   kinds-long = omega (arith, i .1, t .items .kinds-room)
@@ -41,41 +41,41 @@ module _ (x : Input) (multiples classes samples matched kinds lefts rights prior
   -- the words as they are read
   module _ (k : ℕ) (is-kind : k ≡ word kinds q) where
     pub kind-none : k < 2 → map pairKey (targets x (s, q)) ≡ []
-    kind-none h = ap (map pairKey) (entry-none x q (word kinds q) (word lefts q) (word rights q) (word priorities q) s (t .items .entry q (i .1)) (omega arith))
+    kind-none h = ap (map pairKey) (entry-none x q (word kinds q) (word lefts q) (word rights q) s (t .items .entry q (i .1)) (omega arith))
 
     module _ (l : ℕ) (is-left : l ≡ word lefts q) where
-      first : Entry x q k l (word rights q) (word priorities q)
+      first : Entry x q k l (word rights q)
       first = rw (is-kind, is-left) (t .items .entry q (i .1))
 
       pub kind-one : 6 ≤ k → map pairKey (targets x (s, q)) ≡ keyOf s l ∷ []
-      kind-one a = ap (map pairKey) (entry-one x q k l (word rights q) (word priorities q) s first a)
+      kind-one a = ap (map pairKey) (entry-one x q k l (word rights q) s first a)
 
       pub left-small : 2 ≤ k → l < 2048
-      left-small a = omega (arith, entry-left x q k l (word rights q) (word priorities q) s first (t .input) (i .1) a, items-few x (t .input))
+      left-small a = omega (arith, entry-left x q k l (word rights q) s first (t .input) (i .1) a, items-few x (t .input))
 
       pub left-fits : 2 ≤ k → Fitting s l
       left-fits a = record { state-fits = state-fits; item-fits = left-small a }
 
       module _ (r : ℕ) (is-right : r ≡ word rights q) where
-        both : Entry x q k l r (word priorities q)
+        both : Entry x q k l r
         both = rw is-right first
 
         pub kind-two : 2 ≤ k → k < 4 → map pairKey (targets x (s, q)) ≡ keyOf s l ∷ keyOf s r ∷ []
-        kind-two a b = ap (map pairKey) (entry-two x q k l r (word priorities q) s both a (omega arith))
+        kind-two a b = ap (map pairKey) (entry-two x q k l r s both a (omega arith))
 
         pub right-fits : 2 ≤ k → k < 4 → Fitting s r
         right-fits a b =
             record {
               state-fits = state-fits;
-              item-fits = omega (arith, entry-right x q k l r (word priorities q) s both (t .input) (i .1) a (omega arith), items-few x (t .input));
+              item-fits = omega (arith, entry-right x q k l r s both (t .input) (i .1) a (omega arith), items-few x (t .input));
             }
 
         pub kind-modal : 4 ≤ k → k < 6 → map pairKey (targets x (s, q)) ≡ map (λ t. keyOf t l) (successors x (actionTree (x .labels) (x .actions) r) s)
         kind-modal a b =
-            ap (map pairKey) (entry-modal x q k l r (word priorities q) s both a (omega arith)) ∙ key-each l (successors x (actionTree (x .labels) (x .actions) r) s)
+            ap (map pairKey) (entry-modal x q k l r s both a (omega arith)) ∙ key-each l (successors x (actionTree (x .labels) (x .actions) r) s)
 
         pub action-there : 4 ≤ k → k < 6 → r < size (x .actions)
-        action-there a b = entry-action x q k l r (word priorities q) s both a (omega arith)
+        action-there a b = entry-action x q k l r s both a (omega arith)
 
         -- how many operands there are says which targets
         module _ (n : ℕ) (two : k < 4 → n ≡ 2) (one : 4 ≤ k → n ≡ 1) (some : 2 ≤ k) (operands : 4 ≤ k → 6 ≤ k) where

@@ -7,7 +7,7 @@ use Rattle.rules.specs.Words.{Input}
 use Rattle.rules.specs.Items.{items}
 use Rattle.rules.specs.Pairs.{Pair, initialPair, targets}
 use Rattle.rules.specs.Reach.{Reachable, atRoot, onward}
-use Rattle.rules.specs.Good.{GoodInput}
+use Rattle.tables.specs.Good.{GoodInput}
 use Rattle.lists.proofs.Equalities.{number-equality, pair-equality}
 use Rattle.walks.proofs.Rename.{map-reachable}
 use Rattle.arena.specs.Arena.{Inside}

@@ -8,15 +8,15 @@ use native.Mathlib.Omega.{arith}
 use lib.Dec.{eqb, ltb}
 use lib.ListN.{length, getD, length-map}
 use borrow.Author.Tests.{lt-ltb, le-ltb}
-use Rattle.rules.specs.Lists.{word, In, has}
+use Rattle.rules.specs.Lists.{In, has}
 use Rattle.rules.specs.Words.{Input, roomOf}
 use Rattle.rules.specs.Depth.{Ranking}
 use Rattle.rules.specs.Pairs.{Pair, samePair, initialPair, owner, priority, targets}
 use Rattle.rules.specs.Reach.{Reachable}
-use Rattle.rules.specs.Walk.{State, walk}
+use Rattle.rules.specs.Walk.{Stand, walk}
 use Rattle.rules.specs.Game.{edgeCount}
 use Rattle.rules.specs.Run.{walkOf, verticesOf, exceeds}
-use Rattle.rules.specs.Good.{GoodInput}
+use Rattle.tables.specs.Good.{GoodInput}
 use Rattle.lists.proofs.Members.{in-at, at-any, map-default}
 use Rattle.lists.proofs.Equalities.{number-equality, pair-equality}
 use Rattle.walks.specs.Sums.{Settled, sumBelow, sumSettled}
@@ -29,17 +29,17 @@ use Rattle.pairs.specs.Table.{keyAt, stateAt, itemAt, keysOf}
 use Rattle.pairs.proofs.Uses.{length-keys, key-same, key-pair, key-item-below, key-word}
 use Rattle.settling.specs.declared.Counters.{Counters}
 use Rattle.settling.specs.Keys.{pairKey, keyTargets, rootKey}
-use Rattle.settling.specs.Stand.{standOf, waitingOf}
+use Rattle.settling.specs.Stand.{standOf, waitingOf, settledIn, startIn, countIn}
 use Rattle.settling.specs.Good.{edgesDue, Exceeding, Stretch, WalkMade}
 use Rattle.settling.proofs.Buffer.{length-waitingIn}
 use Rattle.stepping.proofs.Keys.{alike, moved, reached-inside, item-fits}
-use Rattle.stepping.proofs.Offsets.{count-settled, waits-none}
+use Rattle.stepping.proofs.Offsets.{count-settled, waits-unsettled}
 use Rattle.lists.proofs.Tests.{or-left, or-right}
 
 -- ---- lists
 
 -- weights that agree where they are asked for
-same-weights : {A : Type 0} (a b : A → ℕ) (root : A) (st : State A) (n : ℕ) → ((u : ℕ) → u < n → a (getD (st .known) u root) ≡ b (getD (st .known) u root))
+same-weights : {A : Type 0} (a b : A → ℕ) (root : A) (st : Stand A) (n : ℕ) → ((u : ℕ) → u < n → a (getD (st .known) u root) ≡ b (getD (st .known) u root))
     → sumBelow a root st n ≡ sumBelow b root st n
 unfolding sumBelow
 same-weights a b root st zero h = refl
@@ -80,7 +80,7 @@ module _ (x : Input) (good : GoodInput x) where
       → (v < length (walkOf x k .known)) ⊎ (e < sumSettled (edgesDue (targets x)) (initialPair x) (walkOf x k))
   exceeding-pairs k v e f =
       ⊎-elim
-      (λ l. inl (omega (arith, ap (λ (st : State ℕ). length (st .known)) (walk-keys k), length-map (walkOf x k .known) pairKey)))
+      (λ l. inl (omega (arith, ap (λ (st : Stand ℕ). length (st .known)) (walk-keys k), length-map (walkOf x k .known) pairKey)))
       (λ l. inr (omega (arith, sum-pairs k)))
       f
 
@@ -106,10 +106,10 @@ module _ (x : Input) (good : GoodInput x) where
 
   module _ (k v e : ℕ) (w : List ℕ) (c : Counters) (m : WalkMade (keyTargets x) (rootKey x) v e k w c) where
     pub known-pairs : keysOf w v (c .known) ≡ map pairKey (walkOf x k .known)
-    known-pairs = ap (λ (st : State ℕ). st .known) (m .stands ∙ walk-keys k)
+    known-pairs = ap (λ (st : Stand ℕ). st .known) (m .stands ∙ walk-keys k)
 
     pub waiting-pairs : waitingOf w v (c .waiting) ≡ walkOf x k .waiting
-    waiting-pairs = ap (λ (st : State ℕ). st .waiting) (m .stands ∙ walk-keys k)
+    waiting-pairs = ap (λ (st : Stand ℕ). st .waiting) (m .stands ∙ walk-keys k)
 
     pub known-count : c .known ≡ length (walkOf x k .known)
     known-count = sym (length-keys w v (c .known)) ∙ ap length known-pairs ∙ length-map (walkOf x k .known) pairKey
@@ -156,9 +156,11 @@ module _ (x : Input) (good : GoodInput x) where
       pub item-at : itemAt w v u ≡ pairAt .1
       item-at = words-at .1
 
-      -- its count is 0 exactly if it waits
-      pub waits-zero : In u (walkOf x k .waiting) → word (region 6 v w) u ≡ 0
-      waits-zero i = waits-none (keyTargets x) (rootKey x) v e w c (m .good) u (omega (arith, known-count)) (subst (In u) (sym waiting-pairs) i)
+      -- where it waits it is not settled
+      pub waits-at : In u (walkOf x k .waiting) → settledIn w v u ≡ false
+      waits-at i =
+          waits-unsettled (keyTargets x) (rootKey x) v e w c (m .good) u (omega (arith, known-count))
+          (subst (In u) (sym waiting-pairs) i)
 
       -- where it does not wait, its edges stand in the buffer
       module _ (out : ¬ In u (walkOf x k .waiting)) where
@@ -168,8 +170,8 @@ module _ (x : Input) (good : GoodInput x) where
         stretch : Stretch (keyTargets x) (rootKey x) w v c u
         stretch = m .good .stretches u settled-key
 
-        pub stretch-inside : word (region 5 v w) u + word (region 6 v w) u ≤ c .edges
+        pub stretch-inside : startIn w v u + countIn w v u ≤ c .edges
         stretch-inside = stretch .inside
 
-        pub degree-at : word (region 6 v w) u ≡ edgesDue (targets x) pairAt
+        pub degree-at : countIn w v u ≡ edgesDue (targets x) pairAt
         degree-at = count-settled (keyTargets x) (rootKey x) v e w c (m .good) u settled-key ∙ ap (edgesDue (keyTargets x)) key-at ∙ weights k u h

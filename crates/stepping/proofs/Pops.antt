@@ -6,7 +6,7 @@ use native.Mathlib.Omega.{arith}
 use Rattle.rules.specs.Lists.{word}
 use Rattle.rules.specs.Words.{Input}
 use Rattle.rules.specs.Pairs.{targets}
-use Rattle.rules.specs.Good.{GoodInput}
+use Rattle.tables.specs.Good.{GoodInput}
 use Rattle.rules.specs.Reach.{Reachable}
 use Rattle.arena.specs.Arena.{Inside}
 use Rattle.words.specs.Regions.{region, putWord}
@@ -35,7 +35,7 @@ module _ (x : Input) (good : GoodInput x) (v e : ℕ) (w : List ℕ) (c : Counte
       ∙ sym (key-targets x (stateAt w v u, itemAt w v u) (top-item (keyTargets x) (rootKey x) v e w c g some u is))
       ∙ ap (keyTargets x) (sym (top-key (keyTargets x) (rootKey x) v e w c g some u is))
 
-  module _ (w₁ : List ℕ) (g₁ : w₁ ≡ putWord 5 v u (c .edges) w) where
+  module _ (w₁ : List ℕ) (g₁ : w₁ ≡ putWord 5 v u (c .edges + 1) w) where
     pub pop-full : TooMany w₁ v e (popped c) (map pairKey (targets x (s, q))) → StepAnswer (keyTargets x) (rootKey x) w v e c w₁ Full
     pop-full f = step-many (keyTargets x) (rootKey x) v e w c g some u is w₁ g₁ (map pairKey (targets x (s, q))) pop-targets f
 

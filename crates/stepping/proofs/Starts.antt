@@ -1,4 +1,4 @@
--- The beginning of a walk: the marks and the counts are cleared, and the root is met. Assumes nothing.
+-- The beginning of a walk: the marks and the starts are cleared, and the root is met. Assumes nothing.
 use mathlib.Core.Path.{_≡_, refl, sym, _∙_, ap, ap₂, subst, subst₂}
 use mathlib.Core.List.{List, [], _∷_}
 use mathlib.Core.Logic.{inl}
@@ -12,7 +12,7 @@ use Rattle.rules.specs.Lists.{word, In, has, insert}
 use Rattle.rules.specs.Walk.{pushNew, walk}
 use Rattle.lists.proofs.Inserts.{insert-new}
 use Rattle.lists.proofs.Equalities.{number-equality}
-use Rattle.walks.specs.Sums.{stateOf, sumSettled, sumBelow}
+use Rattle.walks.specs.Sums.{standWith, sumSettled, sumBelow}
 use Rattle.walks.proofs.Steps.{Sound, sound-start, walk-start}
 use Rattle.words.specs.Regions.{region, putWord}
 use Rattle.words.proofs.Regions.{rise, region-same, region-other, rest-region, length-region, length-putWord}
@@ -22,6 +22,7 @@ use Rattle.settling.specs.declared.Counters.{Counters}
 use Rattle.settling.specs.Stand.{waitingIn, waitingOf, standOf}
 use Rattle.settling.specs.Made.{Ready, Meeting, Cleared, Sized}
 use Rattle.settling.specs.Good.{edgesDue, Exceeding, WalkMade}
+use Rattle.settling.proofs.Buffer.{unsettled-in}
 use Rattle.settling.proofs.Make.{marks-rest}
 
 -- ---- clearing
@@ -61,7 +62,7 @@ no-keys : (keys : List ℕ) → keysIn keys 0 ≡ []
 unfolding keysIn
 no-keys keys = refl
 
-no-sum : (weight : ℕ → ℕ) (root : ℕ) → sumSettled weight root (stateOf (root ∷ []) (0 ∷ [])) ≡ 0
+no-sum : (weight : ℕ → ℕ) (root : ℕ) → sumSettled weight root (standWith (root ∷ []) (0 ∷ [])) ≡ 0
 unfolding sumSettled sumBelow has
 no-sum weight root = refl
 
@@ -71,8 +72,9 @@ noCounts = record { known = 0; settled = 0; edges = 0; waiting = 0 }
 abbrev pub firstCounts : ℕ → ℕ → Counters
 firstCounts n m = record { known = n; settled = 0; edges = 0; waiting = m }
 
--- the words are started, their marks cleared, and then their counts
-module _ (w w₁ wₘ w₂ : List ℕ) (v e : ℕ) (z : Sized w v e) (s : Started w w₁ v) (k : Cleared w₁ wₘ v 7) (k₆ : Cleared wₘ w₂ v 6) (long : length w₂ ≡ length w) where
+-- the words are started, their marks cleared, and then their starts
+module _ (w w₁ wₘ w₂ : List ℕ) (v e : ℕ) (z : Sized w v e) (s : Started w w₁ v)
+    (k : Cleared w₁ wₘ v 7) (k₅ : Cleared wₘ w₂ v 5) (long : length w₂ ≡ length w) where
   pub empty-ready : Ready w₂ v e noCounts
   empty-ready =
       record {
@@ -80,7 +82,7 @@ module _ (w w₁ wₘ w₂ : List ℕ) (v e : ℕ) (z : Sized w v e) (s : Starte
         most = z .most;
         most-edges = z .most-edges;
         whole = omega (arith, z .whole);
-        table = table-kept w₁ w₂ v 0 (λ r h. k₆ .others r (omega arith) ∙ k .others r (omega arith)) (s .table);
+        table = table-kept w₁ w₂ v 0 (λ r h. k₅ .others r (omega arith) ∙ k .others r (omega arith)) (s .table);
         stack = omega arith;
         buffer = omega arith;
       }
@@ -107,8 +109,8 @@ module _ (w w₁ wₘ w₂ : List ℕ) (v e : ℕ) (z : Sized w v e) (s : Starte
       waits₃ : waitingOf w₃ v m ≡ 0 ∷ []
       waits₃ = p .waits ∙ pushed n one
 
-      stands₃ : standOf w₃ v (firstCounts n m) ≡ stateOf (root ∷ []) (0 ∷ [])
-      stands₃ = ap₂ (λ (a b : List ℕ). stateOf a b) keys₃ waits₃
+      stands₃ : standOf w₃ v (firstCounts n m) ≡ standWith (root ∷ []) (0 ∷ [])
+      stands₃ = ap₂ (λ (a b : List ℕ). standWith a b) keys₃ waits₃
 
       pub start-made : WalkMade targets root v e 0 w₃ (firstCounts n m)
       start-made =
@@ -128,9 +130,13 @@ module _ (w w₁ wₘ w₂ : List ℕ) (v e : ℕ) (z : Sized w v e) (s : Starte
                       };
                   sound = subst₂ (Sound targets root) (sym keys₃) (sym waits₃) (sound-start number-equality targets root);
                   balance = omega (arith, p .balance);
-                  marks = marks-rest w₂ w₃ v 0 (p .rest) (λ j h. subst (λ (l : List ℕ). word l j ≤ 0) (sym (k₆ .others 7 (omega arith))) (k .none j h));
+                  marks =
+                      marks-rest w₂ w₃ v 0 (p .rest)
+                      (λ j h. subst (λ (l : List ℕ). word l j ≤ 0) (sym (k₅ .others 7 (omega arith))) (k .none j h));
                   total = sym (ap (sumSettled (edgesDue targets) root) stands₃ ∙ no-sum (edgesDue targets) root);
                   stretches = λ y (h, out). absurd (out (subst (In y) (sym waits₃) (inl (omega (arith, one, length-keys w₃ v n)))));
-                  unsettled = λ y h out. subst (λ (l : List ℕ). word l y ≤ 0) (sym (rest-region 5 6 v w₂ w₃ (p .rest) (lit≤ tt))) (k₆ .none y h);
+                  unsettled = λ y h out.
+                      let same = sym (rest-region 5 5 v w₂ w₃ (p .rest) (lit≤ tt)) in
+                      unsettled-in w₃ v y (subst (λ (l : List ℕ). word l y ≤ 0) same (k₅ .none y h));
                 };
           }

@@ -1,5 +1,6 @@
 -- One whole step: the vertex numbered last is popped, settled and closed. The walk then stands where the definition says, and all is well again. Assumes nothing.
 use mathlib.Core.Path.{_≡_, refl, sym, _∙_, ap, ap₂, subst, subst₂}
+use mathlib.Core.Bool.{false}
 use mathlib.Core.List.{List, [], _∷_, _++_, append-nil}
 use mathlib.Core.Logic.{inl, inr, ⊎-elim}
 use Prim.Native.Nat.{ℕ, suc, _+_, _-_, _*_, _≤_, _<_, max}
@@ -9,14 +10,14 @@ use lib.Dec.{eqb, lit<}
 use lib.ListN.{length, getD, set, take, drop, length-drop}
 use lib.Seq.{getD-set-same, getD-set-other, drop-at, take-all, drop-append-le, take-append-le}
 use Rattle.rules.specs.Lists.{word, In, insertAll}
-use Rattle.rules.specs.Walk.{State, pushNew, settle, stepFrom, step}
+use Rattle.rules.specs.Walk.{Stand, pushNew, settle, stepFrom, step}
 use Rattle.rules.specs.Reach.{Reachable}
-use Rattle.lists.specs.Shapes.{Begins, places}
+use Rattle.lists.specs.Shapes.{Begins, positions}
 use Rattle.lists.proofs.Members.{in-at, at-any}
 use Rattle.lists.proofs.Shapes.{begins-at, begins-length, falling-below}
-use Rattle.lists.proofs.Inserts.{inserts-begins, places-begins, places-length}
+use Rattle.lists.proofs.Inserts.{inserts-begins, positions-begins, positions-length}
 use Rattle.lists.proofs.Equalities.{number-equality}
-use Rattle.walks.specs.Sums.{stateOf, Settled, sumSettled}
+use Rattle.walks.specs.Sums.{standWith, Settled, sumSettled}
 use Rattle.walks.proofs.Push.{push-before, push-holds, push-only}
 use Rattle.walks.proofs.Steps.{Sound, sound-settle, step-idle}
 use Rattle.walks.proofs.Sums.{sum-settle}
@@ -26,22 +27,22 @@ use Rattle.pairs.specs.Slot.{keyOf}
 use Rattle.pairs.specs.Table.{keyAt, stateAt, itemAt, keysOf}
 use Rattle.pairs.proofs.Uses.{key-pair, key-item-below, keys-kept, table-kept, length-keys, key-word}
 use Rattle.settling.specs.declared.Counters.{Counters}
-use Rattle.settling.specs.Stand.{waitingIn, waitingOf, edgesOf, standOf, edgesFor}
+use Rattle.settling.specs.Stand.{waitingIn, waitingOf, edgesOf, standOf, edgesFor, settledIn, startIn, countIn}
 use Rattle.settling.specs.Made.{Marks, Ready, Made, TooMany, Closing}
 use Rattle.settling.specs.Good.{edgesDue, Exceeding, Stretch, Good, StepMade}
-use Rattle.settling.proofs.Buffer.{waiting-top, none-waits, edges-put, length-edges}
+use Rattle.settling.proofs.Buffer.{waiting-top, none-waits, edges-put, length-edges, settled-in, settled-same}
 
 -- ---- lists
 
 edges-begins : (u : ℕ) (ts ks more : List ℕ) → ((q : ℕ) → In q ts → In q ks) → Begins ks more → edgesFor u more ts ≡ edgesFor u ks ts
 unfolding edgesFor
 edges-begins u [] ks more h b = refl
-edges-begins u (t ∷ ts) ks more h b = places-begins number-equality (t ∷ ts) ks more h b
+edges-begins u (t ∷ ts) ks more h b = positions-begins number-equality (t ∷ ts) ks more h b
 
 pub length-edgesFor : (u : ℕ) (ks ts : List ℕ) → length (edgesFor u ks ts) ≡ max 1 (length ts)
 unfolding edgesFor
 length-edgesFor u ks [] = omega arith
-length-edgesFor u ks (t ∷ ts) = omega (arith, places-length number-equality ks (t ∷ ts))
+length-edgesFor u ks (t ∷ ts) = omega (arith, positions-length number-equality ks (t ∷ ts))
 
 -- the counters with the last vertex popped
 abbrev pub popped : Counters → Counters
@@ -107,25 +108,27 @@ module _ (targets : ℕ → List ℕ) (root v e : ℕ) (w : List ℕ) (c : Count
     next-sum =
         ap (sumSettled (edgesDue targets) root) next
         ∙ sum-settle number-equality targets root (edgesDue targets) keys u left sound-top
-        ∙ ap (λ (l : List ℕ). edgesDue targets here + sumSettled (edgesDue targets) root (stateOf keys l)) (sym top)
+        ∙ ap (λ (l : List ℕ). edgesDue targets here + sumSettled (edgesDue targets) root (standWith keys l)) (sym top)
         ∙ ap (λ (n : ℕ). edgesDue targets here + n) (sym (g .total))
 
     next-known : step eqb targets root (standOf w v c) .known ≡ more
     unfolding settle
-    next-known = ap (λ (st : State ℕ). st .known) next
+    next-known = ap (λ (st : Stand ℕ). st .known) next
 
-    module _ (w₁ : List ℕ) (g₁ : w₁ ≡ putWord 5 v u (c .edges) w) where
+    module _ (w₁ : List ℕ) (g₁ : w₁ ≡ putWord 5 v u (c .edges + 1) w) where
       kept : (a : ℕ) → (a ≡ 5 → ⊥) → region a v w₁ ≡ region a v w
-      kept a d = ap (region a v) g₁ ∙ region-other a 5 v u (c .edges) w top-below d
+      kept a d = ap (region a v) g₁ ∙ region-other a 5 v u (c .edges + 1) w top-below d
 
       keys₁ : keysOf w₁ v (c .known) ≡ keys
       keys₁ = keys-kept w w₁ v (c .known) (λ a h. kept a (omega arith))
 
-      starts₁ : region 5 v w₁ ≡ set (region 5 v w) u (c .edges)
-      starts₁ = ap (region 5 v) g₁ ∙ region-same 5 v u (c .edges) w top-below
+      starts₁ : region 5 v w₁ ≡ set (region 5 v w) u (c .edges + 1)
+      starts₁ = ap (region 5 v) g₁ ∙ region-same 5 v u (c .edges + 1) w top-below
 
       edges₁ : edgesOf w₁ v (c .edges) ≡ edgesOf w v (c .edges)
-      edges₁ = ap (λ (l : List ℕ). edgesOf l v (c .edges)) g₁ ∙ edges-put 5 v u (c .edges) (c .edges) w (lit< tt) top-below
+      edges₁ =
+          ap (λ (l : List ℕ). edgesOf l v (c .edges)) g₁
+          ∙ edges-put 5 v u (c .edges + 1) (c .edges) w (lit< tt) top-below
 
       pub popped-ready : Ready w₁ v e (popped c)
       popped-ready =
@@ -134,7 +137,7 @@ module _ (targets : ℕ → List ℕ) (root v e : ℕ) (w : List ℕ) (c : Count
             some = r .some;
             most = r .most;
             most-edges = r .most-edges;
-            whole = omega (arith, r .whole, ap length g₁, length-putWord 5 v u (c .edges) w);
+            whole = omega (arith, r .whole, ap length g₁, length-putWord 5 v u (c .edges + 1) w);
             table = table-kept w w₁ v (c .known) (λ a h. kept a (omega arith)) (r .table);
             stack = omega (arith, r .stack);
             buffer = r .buffer;
@@ -187,7 +190,7 @@ module _ (targets : ℕ → List ℕ) (root v e : ℕ) (w : List ℕ) (c : Count
 
             stands₃ : standOf w₃ v c₃ ≡ step eqb targets root (standOf w v c)
             unfolding settle
-            stands₃ = ap₂ (λ (k l : List ℕ). stateOf k l) keys₃ waits₃ ∙ sym next
+            stands₃ = ap₂ (λ (k l : List ℕ). standWith k l) keys₃ waits₃ ∙ sym next
 
             sound₃ : Sound targets root (keysOf w₃ v (c₃ .known)) (waitingOf w₃ v (c₃ .waiting))
             unfolding settle
@@ -210,18 +213,18 @@ module _ (targets : ℕ → List ℕ) (root v e : ℕ) (w : List ℕ) (c : Count
                 omega (arith, n, b .one-settled, a .same-settled)
 
             row₃ : (us : List ℕ) → us ≡ ts → edgesOf w₃ v (c₃ .edges) ≡ edgesOf w v (c .edges) ++ edgesFor u (keysOf w₃ v (c₃ .known)) us
-            unfolding edgesFor places
+            unfolding edgesFor positions
             row₃ [] y =
                 let none : c₂ .edges ≡ c .edges = omega (arith, a .row-length, ap length y) in
                 b .looped none .1
                 ∙ ap (λ (l : List ℕ). l ++ (u ∷ []))
-                (a .row ∙ ap₂ (λ (l k : List ℕ). l ++ places eqb (keysOf w₂ v (c₂ .known)) k) edges₁ (sym y) ∙ append-nil (edgesOf w v (c .edges)))
+                (a .row ∙ ap₂ (λ (l k : List ℕ). l ++ positions eqb (keysOf w₂ v (c₂ .known)) k) edges₁ (sym y) ∙ append-nil (edgesOf w v (c .edges)))
             row₃ (t ∷ us) y =
                 let one : c₂ .edges ≡ c .edges → ⊥ = λ z. omega (arith, a .row-length, ap length y) in
                 b .others one .1
                 ∙ a .row
-                ∙ ap₂ (λ (l k : List ℕ). l ++ places eqb k ts) edges₁ (sym keys₃₂)
-                ∙ ap (λ (k : List ℕ). edgesOf w v (c .edges) ++ places eqb (keysOf w₃ v (c₃ .known)) k) (sym y)
+                ∙ ap₂ (λ (l k : List ℕ). l ++ positions eqb k ts) edges₁ (sym keys₃₂)
+                ∙ ap (λ (k : List ℕ). edgesOf w v (c .edges) ++ positions eqb (keysOf w₃ v (c₃ .known)) k) (sym y)
 
             on : Begins keys (keysOf w₃ v (c₃ .known))
             on = subst (Begins keys) (sym keys₃) (inserts-begins number-equality keys (targets here))
@@ -232,7 +235,7 @@ module _ (targets : ℕ → List ℕ) (root v e : ℕ) (w : List ℕ) (c : Count
             before : length (edgesOf w v (c .edges)) ≡ c .edges
             before = length-edges w v (c .edges) (omega (arith, g .ready .whole, g .ready .buffer))
 
-            starts₃ : region 5 v w₃ ≡ set (region 5 v w) u (c .edges)
+            starts₃ : region 5 v w₃ ≡ set (region 5 v w) u (c .edges + 1)
             starts₃ = b .starts ∙ a .starts ∙ starts₁
 
             counts₃ : region 6 v w₃ ≡ set (region 6 v w) u (c₃ .edges - c .edges)
@@ -244,11 +247,14 @@ module _ (targets : ℕ → List ℕ) (root v e : ℕ) (w : List ℕ) (c : Count
             -- the vertex that was settled
             stretch-new : Stretch targets root w₃ v c₃ u
             stretch-new =
-                let s : word (region 5 v w₃) u ≡ c .edges =
-                ap (λ (l : List ℕ). word l u) starts₃ ∙ getD-set-same (region 5 v w) u (c .edges) 0 (omega (arith, wide 5 (lit< tt) (omega arith), top-below)) in
-                let n : word (region 6 v w₃) u ≡ c₃ .edges - c .edges =
+                let within : u < length (region 5 v w) = omega (arith, wide 5 (lit< tt) (omega arith), top-below) in
+                let b : word (region 5 v w₃) u ≡ c .edges + 1 =
+                ap (λ (l : List ℕ). word l u) starts₃ ∙ getD-set-same (region 5 v w) u (c .edges + 1) 0 within in
+                let s : startIn w₃ v u ≡ c .edges = omega (arith, b) in
+                let n : countIn w₃ v u ≡ c₃ .edges - c .edges =
                 ap (λ (l : List ℕ). word l u) counts₃ ∙ getD-set-same (region 6 v w) u (c₃ .edges - c .edges) 0 (omega (arith, wide 6 (lit< tt) (omega arith), top-below)) in
                 record {
+                  settled = settled-in w₃ v u (omega (arith, b));
                   inside = omega (arith, s, n, edges₃);
                   row =
                       ap₂ (λ (k l : ℕ). take k (drop l (edgesOf w₃ v (c₃ .edges)))) n s
@@ -258,14 +264,20 @@ module _ (targets : ℕ → List ℕ) (root v e : ℕ) (w : List ℕ) (c : Count
                       ∙ ap (edgesFor u (keysOf w₃ v (c₃ .known))) (same ∙ ap targets (sym (key-kept u top-known)));
                 }
 
+            start-other : (y : ℕ) → (y ≡ u → ⊥) → word (region 5 v w₃) y ≡ word (region 5 v w) y
+            start-other y d =
+                ap (λ (l : List ℕ). word l y) starts₃ ∙ getD-set-other (region 5 v w) u y (c .edges + 1) 0 d
+
             -- one that was settled before
             stretch-old : (y : ℕ) → y < c .known → (y ≡ u → ⊥) → (¬ In y (waitingOf w v (c .waiting))) → Stretch targets root w v c y → Stretch targets root w₃ v c₃ y
             stretch-old y h d out p =
-                let s : word (region 5 v w₃) y ≡ word (region 5 v w) y = ap (λ (l : List ℕ). word l y) starts₃ ∙ getD-set-other (region 5 v w) u y (c .edges) 0 d in
-                let n : word (region 6 v w₃) y ≡ word (region 6 v w) y = ap (λ (l : List ℕ). word l y) counts₃ ∙ getD-set-other (region 6 v w) u y (c₃ .edges - c .edges) 0 d in
-                let st = word (region 5 v w) y in
-                let ct = word (region 6 v w) y in
+                let s : startIn w₃ v y ≡ startIn w v y = ap (λ (k : ℕ). k - 1) (start-other y d) in
+                let n : countIn w₃ v y ≡ countIn w v y =
+                ap (λ (l : List ℕ). word l y) counts₃ ∙ getD-set-other (region 6 v w) u y (c₃ .edges - c .edges) 0 d in
+                let st = startIn w v y in
+                let ct = countIn w v y in
                 record {
+                  settled = settled-same w w₃ v y (start-other y d) ∙ p .settled;
                   inside = omega (arith, s, n, p .inside, edges₃);
                   row =
                       ap₂ (λ (k l : ℕ). take k (drop l (edgesOf w₃ v (c₃ .edges)))) n s
@@ -308,11 +320,10 @@ module _ (targets : ℕ → List ℕ) (root v e : ℕ) (w : List ℕ) (c : Count
                   (push-only (length keys) (length more - length keys) left u (subst (In u) waits₃ m)),
             )
 
-            unsettled₃ : (y : ℕ) → y < v → (¬ Settled (standOf w₃ v c₃) y) → word (region 6 v w₃) y ≤ 0
+            unsettled₃ : (y : ℕ) → y < v → (¬ Settled (standOf w₃ v c₃) y) → settledIn w₃ v y ≡ false
             unsettled₃ y h out =
                 let d : y ≡ u → ⊥ = λ q. out (subst (Settled (standOf w₃ v c₃)) (sym q) settled-top) in
-                let n : word (region 6 v w₃) y ≡ word (region 6 v w) y = ap (λ (l : List ℕ). word l y) counts₃ ∙ getD-set-other (region 6 v w) u y (c₃ .edges - c .edges) 0 d in
-                omega (arith, n, g .unsettled y h (λ s. out (settled-kept y s)))
+                settled-same w w₃ v y (start-other y d) ∙ g .unsettled y h (λ s. out (settled-kept y s))
 
             pub step-made : StepMade targets root w v e c w₃ c₃
             step-made =

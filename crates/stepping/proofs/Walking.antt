@@ -8,7 +8,7 @@ use native.Mathlib.Numerals.{add-one}
 use native.Mathlib.Omega.{arith}
 use lib.Dec.{T, eqb}
 use lib.ListN.{length}
-use Rattle.rules.specs.Walk.{State, step, walk}
+use Rattle.rules.specs.Walk.{Stand, step, walk}
 use Rattle.lists.proofs.Shapes.{begins-length}
 use Rattle.lists.proofs.Equalities.{number-equality}
 use Rattle.walks.proofs.Steps.{walk-step, idle-walk}
@@ -57,7 +57,7 @@ module _ (targets : ℕ → List ℕ) (root v e k : ℕ) (w₀ : List ℕ) where
     pub walking-idle : c .waiting ≡ 0 → WalkMade targets root v e k w c
     walking-idle h =
         let z : i + (k - i) ≡ k = omega (arith, s .until) in
-        let n : walk eqb targets root i .waiting ≡ [] = ap (λ (st : State ℕ). st .waiting) (sym (s .made .stands)) ∙ none-waits (region 4 v w) (c .waiting) h in
+        let n : walk eqb targets root i .waiting ≡ [] = ap (λ (st : Stand ℕ). st .waiting) (sym (s .made .stands)) ∙ none-waits (region 4 v w) (c .waiting) h in
         record {
           stands = s .made .stands ∙ sym (idle-walk eqb targets root i (k - i) n) ∙ ap (walk eqb targets root) z;
           good = s .made .good;

@@ -12,7 +12,7 @@ ghost use lib.ListN.{length};
 ghost use Rattle.rules.specs.Lists.{word};
 ghost use Rattle.rules.specs.Words.{inputOf};
 ghost use Rattle.rules.specs.Pairs.{targets};
-ghost use Rattle.rules.specs.Good.{GoodInput};
+ghost use Rattle.tables.specs.Good.{GoodInput};
 ghost use Rattle.arena.specs.Arena.{Inside};
 ghost use Rattle.pairs.specs.Slot.{Multiples};
 ghost use Rattle.settling.specs.Keys.{pairKey, keyTargets, rootKey};
@@ -25,8 +25,6 @@ ghost use Rattle.stepping.specs.Answers.{TurnAnswer, TurnsAnswer};
 const STACK: u32 = 4;
 
 const STARTS: u32 = 5;
-
-const COUNTS: u32 = 6;
 
 const MARKS: u32 = 7;
 
@@ -70,13 +68,12 @@ fn settle(
     kinds: &[u32],
     lefts: &[u32],
     rights: &[u32],
-    priorities: &[u32],
     v: u32,
     e: u32,
     state: u32,
     item: u32,
 ) -> Stepped
-    requires { ⌜ Tables (inputOf (now labels) (now system) (now actions) (now formula)) (now multiples) (now classes) (now samples) (now matched) (now kinds) (now lefts) (now rights) (now priorities) ⌝ }
+    requires { ⌜ Tables (inputOf (now labels) (now system) (now actions) (now formula)) (now multiples) (now classes) (now samples) (now matched) (now kinds) (now lefts) (now rights) ⌝ }
     requires { ⌜ Ready (now work) v e c × (c .settled < c .known) × Marks (now work) v (c .settled) ⌝ }
     requires { ⌜ Inside (inputOf (now labels) (now system) (now actions) (now formula)) (state, item) ⌝ }
     ensures { λ r. ⌜ Answer (now (work .entry)) v e c
@@ -126,11 +123,10 @@ pub fn step(
     kinds: &[u32],
     lefts: &[u32],
     rights: &[u32],
-    priorities: &[u32],
     v: u32,
     e: u32,
 ) -> Stepped
-    requires { ⌜ Tables (inputOf (now labels) (now system) (now actions) (now formula)) (now multiples) (now classes) (now samples) (now matched) (now kinds) (now lefts) (now rights) (now priorities) ⌝ }
+    requires { ⌜ Tables (inputOf (now labels) (now system) (now actions) (now formula)) (now multiples) (now classes) (now samples) (now matched) (now kinds) (now lefts) (now rights) ⌝ }
     requires { ⌜ Good (keyTargets (inputOf (now labels) (now system) (now actions) (now formula))) (rootKey (inputOf (now labels) (now system) (now actions) (now formula))) (now work) v e c ⌝ }
     ensures { λ r. ⌜ StepAnswer (keyTargets (inputOf (now (labels .entry)) (now (system .entry)) (now (actions .entry)) (now (formula .entry))))
         (rootKey (inputOf (now (labels .entry)) (now (system .entry)) (now (actions .entry)) (now (formula .entry)))) (now (work .entry)) v e c (now (work .exit)) r ⌝ }
@@ -144,7 +140,7 @@ pub fn step(
     let vertex = words::region_word(work, v, STACK, top);
     let state = pairs::state_of(work, v, vertex);
     let item = pairs::item_of(work, v, vertex);
-    words::put_word(work, v, STARTS, vertex, start);
+    words::put_word(work, v, STARTS, vertex, start + 1);
     let popped = Counters {
         known: c.known,
         settled: c.settled,
@@ -165,7 +161,6 @@ pub fn step(
         kinds,
         lefts,
         rights,
-        priorities,
         v,
         e,
         state,
@@ -197,11 +192,10 @@ fn turn(
     kinds: &[u32],
     lefts: &[u32],
     rights: &[u32],
-    priorities: &[u32],
     v: u32,
     e: u32,
 ) -> Turned
-    requires { ⌜ Tables (inputOf (now labels) (now system) (now actions) (now formula)) (now multiples) (now classes) (now samples) (now matched) (now kinds) (now lefts) (now rights) (now priorities)
+    requires { ⌜ Tables (inputOf (now labels) (now system) (now actions) (now formula)) (now multiples) (now classes) (now samples) (now matched) (now kinds) (now lefts) (now rights)
         × Good (keyTargets (inputOf (now labels) (now system) (now actions) (now formula))) (rootKey (inputOf (now labels) (now system) (now actions) (now formula))) (now work) v e c ⌝ }
     ensures { λ r. ⌜ TurnAnswer (keyTargets (inputOf (now (labels .entry)) (now (system .entry)) (now (actions .entry)) (now (formula .entry))))
         (rootKey (inputOf (now (labels .entry)) (now (system .entry)) (now (actions .entry)) (now (formula .entry)))) (now (work .entry)) v e c (now (work .exit)) (r .counters) (r .more) ⌝ }
@@ -226,7 +220,6 @@ fn turn(
         kinds,
         lefts,
         rights,
-        priorities,
         v,
         e,
     ) {
@@ -256,11 +249,10 @@ pub fn step_in_place(
     kinds: &[u32],
     lefts: &[u32],
     rights: &[u32],
-    priorities: &[u32],
     v: u32,
     e: u32,
 ) -> bool
-    requires { ⌜ Tables (inputOf (now labels) (now system) (now actions) (now formula)) (now multiples) (now classes) (now samples) (now matched) (now kinds) (now lefts) (now rights) (now priorities)
+    requires { ⌜ Tables (inputOf (now labels) (now system) (now actions) (now formula)) (now multiples) (now classes) (now samples) (now matched) (now kinds) (now lefts) (now rights)
         × Good (keyTargets (inputOf (now labels) (now system) (now actions) (now formula))) (rootKey (inputOf (now labels) (now system) (now actions) (now formula))) (now work) v e (now c) ⌝ }
     ensures { λ r. ⌜ TurnAnswer (keyTargets (inputOf (now (labels .entry)) (now (system .entry)) (now (actions .entry)) (now (formula .entry))))
         (rootKey (inputOf (now (labels .entry)) (now (system .entry)) (now (actions .entry)) (now (formula .entry)))) (now (work .entry)) v e (now (c .entry)) (now (work .exit)) (now (c .exit)) r ⌝ }
@@ -279,7 +271,6 @@ pub fn step_in_place(
         kinds,
         lefts,
         rights,
-        priorities,
         v,
         e,
     );
@@ -307,13 +298,12 @@ fn turns(
     kinds: &[u32],
     lefts: &[u32],
     rights: &[u32],
-    priorities: &[u32],
     v: u32,
     e: u32,
     k: u32,
     c: Counters,
 ) -> Ran
-    requires { ⌜ Tables (inputOf (now labels) (now system) (now actions) (now formula)) (now multiples) (now classes) (now samples) (now matched) (now kinds) (now lefts) (now rights) (now priorities)
+    requires { ⌜ Tables (inputOf (now labels) (now system) (now actions) (now formula)) (now multiples) (now classes) (now samples) (now matched) (now kinds) (now lefts) (now rights)
         × WalkMade (keyTargets (inputOf (now labels) (now system) (now actions) (now formula))) (rootKey (inputOf (now labels) (now system) (now actions) (now formula))) v e 0 (now work) c ⌝ }
     ensures { λ r. ⌜ TurnsAnswer (keyTargets (inputOf (now (labels .entry)) (now (system .entry)) (now (actions .entry)) (now (formula .entry))))
         (rootKey (inputOf (now (labels .entry)) (now (system .entry)) (now (actions .entry)) (now (formula .entry)))) v e k (now (work .exit)) (r .counters) (r .steps) ⌝ }
@@ -335,7 +325,6 @@ fn turns(
             kinds,
             lefts,
             rights,
-            priorities,
             v,
             e,
         ) {
@@ -364,12 +353,11 @@ pub fn walk(
     kinds: &[u32],
     lefts: &[u32],
     rights: &[u32],
-    priorities: &[u32],
     v: u32,
     e: u32,
     k: u32,
 ) -> Stepped
-    requires { ⌜ Tables (inputOf (now labels) (now system) (now actions) (now formula)) (now multiples) (now classes) (now samples) (now matched) (now kinds) (now lefts) (now rights) (now priorities) ⌝ }
+    requires { ⌜ Tables (inputOf (now labels) (now system) (now actions) (now formula)) (now multiples) (now classes) (now samples) (now matched) (now kinds) (now lefts) (now rights) ⌝ }
     requires { ⌜ WalkMade (keyTargets (inputOf (now labels) (now system) (now actions) (now formula))) (rootKey (inputOf (now labels) (now system) (now actions) (now formula))) v e 0 (now work) c ⌝ }
     ensures { λ r. ⌜ WalkAnswer (keyTargets (inputOf (now (labels .entry)) (now (system .entry)) (now (actions .entry)) (now (formula .entry))))
         (rootKey (inputOf (now (labels .entry)) (now (system .entry)) (now (actions .entry)) (now (formula .entry)))) v e k (now (work .exit)) r ⌝ }
@@ -387,7 +375,6 @@ pub fn walk(
         kinds,
         lefts,
         rights,
-        priorities,
         v,
         e,
         k,
@@ -432,7 +419,7 @@ pub fn begin(
 {
     pairs::start(work, v);
     clear_region(work, v, MARKS);
-    clear_region(work, v, COUNTS);
+    clear_region(work, v, STARTS);
     let initial = system[2];
     let none = Counters {
         known: 0,

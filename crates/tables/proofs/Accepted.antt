@@ -15,12 +15,13 @@ use Rattle.rules.specs.Words.{Input, Room, mostLabels, mostActions, mostStates,
 use Rattle.rules.specs.Answers.{faultIf}
 use Rattle.rules.specs.Labels.{labelCount, actionCount, labelAt}
 use Rattle.rules.specs.System.{stateCount, transitionCount, initialState, transitionLabel, transitionTarget}
-use Rattle.rules.specs.Table.{size, kind, operand, actionChildren, formulaNode, formulaChildren, treeEnd, isNotEnd, isBeforeEnd, onRow}
+use Rattle.rules.specs.Table.{size, kind, operand, actionChildren, formulaNode, formulaChildren, referenceOf, treeEnd}
+use Rattle.rules.specs.Table.{isNotEnd, isBeforeEnd, onRow}
 use Rattle.rules.specs.Formula.{isFixpoint}
 use Rattle.rules.specs.Refusal.{outside, differ, faultFrom, badLabel, tooLarge, badActionOperand, namesNoTree, badFormulaOperand, wrongEnd, encloses, wrongReference}
 use Rattle.rules.specs.Refusal.{refusal1, refusal2, refusal11, refusal12, refusal13, refusal21, refusal22, refusal23, refusal24, refusal25, refusal26, refusal31, refusal32, refusal33, refusal34}
 use Rattle.rules.specs.Refusal.{refusal41, refusal42, refusal43, refusal44, refusal45, inputRefusal, refusal}
-use Rattle.rules.specs.Good.{GoodLabels, GoodSystem, GoodActionNode, GoodActions, GoodFormulaNode, GoodFormula, GoodInput}
+use Rattle.tables.specs.Good.{GoodLabels, GoodSystem, GoodActionNode, GoodActions, GoodFormulaNode, GoodFormula, GoodInput}
 use Rattle.tables.proofs.Faults.{passed-not-fault, if-passed, from-passed, first-passed, lower-both}
 use Rattle.tables.proofs.Ends.{end-bounds}
 use Rattle.tables.proofs.Decode.{action-children-two, action-children-one, formula-children-two, formula-children-one}
@@ -170,22 +171,24 @@ module _ (ls acts : List ℕ) (r33 : refusal33 acts ≡ Passed) (r34 : refusal34
 
 -- ---- the formula
 
-module _ (acts f : List ℕ) (r43 : refusal43 f ≡ Passed) (r44 : refusal44 acts f ≡ Passed) where
+module _ (acts f : List ℕ) (r43 : refusal43 f ≡ Passed) (r44 : refusal44 (namesNoTree acts) f ≡ Passed) where
   pub formula-known : (v : ℕ) → v < size f → kind f v ≤ 8
   unfolding refusal43
   formula-known v h = ltb-false 8 (kind f v) (from-passed 43 0 (size f) (λ u. ltb 8 (kind f u)) r43 v (omega arith) h)
 
-  formula-operand : (v : ℕ) → v < size f → badFormulaOperand acts f v ≡ false
+  formula-operand : (v : ℕ) → v < size f → badFormulaOperand (namesNoTree acts) f v ≡ false
   unfolding refusal44
   formula-operand v h =
-      let (a, b) = lower-both (faultFrom 44 0 (size f) (badFormulaOperand acts f)) (wrongEnd (size f) (treeEnd (formulaChildren f) (size f) 0)) r44 in
-      from-passed 44 0 (size f) (badFormulaOperand acts f) a v (omega arith) h
+      let (a, b) = lower-both (faultFrom 44 0 (size f) (badFormulaOperand (namesNoTree acts) f))
+      (wrongEnd (size f) (treeEnd (formulaChildren f) (size f) 0)) r44 in
+      from-passed 44 0 (size f) (badFormulaOperand (namesNoTree acts) f) a v (omega arith) h
 
   -- the tree of node 0 is the whole table
   pub formula-whole : treeEnd (formulaChildren f) (size f) 0 ≡ some (size f)
   unfolding refusal44 wrongEnd
   formula-whole =
-      let (a, b) = lower-both (faultFrom 44 0 (size f) (badFormulaOperand acts f)) (wrongEnd (size f) (treeEnd (formulaChildren f) (size f) 0)) r44 in
+      let (a, b) = lower-both (faultFrom 44 0 (size f) (badFormulaOperand (namesNoTree acts) f))
+      (wrongEnd (size f) (treeEnd (formulaChildren f) (size f) 0)) r44 in
       go (treeEnd (formulaChildren f) (size f) 0) refl b
     where
       go : (o : Option ℕ) → treeEnd (formulaChildren f) (size f) 0 ≡ o → wrongEnd (size f) o ≡ Passed → o ≡ some (size f)
@@ -209,7 +212,8 @@ module _ (acts f : List ℕ) (r43 : refusal43 f ≡ Passed) (r44 : refusal44 act
   formula-right-child v h a b =
       let (e, c, g) = formula-finished v h in
       let (x, i, j, k, l) = two-children (formulaChildren f) (size f) v e c (formula-children-two f v h a b) in
-      let q : operand f v ≡ x = is-end (operand f v) _ x i (sym (formula-right acts f v h a b) ∙ formula-operand v h) in
+      let q : operand f v ≡ x = is-end (operand f v) _ x i
+      (sym (formula-right (namesNoTree acts) f v h a b) ∙ formula-operand v h) in
       (i ∙ ap some (sym q), c ∙ sym j ∙ ap (treeEnd (formulaChildren f) (size f)) (sym q), omega arith, omega arith)
 
   good-formula-next : (v : ℕ) → v < size f → 2 ≤ kind f v → kind f v ≤ 7 → Dec (kind f v < 4) → suc v < size f
@@ -225,7 +229,9 @@ module _ (acts f : List ℕ) (r43 : refusal43 f ≡ Passed) (r44 : refusal44 act
       → (operand f v < size acts) × (onRow (actionChildren acts) (size acts) (operand f v) ≡ true)
   unfolding namesNoTree
   formula-names v h a b =
-      let (p, q) = or-false (leb (size acts) (operand f v)) (not (onRow (actionChildren acts) (size acts) (operand f v))) (sym (formula-action acts f v h a b) ∙ formula-operand v h) in
+      let (p, q) = or-false (leb (size acts) (operand f v))
+      (not (onRow (actionChildren acts) (size acts) (operand f v)))
+      (sym (formula-action (namesNoTree acts) f v h a b) ∙ formula-operand v h) in
       (leb-false (size acts) (operand f v) p, not-false (onRow (actionChildren acts) (size acts) (operand f v)) q)
 
   module _ (r45 : refusal45 f ≡ Passed) where
@@ -235,7 +241,8 @@ module _ (acts f : List ℕ) (r43 : refusal43 f ≡ Passed) (r44 : refusal44 act
     unfolding refusal45 encloses
     formula-refers v h a =
         let k = formula-known v h in
-        let t = from-passed 45 0 (size f) (λ u. wrongReference f u (formulaNode f u)) r45 v (omega arith) h in
+        let t = from-passed 45 0 (size f) (λ u. wrongReference f u (referenceOf (formulaNode f u))) r45 v (omega arith)
+        h in
         let (p, q) = and-true (isFixpoint (formulaNode f (operand f v))) (encloses f (operand f v) v)
         (not-false (isFixpoint (formulaNode f (operand f v)) && encloses f (operand f v) v) (sym (reference-test f v h (omega arith)) ∙ t)) in
         let (i, j) = and-true (ltb (operand f v) v) (isBeforeEnd v (treeEnd (formulaChildren f) (size f) (operand f v))) q in

@@ -12,7 +12,8 @@ use lib.ListN.{length, getD, set}
 use lib.Seq.{getD-set-same, getD-set-other}
 use lib.Dec.{eqb, ltb}
 use borrow.Author.Tests.{lt-ltb, le-ltb, eq-eqb, ne-eqb}
-use Rattle.rules.specs.Table.{endOfTrees, treeEnd, isEnd, isNotEnd, isBeforeEnd, comesTo, onRow}
+use Rattle.rules.specs.Table.{endOfTrees, treeEnd, pastTrees, TreeEndEquation, isEnd, isNotEnd, isBeforeEnd, comesTo}
+use Rattle.rules.specs.Table.{onRow}
 use Rattle.tables.specs.Ends.{endNumber, endOf, treesAfter, treeAfter, onRowFrom}
 
 turn : (a b : ℕ) → eqb a b ≡ eqb b a
@@ -97,6 +98,31 @@ module _ (c : ℕ → ℕ) where
     end-out v h =
         let z : n - v ≡ 0 = omega arith in
         rw z (no-room v 1 (omega arith))
+
+    past-none : (k : ℕ) → pastTrees (treeEnd c n) k none ≡ none
+    unfolding pastTrees
+    past-none zero = refl
+    past-none (suc k) = refl
+
+    trees-past : (k v : ℕ) → endOfTrees c (n - v) v k ≡ pastTrees (treeEnd c n) k (some v)
+    unfolding pastTrees treesAfter treeEnd
+    trees-past zero v = no-trees (n - v) v
+    trees-past (suc k) v =
+        let s : suc k ≡ 1 + k = omega arith in
+        ap (endOfTrees c (n - v) v) s ∙ trees-sum (n - v) v 1 k refl ∙ go (trees-past k) (treeEnd c n v)
+      where
+        go : ((u : ℕ) → endOfTrees c (n - u) u k ≡ pastTrees (treeEnd c n) k (some u)) → (o : Option ℕ)
+            → treesAfter c n o k ≡ pastTrees (treeEnd c n) k o
+        go later none = sym (past-none k)
+        go later (some u) = later u
+
+    -- the end of a tree from the ends of its children's trees
+    pub tree-end : (v : ℕ) → TreeEndEquation c n v
+    tree-end v = go (decLt v n)
+      where
+        go : Dec (v < n) → TreeEndEquation c n v
+        go (yes h) = rw (lt-ltb v n h) (tree-step v (c v) h refl ∙ trees-past (c v) (suc v))
+        go (no h) = rw (le-ltb v n (omega arith)) (end-out v (omega arith))
 
     -- it ends past the node, and inside the table
     pub end-bounds : (v e : ℕ) → treeEnd c n v ≡ some e → (v < n) × (v < e) × (e ≤ n)

@@ -2,9 +2,9 @@
 -- numbers and then of places; it is not refused exactly if there is no fault. Assumes nothing.
 use Prim.Native.Nat.{ℕ}
 use native.Mathlib.Omega.{arith}
-use mathlib.Core.Path.{_≡_, refl, sym, ap, _∙_}
+use mathlib.Core.Path.{_≡_, ap}
 use mathlib.Core.List.{List, _++_}
-use mathlib.Core.Logic.{inl, inr, _↔_}
+use mathlib.Core.Logic.{_⊎_, _↔_}
 use Rattle.rules.specs.declared.Check.{Check}
 use Rattle.rules.specs.declared.Check.the-variants.{Passed, Fault}
 use Rattle.rules.specs.Words.{Input, Room}
@@ -12,9 +12,12 @@ use Rattle.rules.specs.Answers.{andThen, firstFault}
 use Rattle.rules.specs.Labels.{labelCount}
 use Rattle.rules.specs.Refusal.{refusal1, refusal2, refusal11, refusal12, refusal13, refusal21, refusal22, refusal23, refusal24, refusal25, refusal26, refusal31, refusal32, refusal33, refusal34}
 use Rattle.rules.specs.Refusal.{refusal41, refusal42, refusal43, refusal44, refusal45, inputRefusal, refusal}
-use Rattle.tables.specs.Faulty.{FaultyRoom, FaultyLabels, FaultySystem, FaultyActions, FaultyFormula, Faulty, faultyRoom, faultyLabels, faultySystem, faultyActions, faultyFormula, NoLater, FirstFaulty}
+use Rattle.rules.specs.Faulty.{FaultyRoom, FaultyLabels, FaultySystem, FaultyActions, FaultyFormula}
+use Rattle.rules.specs.Faulty.{Faulty, faultyRoom, faultyLabels, faultySystem, faultyActions, faultyFormula, FirstFaulty, Faultless}
 use Rattle.tables.proofs.Faults.{then-last}
-use Rattle.tables.proofs.Order.{Finds, Sound, Each, Some, Rising, each-map, each-append, some-left, some-right, first-sound, first-none, first-least, if-numbered, from-numbered, lower-numbered}
+use Rattle.tables.proofs.Order.{Finds, Sound, Each, Some, Rising, each-map, each-append, some-left, some-right}
+use Rattle.tables.proofs.Order.{if-numbered, from-numbered, lower-numbered}
+use Rattle.tables.proofs.Order.{first-exact, passed-exact, none-or-first}
 use Rattle.tables.proofs.FaultyWords.{roomChecks, labelChecks, systemChecks, room-sound, room-finds, label-sound, label-finds, system-sound, system-finds}
 use Rattle.tables.proofs.FaultyTables.{actionChecks, formulaChecks, action-sound, action-finds, formula-sound, formula-finds, end-numbered}
 
@@ -75,7 +78,7 @@ module _ (x : Input) (r : Room) (game work : ℕ) where
       (some-right (Finds n q) labels (systems ++ (actions ++ formulas))
       (some-right (Finds n q) systems (actions ++ formulas) (some-right (Finds n q) actions formulas (formula-finds (x .actions) (x .formula) h))))
 
-  rising : Rising 0 checks
+  rising : Rising (λ k. k) 0 checks
   unfolding refusal1 refusal2 refusal11 refusal12 refusal13 refusal21 refusal22 refusal23 refusal24 refusal25 refusal26 refusal31 refusal32 refusal33 refusal34 refusal41 refusal42 refusal43 refusal44 refusal45
   rising = (
     1,
@@ -174,40 +177,12 @@ module _ (x : Input) (r : Room) (game work : ℕ) where
     ),
   )
 
-  -- a refusal is the first fault
-  refused : (n p : ℕ) → refusal x r game work ≡ Fault n p → FirstFaulty x r game work n p
-  refused n p e = (
-    first-sound F checks sound n p (sym whole ∙ e),
-    λ m q h. first-least 0 checks rising n p (sym whole ∙ e) m q (finds m q h),
-  )
-
-  faultless : refusal x r game work ≡ Passed → (n p : ℕ) → ¬ Faulty x r game work n p
-  faultless e n p h = first-none checks (sym whole ∙ e) n p (finds n p h)
-
-  -- two faults of which neither is later are one
-  one-first : (n p m q : ℕ) → NoLater n p m q → NoLater m q n p → Fault n p ≡ Fault m q
-  one-first n p m q (inl a) (inl b) = absurd (omega arith)
-  one-first n p m q (inl a) (inr (b, c)) = absurd (omega arith)
-  one-first n p m q (inr (a, c)) (inl b) = absurd (omega arith)
-  one-first n p m q (inr (a, c)) (inr (b, d)) =
-      let e : p ≡ q = omega arith in
-      ap (λ k. Fault k p) a ∙ ap (Fault m) e
-
-  is-first : (n p : ℕ) → FirstFaulty x r game work n p → refusal x r game work ≡ Fault n p
-  is-first n p (here, least) = go (refusal x r game work) refl
-    where
-      go : (c : Check) → refusal x r game work ≡ c → c ≡ Fault n p
-      go Passed e = absurd (faultless e n p here)
-      go (Fault m q) e =
-          let (a, b) = refused m q e in
-          one-first m q n p (b n p here) (least m q a)
-
   pub exact : (n p : ℕ) → refusal x r game work ≡ Fault n p ↔ FirstFaulty x r game work n p
-  exact n p = (refused n p, is-first n p)
+  exact n p = rw whole (first-exact (λ k. k) F checks sound finds rising n p)
 
-  pub exact-passed : refusal x r game work ≡ Passed ↔ ((n p : ℕ) → ¬ Faulty x r game work n p)
-  exact-passed = (faultless, λ h. go h (refusal x r game work) refl)
-    where
-      go : ((n p : ℕ) → ¬ Faulty x r game work n p) → (c : Check) → refusal x r game work ≡ c → c ≡ Passed
-      go h Passed e = refl
-      go h (Fault n p) e = absurd (h n p (refused n p e .0))
+  pub exact-passed : refusal x r game work ≡ Passed ↔ Faultless x r game work
+  exact-passed = rw whole (passed-exact (λ k. k) F checks sound finds rising)
+
+  -- there is no fault or a first one
+  pub faultless-or-first : Faultless x r game work ⊎ ((n : ℕ) × (p : ℕ) × FirstFaulty x r game work n p)
+  faultless-or-first = none-or-first (λ k. k) F checks sound finds rising

@@ -1,7 +1,7 @@
 -- The checks of the action formulas and of the formula find exactly the faults of document 01. Assumes nothing.
 use Prim.Native.Nat.{ℕ, suc, _+_, _*_, _≤_, _<_}
 use native.Mathlib.Omega.{arith}
-use native.Mathlib.Decide.{decLt, ℕ-discrete}
+use native.Mathlib.Decide.{ℕ-discrete}
 use mathlib.Core.Path.{_≡_, refl, sym, ap, _∙_}
 use mathlib.Core.Bool.{Bool, true, false, not, _&&_, _||_, true≢false, false≢true}
 use mathlib.Core.List.{List, [], _∷_}
@@ -15,18 +15,20 @@ use Rattle.rules.specs.Answers.{faultIf}
 use Rattle.rules.specs.Lists.{In}
 use Rattle.rules.specs.Words.{mostNodes}
 use Rattle.rules.specs.Labels.{labelCount}
-use Rattle.rules.specs.Table.{size, kind, operand, actionChildren, formulaNode, formulaChildren, treeEnd, isNotEnd, isBeforeEnd, onRow}
+use Rattle.rules.specs.Table.{size, kind, operand, actionChildren, formulaNode, formulaChildren, referenceOf, treeEnd}
+use Rattle.rules.specs.Table.{isNotEnd, isBeforeEnd, onRow}
 use Rattle.rules.specs.Formula.{isFixpoint}
 use Rattle.rules.specs.Refusal.{outside, differ, badActionOperand, namesNoTree, badFormulaOperand, wrongEnd, encloses}
 use Rattle.rules.specs.Refusal as rules
 use Rattle.rules.specs.Refusal.{refusal31, refusal32, refusal33, refusal34, refusal41, refusal42, refusal43, refusal44, refusal45}
-use Rattle.tables.specs.Rows.{Root}
-use Rattle.tables.specs.Faulty.{FaultyActions, noActionWords, wrongActionWords, manyActionNodes, actionKindTooLarge, actionNotZero, actionNoLabel, actionNotRight, actionUnfinished}
-use Rattle.tables.specs.Faulty.{EnclosingFixpoint, FaultyFormula, noFormulaWords, wrongFormulaWords, noFormulaNodes, manyFormulaNodes, formulaKindTooLarge, formulaNotZero, formulaNotRight}
-use Rattle.tables.specs.Faulty.{formulaNoAction, formulaNoRoot, formulaUnfinished, formulaLeftOver, wrongReference}
-use Rattle.tables.proofs.Decode.{fixpoint-yes, fixpoint-kind}
+use Rattle.rules.specs.Rows.{Root}
+use Rattle.rules.specs.Faulty.{FaultyActions, noActionWords, wrongActionWords, manyActionNodes, actionKindTooLarge, actionNotZero, actionNoLabel, actionNotRight, actionUnfinished}
+use Rattle.rules.specs.Faulty.{EnclosingFixpoint, FaultyFormula, noFormulaWords, wrongFormulaWords, noFormulaNodes, manyFormulaNodes, formulaKindTooLarge, formulaNotZero, formulaNotRight}
+use Rattle.rules.specs.Faulty.{formulaNoAction, formulaNoRoot, formulaUnfinished, formulaLeftOver, wrongReference}
+use Rattle.tables.proofs.Decode.{action-kinds, formula-kinds, fixpoint-yes, fixpoint-kind}
 use Rattle.tables.proofs.Operands.{action-zero, action-label, action-right, action-negated, action-other}
-use Rattle.tables.proofs.Operands.{formula-zero, formula-right, formula-action, formula-fixpoint, formula-other, reference-other, reference-unknown, reference-test}
+use Rattle.tables.proofs.Operands.{formula-zero, formula-right, formula-action, formula-fixpoint, formula-other}
+use Rattle.tables.proofs.Operands.{reference-other, reference-test}
 use Rattle.tables.proofs.Order.{Numbered, Finds, Sound, Each, Some, if-numbered, from-numbered, if-finds, from-finds, lower-finds-left, lower-finds-right, if-sound, from-sound, lower-sound}
 use Rattle.tables.proofs.Rows.{root-row, row-stops, row-unfinished}
 use Rattle.lists.proofs.Tests.{or-left, or-right, or-true, and-true}
@@ -74,29 +76,29 @@ module _ (ls acts : List ℕ) where
       go (inr i) = wrongActionWords (differ-true (length acts) (1 + 2 * size acts) i)
 
   action-operands : (v : ℕ) → v < size acts → badActionOperand ls acts v ≡ true → F 34 v
-  action-operands v h e = go (ℕ-discrete (kind acts v) 0) (decLt (kind acts v) 2) (decLt (kind acts v) 3) (ℕ-discrete (kind acts v) 3) (decLt (kind acts v) 5) (decLt (kind acts v) 6)
+  action-operands v h e = by-kind (kind acts v) refl
     where
+      not-zero : In (kind acts v) (0 ∷ 1 ∷ 5 ∷ []) → badActionOperand ls acts v ≡ differ (operand acts v) 0 → F 34 v
+      not-zero m i = actionNotZero v h m (differ-true (operand acts v) 0 (sym i ∙ e))
+
       right : In (kind acts v) (3 ∷ 4 ∷ []) → 3 ≤ kind acts v → kind acts v ≤ 4 → F 34 v
       right m a b =
-          let (x, i, d) = not-end (operand acts v) (treeEnd (actionChildren acts) (size acts) (suc v)) (sym (action-right ls acts v h a b) ∙ e) in
+          let (x, i, d) =
+          not-end (operand acts v) (treeEnd (actionChildren acts) (size acts) (suc v))
+          (sym (action-right ls acts v h a b) ∙ e)
+          in
           actionNotRight v x h m i d
 
-      go : Dec (kind acts v ≡ 0) → Dec (kind acts v < 2) → Dec (kind acts v < 3) → Dec (kind acts v ≡ 3) → Dec (kind acts v < 5) → Dec (kind acts v < 6) → F 34 v
-      go (yes k) b c d f g = actionNotZero v h (inl k) (differ-true (operand acts v) 0 (sym (action-zero ls acts v h (omega arith)) ∙ e))
-      go (no a) (yes k) c d f g =
-          let o : kind acts v ≡ 1 = omega arith in
-          actionNotZero v h (inr (inl o)) (differ-true (operand acts v) 0 (sym (action-zero ls acts v h (omega arith)) ∙ e))
-      go (no a) (no b) (yes k) d f g =
-          let o : kind acts v ≡ 2 = omega arith in
-          actionNoLabel v h o (leb-true (labelCount ls) (operand acts v) (sym (action-label ls acts v h o) ∙ e))
-      go (no a) (no b) (no c) (yes k) f g = right (inl k) (omega arith) (omega arith)
-      go (no a) (no b) (no c) (no d) (yes k) g =
-          let o : kind acts v ≡ 4 = omega arith in
-          right (inr (inl o)) (omega arith) (omega arith)
-      go (no a) (no b) (no c) (no d) (no f) (yes k) =
-          let o : kind acts v ≡ 5 = omega arith in
-          actionNotZero v h (inr (inr (inl o))) (differ-true (operand acts v) 0 (sym (action-negated ls acts v h o) ∙ e))
-      go (no a) (no b) (no c) (no d) (no f) (no g) = absurd (false≢true (sym (action-other ls acts v h (omega arith)) ∙ e))
+      by-kind : (j : ℕ) → kind acts v ≡ j → F 34 v
+      by-kind =
+          action-kinds 0 (λ j n. kind acts v ≡ j → F 34 v)
+          (λ k. not-zero (inl k) (action-zero ls acts v h (omega arith)))
+          (λ k. not-zero (inr (inl k)) (action-zero ls acts v h (omega arith)))
+          (λ k. actionNoLabel v h k (leb-true (labelCount ls) (operand acts v) (sym (action-label ls acts v h k) ∙ e)))
+          (λ k. right (inl k) (omega arith) (omega arith))
+          (λ k. right (inr (inl k)) (omega arith) (omega arith))
+          (λ k. not-zero (inr (inr (inl k))) (action-negated ls acts v h k))
+          (λ j l k. absurd (false≢true (sym (action-other ls acts v h (omega arith)) ∙ e)))
 
   action-row : not (onRow (actionChildren acts) (size acts) (size acts)) ≡ true → F 34 (size acts)
   action-row e =
@@ -165,7 +167,7 @@ module _ (ls acts : List ℕ) where
 
 module _ (acts f : List ℕ) where
   abbrev pub formulaChecks : List Check
-  formulaChecks = refusal41 f ∷ refusal42 f ∷ refusal43 f ∷ refusal44 acts f ∷ refusal45 f ∷ []
+  formulaChecks = refusal41 f ∷ refusal42 f ∷ refusal43 f ∷ refusal44 (namesNoTree acts) f ∷ refusal45 f ∷ []
 
   abbrev G : ℕ → ℕ → Type 0
   G = FaultyFormula acts f
@@ -184,14 +186,20 @@ module _ (acts f : List ℕ) where
       go (inl l) = noFormulaNodes l
       go (inr l) = manyFormulaNodes l
 
-  formula-operands : (v : ℕ) → v < size f → badFormulaOperand acts f v ≡ true → G 44 v
+  formula-operands : (v : ℕ) → v < size f → badFormulaOperand (namesNoTree acts) f v ≡ true → G 44 v
   unfolding namesNoTree
-  formula-operands v h e =
-      go (decLt (kind f v) 1) (decLt (kind f v) 2) (decLt (kind f v) 3) (decLt (kind f v) 4) (decLt (kind f v) 5) (decLt (kind f v) 6) (decLt (kind f v) 7) (decLt (kind f v) 8)
+  formula-operands v h e = by-kind (kind f v) refl
     where
+      not-zero : In (kind f v) (0 ∷ 1 ∷ 6 ∷ 7 ∷ []) → badFormulaOperand (namesNoTree acts) f v ≡ differ (operand f v) 0
+          → G 44 v
+      not-zero m i = formulaNotZero v h m (differ-true (operand f v) 0 (sym i ∙ e))
+
       right : In (kind f v) (2 ∷ 3 ∷ []) → 2 ≤ kind f v → kind f v ≤ 3 → G 44 v
       right m a b =
-          let (x, i, d) = not-end (operand f v) (treeEnd (formulaChildren f) (size f) (suc v)) (sym (formula-right acts f v h a b) ∙ e) in
+          let (x, i, d) =
+          not-end (operand f v) (treeEnd (formulaChildren f) (size f) (suc v))
+          (sym (formula-right (namesNoTree acts) f v h a b) ∙ e)
+          in
           formulaNotRight v x h m i d
 
       which : In (kind f v) (4 ∷ 5 ∷ []) → (leb (size acts) (operand f v) ≡ true) ⊎ (not (onRow (actionChildren acts) (size acts) (operand f v)) ≡ true) → G 44 v
@@ -202,35 +210,24 @@ module _ (acts f : List ℕ) where
 
       action : In (kind f v) (4 ∷ 5 ∷ []) → 4 ≤ kind f v → kind f v ≤ 5 → G 44 v
       action m a b =
-          which m (or-true (leb (size acts) (operand f v)) (not (onRow (actionChildren acts) (size acts) (operand f v))) (sym (formula-action acts f v h a b) ∙ e))
+          which m
+          (or-true (leb (size acts) (operand f v)) (not (onRow (actionChildren acts) (size acts) (operand f v)))
+          (sym (formula-action (namesNoTree acts) f v h a b) ∙ e))
 
-      go : Dec (kind f v < 1) → Dec (kind f v < 2) → Dec (kind f v < 3) → Dec (kind f v < 4) → Dec (kind f v < 5) → Dec (kind f v < 6) → Dec (kind f v < 7) → Dec (kind f v < 8)
-          → G 44 v
-      go (yes k) b c d i j l m =
-          let o : kind f v ≡ 0 = omega arith in
-          formulaNotZero v h (inl o) (differ-true (operand f v) 0 (sym (formula-zero acts f v h (omega arith)) ∙ e))
-      go (no a) (yes k) c d i j l m =
-          let o : kind f v ≡ 1 = omega arith in
-          formulaNotZero v h (inr (inl o)) (differ-true (operand f v) 0 (sym (formula-zero acts f v h (omega arith)) ∙ e))
-      go (no a) (no b) (yes k) d i j l m =
-          let o : kind f v ≡ 2 = omega arith in
-          right (inl o) (omega arith) (omega arith)
-      go (no a) (no b) (no c) (yes k) i j l m =
-          let o : kind f v ≡ 3 = omega arith in
-          right (inr (inl o)) (omega arith) (omega arith)
-      go (no a) (no b) (no c) (no d) (yes k) j l m =
-          let o : kind f v ≡ 4 = omega arith in
-          action (inl o) (omega arith) (omega arith)
-      go (no a) (no b) (no c) (no d) (no i) (yes k) l m =
-          let o : kind f v ≡ 5 = omega arith in
-          action (inr (inl o)) (omega arith) (omega arith)
-      go (no a) (no b) (no c) (no d) (no i) (no j) (yes k) m =
-          let o : kind f v ≡ 6 = omega arith in
-          formulaNotZero v h (inr (inr (inl o))) (differ-true (operand f v) 0 (sym (formula-fixpoint acts f v h (omega arith) (omega arith)) ∙ e))
-      go (no a) (no b) (no c) (no d) (no i) (no j) (no l) (yes k) =
-          let o : kind f v ≡ 7 = omega arith in
-          formulaNotZero v h (inr (inr (inr (inl o)))) (differ-true (operand f v) 0 (sym (formula-fixpoint acts f v h (omega arith) (omega arith)) ∙ e))
-      go (no a) (no b) (no c) (no d) (no i) (no j) (no l) (no m) = absurd (false≢true (sym (formula-other acts f v h (omega arith)) ∙ e))
+      by-kind : (j : ℕ) → kind f v ≡ j → G 44 v
+      by-kind =
+          formula-kinds 0 (λ j n. kind f v ≡ j → G 44 v)
+          (λ k. not-zero (inl k) (formula-zero (namesNoTree acts) f v h (omega arith)))
+          (λ k. not-zero (inr (inl k)) (formula-zero (namesNoTree acts) f v h (omega arith)))
+          (λ k. right (inl k) (omega arith) (omega arith))
+          (λ k. right (inr (inl k)) (omega arith) (omega arith))
+          (λ k. action (inl k) (omega arith) (omega arith))
+          (λ k. action (inr (inl k)) (omega arith) (omega arith))
+          (λ k. not-zero (inr (inr (inl k))) (formula-fixpoint (namesNoTree acts) f v h (omega arith) (omega arith)))
+          (λ k. not-zero (inr (inr (inr (inl k))))
+          (formula-fixpoint (namesNoTree acts) f v h (omega arith) (omega arith)))
+          (λ k. absurd (false≢true (sym (formula-other (namesNoTree acts) f v h (omega arith)) ∙ e)))
+          (λ j l k. absurd (false≢true (sym (formula-other (namesNoTree acts) f v h (omega arith)) ∙ e)))
 
   end-sound : (o : Option ℕ) → treeEnd (formulaChildren f) (size f) 0 ≡ o → Sound G (wrongEnd (size f) o)
   unfolding wrongEnd faultIf
@@ -273,14 +270,12 @@ module _ (acts f : List ℕ) where
       fix a b (yes k) = inl k
       fix a b (no k) = let o : kind f u ≡ 7 = omega arith in inr (inl o)
 
-  references : (v : ℕ) → v < size f → rules.wrongReference f v (formulaNode f v) ≡ true → G 45 v
-  references v h e = go (decLt (kind f v) 8) (decLt 8 (kind f v))
+  references : (v : ℕ) → v < size f → rules.wrongReference f v (referenceOf (formulaNode f v)) ≡ true → G 45 v
+  references v h e = go (ℕ-discrete (kind f v) 8)
     where
-      go : Dec (kind f v < 8) → Dec (8 < kind f v) → G 45 v
-      go (yes k) b = absurd (false≢true (sym (reference-other f v h k) ∙ e))
-      go (no a) (yes k) = absurd (false≢true (sym (reference-unknown f v h k) ∙ e))
-      go (no a) (no b) =
-          let o : kind f v ≡ 8 = omega arith in
+      go : Dec (kind f v ≡ 8) → G 45 v
+      go (no d) = absurd (false≢true (sym (reference-other f v h d) ∙ e))
+      go (yes o) =
           wrongReference v h o
           (λ r. true≢false
           (sym (enclosing-yes (operand f v) v h r)
@@ -295,20 +290,28 @@ module _ (acts f : List ℕ) where
       (
         from-sound G 43 0 (size f) (λ v. ltb 8 (kind f v)) (λ v a b e. formulaKindTooLarge v b (ltb-true 8 (kind f v) e)),
         (
-          lower-sound G 44 _ _ (from-numbered 44 0 (size f) (badFormulaOperand acts f)) (end-numbered (treeEnd (formulaChildren f) (size f) 0))
-              (from-sound G 44 0 (size f) (badFormulaOperand acts f) (λ v a b e. formula-operands v b e))
+          lower-sound G 44 _ _ (from-numbered 44 0 (size f) (badFormulaOperand (namesNoTree acts) f))
+              (end-numbered (treeEnd (formulaChildren f) (size f) 0))
+              (from-sound G 44 0 (size f) (badFormulaOperand (namesNoTree acts) f) (λ v a b e. formula-operands v b e))
               (end-sound (treeEnd (formulaChildren f) (size f) 0) refl),
-          (from-sound G 45 0 (size f) (λ v. rules.wrongReference f v (formulaNode f v)) (λ v a b e. references v b e), tt),
+          (
+            from-sound G 45 0 (size f) (λ v. rules.wrongReference f v (referenceOf (formulaNode f v)))
+                (λ v a b e. references v b e),
+            tt,
+          ),
         ),
       ),
     ),
   )
 
-  not-zero-bad : (v : ℕ) → v < size f → In (kind f v) (0 ∷ 1 ∷ 6 ∷ 7 ∷ []) → (¬ (operand f v ≡ 0)) → badFormulaOperand acts f v ≡ true
-  not-zero-bad v h (inl k) d = formula-zero acts f v h (omega arith) ∙ differ-yes d
-  not-zero-bad v h (inr (inl k)) d = formula-zero acts f v h (omega arith) ∙ differ-yes d
-  not-zero-bad v h (inr (inr (inl k))) d = formula-fixpoint acts f v h (omega arith) (omega arith) ∙ differ-yes d
-  not-zero-bad v h (inr (inr (inr (inl k)))) d = formula-fixpoint acts f v h (omega arith) (omega arith) ∙ differ-yes d
+  not-zero-bad : (v : ℕ) → v < size f → In (kind f v) (0 ∷ 1 ∷ 6 ∷ 7 ∷ []) → (¬ (operand f v ≡ 0))
+      → badFormulaOperand (namesNoTree acts) f v ≡ true
+  not-zero-bad v h (inl k) d = formula-zero (namesNoTree acts) f v h (omega arith) ∙ differ-yes d
+  not-zero-bad v h (inr (inl k)) d = formula-zero (namesNoTree acts) f v h (omega arith) ∙ differ-yes d
+  not-zero-bad v h (inr (inr (inl k))) d =
+      formula-fixpoint (namesNoTree acts) f v h (omega arith) (omega arith) ∙ differ-yes d
+  not-zero-bad v h (inr (inr (inr (inl k)))) d =
+      formula-fixpoint (namesNoTree acts) f v h (omega arith) (omega arith) ∙ differ-yes d
   not-zero-bad v h (inr (inr (inr (inr z)))) d = absurd z
 
   two-bounds : (a b k : ℕ) → b ≡ suc a → In k (a ∷ b ∷ []) → (a ≤ k) × (k ≤ b)
@@ -316,33 +319,41 @@ module _ (acts f : List ℕ) where
   two-bounds a b k s (inr (inl e)) = (omega arith, omega arith)
   two-bounds a b k s (inr (inr z)) = absurd z
 
-  not-right-bad : (v e : ℕ) → v < size f → In (kind f v) (2 ∷ 3 ∷ []) → treeEnd (formulaChildren f) (size f) (suc v) ≡ some e → (¬ (operand f v ≡ e)) → badFormulaOperand acts f v ≡ true
+  not-right-bad : (v e : ℕ) → v < size f → In (kind f v) (2 ∷ 3 ∷ []) → treeEnd (formulaChildren f) (size f) (suc v)
+      ≡ some e → (¬ (operand f v ≡ e)) → badFormulaOperand (namesNoTree acts) f v ≡ true
   not-right-bad v e h m i d =
       let (a, b) = two-bounds 2 3 (kind f v) refl m in
-      formula-right acts f v h a b ∙ not-end-yes (operand f v) e (treeEnd (formulaChildren f) (size f) (suc v)) i d
+      formula-right (namesNoTree acts) f v h a b
+      ∙ not-end-yes (operand f v) e (treeEnd (formulaChildren f) (size f) (suc v)) i d
 
-  no-action-bad : (v : ℕ) → v < size f → In (kind f v) (4 ∷ 5 ∷ []) → size acts ≤ operand f v → badFormulaOperand acts f v ≡ true
+  no-action-bad : (v : ℕ) → v < size f → In (kind f v) (4 ∷ 5 ∷ []) → size acts ≤ operand f v
+      → badFormulaOperand (namesNoTree acts) f v ≡ true
   unfolding namesNoTree
   no-action-bad v h m l =
       let (a, b) = two-bounds 4 5 (kind f v) refl m in
-      formula-action acts f v h a b
+      formula-action (namesNoTree acts) f v h a b
       ∙ or-left (not (onRow (actionChildren acts) (size acts) (operand f v))) (le-leb (size acts) (operand f v) l)
 
-  no-root-bad : (v : ℕ) → v < size f → In (kind f v) (4 ∷ 5 ∷ []) → (¬ Root (actionChildren acts) (size acts) (operand f v)) → badFormulaOperand acts f v ≡ true
+  no-root-bad : (v : ℕ) → v < size f → In (kind f v) (4 ∷ 5 ∷ [])
+      → (¬ Root (actionChildren acts) (size acts) (operand f v)) → badFormulaOperand (namesNoTree acts) f v ≡ true
   unfolding namesNoTree
   no-root-bad v h m d =
       let (a, b) = two-bounds 4 5 (kind f v) refl m in
-      formula-action acts f v h a b
+      formula-action (namesNoTree acts) f v h a b
       ∙ or-right (leb (size acts) (operand f v))
       (not-so (onRow (actionChildren acts) (size acts) (operand f v)) (λ t. d (root-row (actionChildren acts) (size acts) (operand f v) .0 t)))
 
-  operand-found : (v : ℕ) → v < size f → badFormulaOperand acts f v ≡ true → Finds 44 v (refusal44 acts f)
+  operand-found : (v : ℕ) → v < size f → badFormulaOperand (namesNoTree acts) f v ≡ true
+      → Finds 44 v (refusal44 (namesNoTree acts) f)
   unfolding refusal44
-  operand-found v h e = lower-finds-left 44 v _ _ (from-finds 44 0 (size f) (badFormulaOperand acts f) v (omega arith) h e)
+  operand-found v h e =
+      lower-finds-left 44 v _ _ (from-finds 44 0 (size f) (badFormulaOperand (namesNoTree acts) f) v (omega arith) h e)
 
-  end-finds : (q : ℕ) (o : Option ℕ) → treeEnd (formulaChildren f) (size f) 0 ≡ o → Finds 44 q (wrongEnd (size f) o) → Finds 44 q (refusal44 acts f)
+  end-finds : (q : ℕ) (o : Option ℕ) → treeEnd (formulaChildren f) (size f) 0 ≡ o → Finds 44 q (wrongEnd (size f) o)
+      → Finds 44 q (refusal44 (namesNoTree acts) f)
   unfolding refusal44
-  end-finds q o i h = lower-finds-right 44 q _ _ (from-numbered 44 0 (size f) (badFormulaOperand acts f)) (rw i h)
+  end-finds q o i h =
+      lower-finds-right 44 q _ _ (from-numbered 44 0 (size f) (badFormulaOperand (namesNoTree acts) f)) (rw i h)
 
   unfinished-finds : Finds 44 (size f) (wrongEnd (size f) none)
   unfolding wrongEnd
@@ -352,7 +363,8 @@ module _ (acts f : List ℕ) where
   unfolding wrongEnd
   left-over-finds e l = if-finds 44 e _ (lt-ltb e (size f) l)
 
-  reference-bad : (v : ℕ) → v < size f → kind f v ≡ 8 → (¬ EnclosingFixpoint f (operand f v) v) → rules.wrongReference f v (formulaNode f v) ≡ true
+  reference-bad : (v : ℕ) → v < size f → kind f v ≡ 8 → (¬ EnclosingFixpoint f (operand f v) v)
+      → rules.wrongReference f v (referenceOf (formulaNode f v)) ≡ true
   reference-bad v h k d =
       reference-test f v h k ∙ not-so (isFixpoint (formulaNode f (operand f v)) && encloses f (operand f v) v) (λ t. d (yes-enclosing (operand f v) v t))
 
@@ -371,4 +383,6 @@ module _ (acts f : List ℕ) where
   formula-finds (formulaUnfinished i) = inr (inr (inr (inl (end-finds (size f) none i unfinished-finds))))
   formula-finds (formulaLeftOver e i l) = inr (inr (inr (inl (end-finds e (some e) i (left-over-finds e l)))))
   formula-finds (wrongReference v h k d) =
-      inr (inr (inr (inr (inl (from-finds 45 0 (size f) (λ u. rules.wrongReference f u (formulaNode f u)) v (omega arith) h (reference-bad v h k d))))))
+      inr (inr (inr (inr (inl
+      (from-finds 45 0 (size f) (λ u. rules.wrongReference f u (referenceOf (formulaNode f u))) v (omega arith) h
+      (reference-bad v h k d))))))

@@ -15,9 +15,9 @@ use Rattle.rules.specs.Labels.{labelCount, actionCount}
 use Rattle.rules.specs.System.{stateCount, transitionCount, initialState, transitionLabel, transitionTarget}
 use Rattle.rules.specs.Refusal.{outside, differ, badLabel, tooLarge}
 use Rattle.rules.specs.Refusal.{refusal1, refusal2, refusal11, refusal12, refusal13, refusal21, refusal22, refusal23, refusal24, refusal25, refusal26}
-use Rattle.tables.specs.Faulty.{FaultyRoom, fewVertices, manyVertices, fewEdges, manyEdges, wrongGame, wrongWork}
-use Rattle.tables.specs.Faulty.{FaultyLabels, fewLabelWords, wrongLabelWords, manyLabels, manyActions, labelTooLarge, labelFalls}
-use Rattle.tables.specs.Faulty.{FaultySystem, fewSystemWords, wrongSystemWords, fewStates, manyStates, manyTransitions, wrongInitial, wrongDegrees, wrongLabel, wrongTarget}
+use Rattle.rules.specs.Faulty.{FaultyRoom, fewVertices, manyVertices, fewEdges, manyEdges, wrongGame, wrongWork}
+use Rattle.rules.specs.Faulty.{FaultyLabels, fewLabelWords, wrongLabelWords, manyLabels, manyActions, labelTooLarge, labelFalls}
+use Rattle.rules.specs.Faulty.{FaultySystem, fewSystemWords, wrongSystemWords, fewStates, manyStates, manyTransitions, wrongInitial, wrongDegrees, wrongLabel, wrongTarget}
 use Rattle.tables.proofs.Order.{Finds, Sound, Each, Some, if-finds, from-finds, if-sound, from-sound}
 use Rattle.lists.proofs.Tests.{or-left, or-right, or-true, and-true}
 use Rattle.tables.proofs.Choices.{differ-true, differ-yes, outside-true, below-outside, above-outside}

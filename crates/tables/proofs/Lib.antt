@@ -11,3 +11,4 @@ pub mod Order
 pub mod FaultyWords
 pub mod FaultyTables
 pub mod Exact
+pub mod ExactGame

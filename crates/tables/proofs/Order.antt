@@ -1,16 +1,17 @@
--- Of checks whose numbers rise the first fault is the one of the smallest number; within a number a check finds the smallest place. Assumes nothing.
-use Prim.Native.Nat.{ℕ, _≤_, _<_, min}
+-- Of checks whose turns rise the first fault is the one whose number has the first turn; within a number a check finds
+-- the smallest place. So checks that find each fault and no other give the first fault, exactly. Assumes nothing.
+use Prim.Native.Nat.{ℕ, suc, _≤_, _<_, min}
 use native.Mathlib.Omega.{arith}
 use native.Mathlib.Decide.{decLe}
 use mathlib.Core.Path.{_≡_, refl, sym, ap, _∙_}
 use mathlib.Core.Bool.{Bool, true, false, true≢false}
 use mathlib.Core.List.{List, [], _∷_, _++_}
-use mathlib.Core.Logic.{_⊎_, inl, inr}
+use mathlib.Core.Logic.{_⊎_, inl, inr, _↔_}
 use Rattle.rules.specs.declared.Check.{Check}
 use Rattle.rules.specs.declared.Check.the-variants.{Passed, Fault}
 use Rattle.rules.specs.Answers.{faultIf, andThen, firstFault}
 use Rattle.rules.specs.Refusal.{faultFrom, lowerFault}
-use Rattle.tables.specs.Faulty.{NoLater}
+use Rattle.rules.specs.Faulty.{NoLater, First}
 use Rattle.tables.proofs.Faults.{passed-not-fault, fault-number, fault-place, if-true, if-fault, from-cases, from-fault}
 
 -- the check has only faults of number n
@@ -33,10 +34,10 @@ abbrev pub Some : (Check → Type 0) → List Check → Type 0
 Some P [] = ⊥
 Some P (c ∷ cs) = P c ⊎ Some P cs
 
--- the numbers rise, from above b on
-abbrev pub Rising : ℕ → List Check → Type 0
-Rising b [] = Unit {0}
-Rising b (c ∷ cs) = (n : ℕ) × (b < n) × Numbered n c × Rising n cs
+-- the turns of the numbers rise, from b on
+abbrev pub Rising : (turn : ℕ → ℕ) → ℕ → List Check → Type 0
+Rising turn b [] = Unit {0}
+Rising turn b (c ∷ cs) = (n : ℕ) × (b ≤ turn n) × Numbered n c × Rising turn (suc (turn n)) cs
 
 -- ---- lists
 
@@ -74,27 +75,72 @@ first-none (Passed ∷ cs) e n q (inl (p, i, l)) = passed-not-fault i
 first-none (Passed ∷ cs) e n q (inr h) = first-none cs e n q h
 first-none (Fault m r ∷ cs) e n q h = passed-not-fault (sym e)
 
-above : (b : ℕ) (cs : List Check) → Rising b cs → (m q : ℕ) → Some (Finds m q) cs → b < m
-above b [] h m q s = absurd s
-above b (c ∷ cs) (n, l, d, h) m q (inl (p, i, k)) = let e = d m p i in omega arith
-above b (c ∷ cs) (n, l, d, h) m q (inr s) = let k = above n cs h m q s in omega arith
+module _ (turn : ℕ → ℕ) where
+  above : (b : ℕ) (cs : List Check) → Rising turn b cs → (m q : ℕ) → Some (Finds m q) cs → b ≤ turn m
+  above b [] h m q s = absurd s
+  above b (c ∷ cs) (n, l, d, h) m q (inl (p, i, k)) = omega (arith, l, ap turn (d m p i))
+  above b (c ∷ cs) (n, l, d, h) m q (inr s) = omega (arith, l, above (suc (turn n)) cs h m q s)
 
-pub first-least : (b : ℕ) (cs : List Check) → Rising b cs → (n p : ℕ) → firstFault cs ≡ Fault n p → (m q : ℕ) → Some (Finds m q) cs → NoLater n p m q
-unfolding firstFault andThen
-first-least b [] h n p e m q s = absurd s
-first-least b (Passed ∷ cs) (k, l, d, h) n p e m q (inl (r, i, j)) = absurd (passed-not-fault i)
-first-least b (Passed ∷ cs) (k, l, d, h) n p e m q (inr s) = first-least k cs h n p e m q s
-first-least b (Fault o t ∷ cs) (k, l, d, h) n p e m q (inl (r, i, j)) =
-    let x = fault-number e in
-    let y = fault-place e in
-    let z = fault-number i in
-    let w = fault-place i in
-    inr (omega arith, omega arith)
-first-least b (Fault o t ∷ cs) (k, l, d, h) n p e m q (inr s) =
-    let x = fault-number e in
-    let y = d o t refl in
-    let z = above k cs h m q s in
-    inl (omega arith)
+  pub first-least : (b : ℕ) (cs : List Check) → Rising turn b cs → (n p : ℕ) → firstFault cs ≡ Fault n p
+      → (m q : ℕ) → Some (Finds m q) cs → NoLater turn n p m q
+  unfolding firstFault andThen
+  first-least b [] h n p e m q s = absurd s
+  first-least b (Passed ∷ cs) (k, l, d, h) n p e m q (inl (r, i, j)) = absurd (passed-not-fault i)
+  first-least b (Passed ∷ cs) (k, l, d, h) n p e m q (inr s) = first-least (suc (turn k)) cs h n p e m q s
+  first-least b (Fault o t ∷ cs) (k, l, d, h) n p e m q (inl (r, i, j)) =
+      let x = fault-number e in
+      let y = fault-place e in
+      let z = fault-number i in
+      let w = fault-place i in
+      inr (omega arith, omega arith)
+  first-least b (Fault o t ∷ cs) (k, l, d, h) n p e m q (inr s) =
+      inl (omega (arith, ap turn (fault-number e), ap turn (d o t refl), above (suc (turn k)) cs h m q s))
+
+  -- two faults of which neither is later are one
+  one-first : (n p m q : ℕ) → NoLater turn n p m q → NoLater turn m q n p → Fault n p ≡ Fault m q
+  one-first n p m q (inl a) (inl b) = absurd (omega arith)
+  one-first n p m q (inl a) (inr (b, c)) = absurd (omega (arith, a, ap turn b))
+  one-first n p m q (inr (a, c)) (inl b) = absurd (omega (arith, b, ap turn a))
+  one-first n p m q (inr (a, c)) (inr (b, d)) =
+      let e : p ≡ q = omega arith in
+      ap (λ k. Fault k p) a ∙ ap (Fault m) e
+
+  -- ---- checks whose turns rise, that find each fault and no other: the first fault, exactly
+
+  module _ (F : ℕ → ℕ → Type 0) (cs : List Check) (sound : Each (Sound F) cs)
+      (finds : (n q : ℕ) → F n q → Some (Finds n q) cs) (rising : Rising turn 0 cs) where
+    is-fault : (n p : ℕ) → firstFault cs ≡ Fault n p → First turn F n p
+    is-fault n p e = (first-sound F cs sound n p e, λ m q h. first-least 0 cs rising n p e m q (finds m q h))
+
+    no-fault : firstFault cs ≡ Passed → (n p : ℕ) → ¬ F n p
+    no-fault e n p h = first-none cs e n p (finds n p h)
+
+    fault-is : (n p : ℕ) → First turn F n p → firstFault cs ≡ Fault n p
+    fault-is n p (here, least) = go (firstFault cs) refl
+      where
+        go : (c : Check) → firstFault cs ≡ c → c ≡ Fault n p
+        go Passed e = absurd (no-fault e n p here)
+        go (Fault m q) e =
+            let (a, b) = is-fault m q e in
+            one-first m q n p (b n p here) (least m q a)
+
+    pub first-exact : (n p : ℕ) → firstFault cs ≡ Fault n p ↔ First turn F n p
+    first-exact n p = (is-fault n p, fault-is n p)
+
+    pub passed-exact : firstFault cs ≡ Passed ↔ ((n p : ℕ) → ¬ F n p)
+    passed-exact = (no-fault, λ h. go h (firstFault cs) refl)
+      where
+        go : ((n p : ℕ) → ¬ F n p) → (c : Check) → firstFault cs ≡ c → c ≡ Passed
+        go h Passed e = refl
+        go h (Fault n p) e = absurd (h n p (is-fault n p e .0))
+
+    -- there is no fault or a first one
+    pub none-or-first : ((n p : ℕ) → ¬ F n p) ⊎ ((n : ℕ) × (p : ℕ) × First turn F n p)
+    none-or-first = go (firstFault cs) refl
+      where
+        go : (c : Check) → firstFault cs ≡ c → ((n p : ℕ) → ¬ F n p) ⊎ ((n : ℕ) × (p : ℕ) × First turn F n p)
+        go Passed e = inl (no-fault e)
+        go (Fault n p) e = inr (n, p, is-fault n p e)
 
 -- ---- numbers
 

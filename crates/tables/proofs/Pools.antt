@@ -41,37 +41,47 @@ or-fault n p e q bad next a l =
         omega arith
 
 -- the node at which the formula's tree ends is left over, if it is one: `endOf` is its number, n + 1 if the tree is unfinished
-pub refusal44-scan : (acts f : List ℕ)
-    → refusal44 acts f
-    ≡ andThen (faultFrom 44 0 (size f) (λ v. badFormulaOperand acts f v || eqb v (endOf (formulaChildren f) (size f) 0)))
+pub refusal44-scan : (noTree : ℕ → Bool) (f : List ℕ)
+    → refusal44 noTree f
+    ≡ andThen (faultFrom 44 0 (size f)
+    (λ v. badFormulaOperand noTree f v || eqb v (endOf (formulaChildren f) (size f) 0)))
     (faultIf 44 (size f) (ltb (size f) (endOf (formulaChildren f) (size f) 0)))
 unfolding refusal44 wrongEnd
-refusal44-scan acts f =
+refusal44-scan noTree f =
     end-cases (formulaChildren f) (size f) 0
-    (λ o e. lowerFault (faultFrom 44 0 (size f) (badFormulaOperand acts f)) (wrongEnd (size f) o)
-    ≡ andThen (faultFrom 44 0 (size f) (λ v. badFormulaOperand acts f v || eqb v e)) (faultIf 44 (size f) (ltb (size f) e)))
+    (λ o e. lowerFault (faultFrom 44 0 (size f) (badFormulaOperand noTree f)) (wrongEnd (size f) o)
+    ≡ andThen (faultFrom 44 0 (size f) (λ v. badFormulaOperand noTree f v || eqb v e))
+    (faultIf 44 (size f) (ltb (size f) e)))
     (λ e h a b d. ended e d (decLt e (size f)))
     (λ h. unfinished)
   where
-    same : (e : ℕ) → size f ≤ e → faultFrom 44 0 (size f) (badFormulaOperand acts f) ≡ faultFrom 44 0 (size f) (λ v. badFormulaOperand acts f v || eqb v e)
-    same e l = from-same 44 0 (size f) (badFormulaOperand acts f) (λ v. badFormulaOperand acts f v || eqb v e) (λ v a b. or-other (badFormulaOperand acts f v) v e (λ i. omega arith))
+    same : (e : ℕ) → size f ≤ e → faultFrom 44 0 (size f) (badFormulaOperand noTree f)
+        ≡ faultFrom 44 0 (size f) (λ v. badFormulaOperand noTree f v || eqb v e)
+    same e l =
+        from-same 44 0 (size f) (badFormulaOperand noTree f) (λ v. badFormulaOperand noTree f v || eqb v e)
+        (λ v a b. or-other (badFormulaOperand noTree f v) v e (λ i. omega arith))
 
     ended : (e : ℕ) → e ≤ size f → Dec (e < size f)
-        → lowerFault (faultFrom 44 0 (size f) (badFormulaOperand acts f)) (faultIf 44 e (ltb e (size f)))
-        ≡ andThen (faultFrom 44 0 (size f) (λ v. badFormulaOperand acts f v || eqb v e)) (faultIf 44 (size f) (ltb (size f) e))
+        → lowerFault (faultFrom 44 0 (size f) (badFormulaOperand noTree f)) (faultIf 44 e (ltb e (size f)))
+        ≡ andThen (faultFrom 44 0 (size f) (λ v. badFormulaOperand noTree f v || eqb v e))
+        (faultIf 44 (size f) (ltb (size f) e))
     ended e d (yes l) =
-        ap (lowerFault (faultFrom 44 0 (size f) (badFormulaOperand acts f))) (if-true 44 e (lt-ltb e (size f) l))
-        ∙ lower-place 44 0 (size f) e (badFormulaOperand acts f) (omega arith) l
-        ∙ or-fault 44 0 (size f) e (badFormulaOperand acts f) (faultIf 44 (size f) (ltb (size f) e)) (omega arith) l
+        ap (lowerFault (faultFrom 44 0 (size f) (badFormulaOperand noTree f))) (if-true 44 e (lt-ltb e (size f) l))
+        ∙ lower-place 44 0 (size f) e (badFormulaOperand noTree f) (omega arith) l
+        ∙ or-fault 44 0 (size f) e (badFormulaOperand noTree f) (faultIf 44 (size f) (ltb (size f) e)) (omega arith) l
     ended e d (no l) =
-        lower-alone (faultFrom 44 0 (size f) (badFormulaOperand acts f)) (if-false 44 e (le-ltb e (size f) (omega arith)))
+        lower-alone (faultFrom 44 0 (size f) (badFormulaOperand noTree f))
+        (if-false 44 e (le-ltb e (size f) (omega arith)))
         ∙ same e (omega arith)
-        ∙ sym (ap (andThen (faultFrom 44 0 (size f) (λ v. badFormulaOperand acts f v || eqb v e))) (if-false 44 (size f) (le-ltb (size f) e d))
-        ∙ then-last (faultFrom 44 0 (size f) (λ v. badFormulaOperand acts f v || eqb v e)))
+        ∙ sym (ap (andThen (faultFrom 44 0 (size f) (λ v. badFormulaOperand noTree f v || eqb v e)))
+        (if-false 44 (size f) (le-ltb (size f) e d))
+        ∙ then-last (faultFrom 44 0 (size f) (λ v. badFormulaOperand noTree f v || eqb v e)))
 
-    unfinished : lowerFault (faultFrom 44 0 (size f) (badFormulaOperand acts f)) (Fault 44 (size f))
-        ≡ andThen (faultFrom 44 0 (size f) (λ v. badFormulaOperand acts f v || eqb v (size f + 1))) (faultIf 44 (size f) (ltb (size f) (size f + 1)))
+    unfinished : lowerFault (faultFrom 44 0 (size f) (badFormulaOperand noTree f)) (Fault 44 (size f))
+        ≡ andThen (faultFrom 44 0 (size f) (λ v. badFormulaOperand noTree f v || eqb v (size f + 1)))
+        (faultIf 44 (size f) (ltb (size f) (size f + 1)))
     unfinished =
-        ap (lowerFault (faultFrom 44 0 (size f) (badFormulaOperand acts f))) (sym (if-true 44 (size f) (lt-ltb (size f) (size f + 1) (omega arith))))
-        ∙ lower-then 44 0 (size f) (badFormulaOperand acts f) 44 (size f) (ltb (size f) (size f + 1)) (omega arith)
+        ap (lowerFault (faultFrom 44 0 (size f) (badFormulaOperand noTree f)))
+        (sym (if-true 44 (size f) (lt-ltb (size f) (size f + 1) (omega arith))))
+        ∙ lower-then 44 0 (size f) (badFormulaOperand noTree f) 44 (size f) (ltb (size f) (size f + 1)) (omega arith)
         ∙ ap (λ c. andThen c (faultIf 44 (size f) (ltb (size f) (size f + 1)))) (same (size f + 1) (omega arith))

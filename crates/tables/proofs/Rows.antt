@@ -5,11 +5,10 @@ use native.Mathlib.Decide.{decLt}
 use mathlib.Core.Path.{_≡_, refl, sym, subst, _∙_}
 use mathlib.Core.Bool.{Bool, true, false, true≢false, false≢true}
 use mathlib.Core.Option.{Option, none, some, Option·none-ne-some}
-use mathlib.Core.Logic.{_↔_}
 use borrow.Author.Tests.{lt-ltb, le-ltb, eqb-true, eq-eqb}
 use Rattle.rules.specs.Table.{treeEnd, isEnd, comesTo, onRow}
 use Rattle.tables.specs.Ends.{onRowFrom}
-use Rattle.tables.specs.Rows.{Root, firstRoot, nextRoot}
+use Rattle.rules.specs.Rows.{Root, firstRoot, nextRoot, RootsOnRow}
 use Rattle.tables.proofs.Ends.{end-bounds, comes-unfinished, comes-two, row-start, row-done}
 use Rattle.tables.proofs.Finished.{row-inside}
 
@@ -41,7 +40,7 @@ module _ (c : ℕ → ℕ) (n : ℕ) where
       let (x, y, z) = end-bounds c n u e i in
       root-comes v a (omega arith) ∙ from-root u e v i h y
 
-  pub root-row : (v : ℕ) → onRow c n v ≡ true ↔ Root c n v
+  pub root-row : (v : ℕ) → RootsOnRow c n v
   unfolding onRow
   root-row v = (λ h. comes-root v 0 v h firstRoot, λ a. root-comes v a (omega arith) ∙ row-done c n v v (omega arith) ∙ eq-eqb v v refl)
 

@@ -1,3 +1,2 @@
 pub mod Ends
-pub mod Rows
-pub mod Faulty
+pub mod Good

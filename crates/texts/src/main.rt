@@ -1,8 +1,10 @@
-// Runs the thin program's function on stored inputs and compares what it writes with stored texts; a slice that is too short must stay as it is. Standard input holds
-// records: two little-endian words, the lengths of an input and of its text in bytes, then the input, then the text. Prints a line for each record that differs and,
-// last, how many records and differences there were. docs/STORED-RUNS.md says how they were made.
+// Runs the thin program's function on stored inputs and compares its answer and what it writes with stored texts; a
+// slice that is too short must be refused and stay as it is. Standard input holds records: two little-endian words, the
+// lengths of an input and of its text in bytes, then the input, then the text. Prints a line for each record that
+// differs and, last, how many records and differences there were. docs/STORED-RUNS.md says how they were made.
 use libc::STDIN_FILENO;
 use libc::STDOUT_FILENO;
+use rules::Answer;
 ghost use Prim.Native.Nat.{_≤_};
 ghost use lib.ListN.{length};
 ghost use mathlib.Core.Path.{_≡_};
@@ -47,17 +49,18 @@ fn broken(number: u64) -> Seen {
     Seen::Different
 }
 
-fn differs(number: u64, wrote: usize, stored: usize) -> Seen {
+fn differs(number: u64, answer: Answer, stored: usize) -> Seen {
     io::write_all(STDOUT_FILENO, b"record ");
-    print(number, b" differs: ");
-    print(long(wrote), b" bytes written, ");
-    print(long(stored), b" bytes stored\n");
+    print(number, b" differs from ");
+    print(long(stored), b" bytes stored: ");
+    stored_runs::answer_line(answer);
     Seen::Different
 }
 
-fn alters(number: u64) -> Seen {
+fn differs_short(number: u64, answer: Answer) -> Seen {
     io::write_all(STDOUT_FILENO, b"record ");
-    print(number, b" alters a slice that is too short\n");
+    print(number, b" in a slice that is too short: ");
+    stored_runs::answer_line(answer);
     Seen::Different
 }
 
@@ -80,30 +83,50 @@ fn few_hashes() -> [u8; 16383]
     [35; 16383]
 }
 
-// Does a slice that is too short stay as it is, and is the answer 0?
-fn short_stays(input: &[u8]) -> bool {
-    let held = few_hashes();
-    let mut text = few_hashes();
-    if gate_text::gate(input, &mut text) != 0 {
-        return false;
+// Is the answer Done (n, 0, 0)?
+fn wrote(answer: Answer, n: usize) -> bool {
+    match answer {
+        Answer::Done(bytes, v, e) => long(n) == bytes as u64 && v == 0 && e == 0,
+        Answer::Cut(steps, v, e) => false,
+        Answer::Refused(number, place) => false,
     }
-    check::same(&text, &held)
 }
 
-// Are the bytes written those stored? Past the text both slices still hold what they held before, so that comparing them whole also says that nothing was written there.
-fn judge(number: u64, input: &[u8], want: &[u8], stored: usize) -> Seen {
-    let mut text = hashes();
-    let wrote = gate_text::gate(input, &mut text);
-    if wrote != stored {
-        return differs(number, wrote, stored);
+// Is the answer Refused (2, 0)?
+fn refused_length(answer: Answer) -> bool {
+    match answer {
+        Answer::Done(bytes, v, e) => false,
+        Answer::Cut(steps, v, e) => false,
+        Answer::Refused(number, place) => number == 2 && place == 0,
     }
-    if !check::same(&text, want) {
-        return differs(number, wrote, stored);
+}
+
+// Is a slice that is too short refused, and does it stay as it is?
+fn judge_short(number: u64, input: &[u8]) -> Seen {
+    let held = few_hashes();
+    let mut text = few_hashes();
+    let answer = gate_text::gate(input, &mut text);
+    if !refused_length(answer) {
+        return differs_short(number, answer);
     }
-    if short_stays(input) {
+    if check::same(&text, &held) {
         return Seen::Same;
     }
-    alters(number)
+    differs_short(number, answer)
+}
+
+// Are the bytes written those stored, with zeros past them, and does the answer say how many? `want` holds zeros past
+// the text, so that both slices are compared whole.
+fn judge(number: u64, input: &[u8], want: &[u8], stored: usize) -> Seen {
+    let mut text = hashes();
+    let answer = gate_text::gate(input, &mut text);
+    if !wrote(answer, stored) {
+        return differs(number, answer, stored);
+    }
+    if check::same(&text, want) {
+        return judge_short(number, input);
+    }
+    differs(number, answer, stored)
 }
 
 // Reads an input and its text of m bytes, and compares.
@@ -130,7 +153,7 @@ fn compare(number: u64, n: usize, m: usize) -> Seen
     requires { ⌜ (n ≤ 16384) × (m ≤ 16384) ⌝ }
 {
     let mut input = zeros();
-    let mut want = hashes();
+    let mut want = zeros();
     read_and_judge(number, &mut input[..n], &mut want, m)
 }
 

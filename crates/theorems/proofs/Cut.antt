@@ -1,35 +1,39 @@
 -- The cut theorem of the rules: what a run that is not refused leaves satisfies `CutTheorem`, for every ranking, limit and room. Assumes nothing.
 use mathlib.Core.Path.{_≡_, refl, sym, ap, _∙_, subst}
-use mathlib.Core.Bool.{cond}
+use mathlib.Core.Bool.{Bool, true, false, cond}
 use mathlib.Core.List.{List, [], _∷_, _++_, map, append-nil}
 use mathlib.Core.Logic.{_⊎_, inl, inr, ⊎-elim, _↔_}
-use Prim.Native.Nat.{ℕ, suc, _+_, _-_, _≤_, _<_}
+use Prim.Native.Nat.{ℕ, suc, _+_, _-_, _≤_, _<_, min}
 use native.Mathlib.Omega.{arith}
 use native.Mathlib.Decide.{decLt}
 use lib.ListN.{length, getD}
 use lib.Dec.{ltb}
-use borrow.Author.Tests.{lt-ltb, le-ltb}
-use Rattle.player.specs.declared.Player.{Player}
-use Rattle.rules.specs.Lists.{word, In, place}
+use borrow.Author.Tests.{lt-ltb, le-ltb, ltb-false}
+use Rattle.rules.specs.declared.Answer.{Answer}
+use Rattle.rules.specs.declared.Answer.the-variants.{Done, Cut}
+use Rattle.rules.specs.Lists.{In, position}
 use Rattle.rules.specs.Words.{Input}
 use Rattle.rules.specs.Depth.{Ranking}
 use Rattle.rules.specs.Pairs.{Pair, samePair, initialPair, owner, priority, targets}
-use Rattle.rules.specs.Walk.{State}
+use Rattle.rules.specs.Walk.{Stand}
 use Rattle.rules.specs.Reach.{Reachable, pairCount, reachablePairs, N}
-use Rattle.rules.specs.Game.{Vertex, waitingVertex, settledVertex, gameOf, padded, vertexCount, edgesIn, initialIn, ownerIn, priorityIn, targetsIn}
-use Rattle.rules.specs.Run.{walkOf, verticesOf, doneOrCut, finished}
-use Rattle.rules.specs.Demands.{After, Stands, Lead, Totalised, SettledRow, CutTheorem, pairsOf, settledBelow}
+use Rattle.rules.specs.Game.{Edge, Vertex, Ruled, edgeTo, waitingVertex, totalisedBy, totalised, settledVertex}
+use Rattle.rules.specs.Game.{ruledVertex, edgeCount, gameOf, padded, vertexCount, edgesIn, initialIn, ownerIn}
+use Rattle.rules.specs.Game.{priorityIn, targetsIn}
+use Rattle.rules.specs.Run.{walkOf, verticesOf, builtAnswer, builtOutcome}
+use Rattle.rules.specs.Demands.{After, Stands, Lead, Totalised, SettledRow, CutTheorem, settledBelow}
 use Rattle.lists.specs.Shapes.{Falling}
-use Rattle.lists.proofs.Members.{place-below, place-at}
+use Rattle.lists.proofs.Members.{position-below, position-at}
 use Rattle.lists.proofs.Equalities.{pair-equality}
+use Rattle.arena.specs.Arena.{Inside}
 use Rattle.walks.specs.Sums.{settled, Settled, sumSettled}
 use Rattle.walks.specs.Facts.{WalkFacts}
 use Rattle.games.proofs.Rewriting.{Whole}
-use Rattle.theorems.proofs.Vertices.{length-vertices, numbersAt}
+use Rattle.theorems.proofs.Vertices.{length-vertices, ruledAt}
 use Rattle.theorems.proofs.Read.{whole-game, count-word, row-waits, row-settled, owner-settled, settled-below, below-settled, settled-count}
 
 -- the vertices that do not wait, in the order in which 01's steps settle them
-pub record Ordered (x : Input) (k : ℕ) (st : State Pair) : Type 0 where
+pub record Ordered (x : Input) (k : ℕ) (st : Stand Pair) : Type 0 where
   pub order : List ℕ
   pub after : After (targets x) (initialPair x) k (st .known) order
   pub apart : (v : ℕ) → In v (st .waiting) → ¬ In v order
@@ -37,8 +41,8 @@ pub record Ordered (x : Input) (k : ℕ) (st : State Pair) : Type 0 where
 
 -- ---- edges lead to the vertices that stand for the targets
 
-lead-all : (x : Input) (ps ts : List Pair) → ((q : Pair) → In q ts → (place samePair q ps < length ps) × (getD ps (place samePair q ps) (initialPair x) ≡ q))
-    → Lead x ps (map (λ q. place samePair q ps) ts) ts
+lead-all : (x : Input) (ps ts : List Pair) → ((q : Pair) → In q ts → (position samePair q ps < length ps) × (getD ps (position samePair q ps) (initialPair x) ≡ q))
+    → Lead x ps (map (λ e. e .target) (map (λ q. edgeTo (position samePair q ps)) ts)) ts
 lead-all x ps [] f = tt
 lead-all x ps (t ∷ ts) f = (f t (inl refl), lead-all x ps ts (λ q m. f q (inr m)))
 
@@ -47,24 +51,49 @@ added-edges : ℕ → List ℕ → List ℕ
 added-edges v [] = v ∷ []
 added-edges v (e ∷ es) = []
 
-edges-split : (v : ℕ) (o : Player) (p : ℕ) (es : List ℕ) → settledVertex v o p es .edges ≡ es ++ added-edges v es
-unfolding settledVertex added-edges
-edges-split v o p [] = refl
-edges-split v o p (e ∷ es) = sym (append-nil (e ∷ es))
+abbrev ledTo : List Edge → List ℕ
+ledTo es = map (λ e. e .target) es
 
-totalised : (v : ℕ) (o : Player) (p : ℕ) (es : List ℕ) → Totalised v o p es (settledVertex v o p es .priority) (added-edges v es)
-unfolding settledVertex added-edges
-totalised v o p [] = (refl, refl)
-totalised v o p (e ∷ es) = (refl, refl)
-
-done-or-cut : (ws : List ℕ) (k n : ℕ) → ((0 < length ws) ↔ (k < n)) → doneOrCut ws ≡ cond (ltb k n) 1 0
-unfolding doneOrCut
-done-or-cut [] k n e = go (decLt k n)
+edges-split : (v : ℕ) (r : Ruled)
+    → ledTo (settledVertex (totalised v r) .edges) ≡ ledTo (r .edges) ++ added-edges v (ledTo (r .edges))
+unfolding settledVertex totalised totalisedBy added-edges
+edges-split v r = go (r .edges) refl
   where
-    go : Dec (k < n) → _≡_ {A = ℕ} 0 (cond (ltb k n) 1 0)
+    go : (es : List Edge) → r .edges ≡ es → ledTo (totalisedBy es v r .edges) ≡ ledTo es ++ added-edges v (ledTo es)
+    go [] e = refl
+    go (x ∷ es) e = ap ledTo e ∙ sym (append-nil (ledTo (x ∷ es)))
+
+total-row : (v : ℕ) (r : Ruled)
+    → Totalised v (r .owner) (r .priority) (ledTo (r .edges)) (settledVertex (totalised v r) .priority)
+    (added-edges v (ledTo (r .edges)))
+unfolding settledVertex totalised totalisedBy added-edges
+total-row v r = go (r .edges)
+  where
+    go : (es : List Edge)
+        → Totalised v (r .owner) (r .priority) (ledTo es) (totalisedBy es v r .priority) (added-edges v (ledTo es))
+    go [] = (refl, refl)
+    go (x ∷ es) = (refl, refl)
+
+done-or-cut : (ws : List ℕ) (k n s v m : ℕ) → ((0 < length ws) ↔ (k < n))
+    → builtAnswer ws s v m ≡ cond (ltb k n) (Cut s v m) (Done s v m)
+unfolding builtAnswer
+done-or-cut [] k n s v m e = go (decLt k n)
+  where
+    go : Dec (k < n) → Done s v m ≡ cond (ltb k n) (Cut s v m) (Done s v m)
     go (yes l) = absurd (let h = e .1 l in omega arith)
     go (no l) = rw (le-ltb k n (omega arith)) refl
-done-or-cut (w ∷ ws) k n e = rw (lt-ltb k n (e .0 (omega arith))) refl
+done-or-cut (w ∷ ws) k n s v m e = rw (lt-ltb k n (e .0 (omega arith))) refl
+
+-- a run that is done has made enough steps
+pub done-enough : (rank : Ranking) (x : Input) (k : ℕ) (a : Answer) (g : List ℕ) (ps : List Pair)
+    → CutTheorem rank x k a g ps → (s n m : ℕ) → a ≡ Done s n m → N x ≤ k
+done-enough rank x k a g ps c s n m e = go (ltb k (N x)) refl (sym (c .answered) ∙ e)
+  where
+    go : (t : Bool) → ltb k (N x) ≡ t
+        → cond t (Cut (settledBelow g (vertexCount g)) (vertexCount g) (edgesIn g))
+        (Done (settledBelow g (vertexCount g)) (vertexCount g) (edgesIn g)) ≡ Done s n m → N x ≤ k
+    go true f z = let q : _≡_ {A = ℕ} 0 1 = cc in absurd (omega arith)
+    go false f z = ltb-false k (N x) f
 
 first-waits : (n : ℕ) (ws : List ℕ) → Falling n ws → 0 < length ws → (v : ℕ) × (v < n) × In v ws
 first-waits n [] f h = absurd (omega arith)
@@ -75,18 +104,19 @@ no-member [] e v m = m
 no-member (w ∷ ws) e v m = absurd (let z : suc (length ws) ≡ 0 = ap length e in omega arith)
 
 module _ (rank : Ranking) (x : Input) (k : ℕ) (facts : WalkFacts samePair (targets x) (initialPair x) (pairCount x) k) (ordered : Ordered x k (walkOf x k)) (game work : List ℕ)
-    (room : length (gameOf (verticesOf rank x (walkOf x k))) ≤ length game) where
-  abbrev st : State Pair
+    (inner : (p : Pair) → Reachable (targets x) (initialPair x) p → Inside x p)
+    (room : length (gameOf 0 (verticesOf rank x (walkOf x k))) ≤ length game) where
+  abbrev st : Stand Pair
   st = walkOf x k
 
   abbrev vs : List Vertex
   vs = verticesOf rank x st
 
   abbrev g : List ℕ
-  g = padded (length game) (gameOf vs)
+  g = padded (length game) (gameOf 0 vs)
 
-  abbrev a : List ℕ
-  a = finished st vs game work .answer
+  abbrev a : Answer
+  a = builtOutcome st vs game work .answer
 
   long : length vs ≡ length (st .known)
   unfolding verticesOf
@@ -97,18 +127,20 @@ module _ (rank : Ranking) (x : Input) (k : ℕ) (facts : WalkFacts samePair (tar
   counts = count-word samePair (targets x) (initialPair x) (owner x) (priority rank x) st (length game)
 
   settled-row : (v : ℕ) → v < length (st .known) → (¬ In v (st .waiting)) → SettledRow rank x g (st .known) v (getD (st .known) v (initialPair x))
-  unfolding verticesOf walkOf
+  unfolding verticesOf walkOf ruledVertex
   settled-row v h n =
       let p : Pair = getD (st .known) v (initialPair x) in
-      let es : List ℕ = numbersAt samePair (targets x) (initialPair x) (owner x) (priority rank x) st v in
+      let r : Ruled = ruledAt samePair (targets x) (initialPair x) (owner x) (priority rank x) st v in
       let row = row-settled samePair (targets x) (initialPair x) (owner x) (priority rank x) st (length game) v h n in
       record {
-        ruled = es;
-        added = added-edges v es;
+        ruled = ledTo (r .edges);
+        added = added-edges v (ledTo (r .edges));
         owned = owner-settled samePair (targets x) (initialPair x) (owner x) (priority rank x) st (length game) v h n;
-        edges = row .leads ∙ edges-split v (owner x p) (priority rank x p) es;
+        edges = row .leads ∙ edges-split v r;
         leads = lead-all x (st .known) (targets x p) (facts .edges v (h, n));
-        total = subst (λ (q : ℕ). Totalised v (owner x p) (priority rank x p) es q (added-edges v es)) (sym (row .ranked)) (totalised v (owner x p) (priority rank x p) es);
+        total =
+            subst (λ (q : ℕ). Totalised v (owner x p) (priority rank x p) (ledTo (r .edges)) q
+            (added-edges v (ledTo (r .edges)))) (sym (row .ranked)) (total-row v r);
       }
 
   waiting-row : (v : ℕ) → v < length (st .known) → In v (st .waiting) → (ownerIn g v ≡ 2) × (priorityIn g v ≡ 0) × (targetsIn g v ≡ [])
@@ -130,9 +162,9 @@ module _ (rank : Ranking) (x : Input) (k : ℕ) (facts : WalkFacts samePair (tar
       ∙ settled-count samePair (targets x) (initialPair x) (owner x) (priority rank x) st (length game) (length (st .known)) (omega arith)
       ∙ facts .counted
 
-  steps-word : word a 1 ≡ settled st
-  unfolding finished settled
-  steps-word = ap (λ (n : ℕ). n - length (st .waiting)) long
+  steps-many : length vs - length (st .waiting) ≡ settledBelow g (vertexCount g)
+  unfolding settled
+  steps-many = ap (λ (n : ℕ). n - length (st .waiting)) long ∙ sym counted-all
 
   either : (v : ℕ) → v < length (st .known) → Settled st v ⊎ In v (st .waiting)
   unfolding walkOf
@@ -151,10 +183,10 @@ module _ (rank : Ranking) (x : Input) (k : ℕ) (facts : WalkFacts samePair (tar
   unfolding walkOf N reachablePairs
   all-settled l p r =
       let m = facts .complete l p r in
-      let b = place-below pair-equality p (st .known) m in (
-        place samePair p (st .known),
-        (b, place-at pair-equality p (st .known) (initialPair x) m),
-        shows (place samePair p (st .known)) b (no-member (st .waiting) (facts .ended .1 l) (place samePair p (st .known))),
+      let b = position-below pair-equality p (st .known) m in (
+        position samePair p (st .known),
+        (b, position-at pair-equality p (st .known) (initialPair x) m),
+        shows (position samePair p (st .known)) b (no-member (st .waiting) (facts .ended .1 l) (position samePair p (st .known))),
       )
 
   whole : Whole g
@@ -164,17 +196,38 @@ module _ (rank : Ranking) (x : Input) (k : ℕ) (facts : WalkFacts samePair (tar
   unfolding padded gameOf
   initial-word = refl
 
-  edges-word : word a 3 ≡ edgesIn g
-  unfolding padded gameOf finished
-  edges-word = refl
+  vertices-many : length vs ≡ vertexCount g
+  vertices-many = long ∙ sym counts
 
-  pub cut-theorem : CutTheorem rank x k a g (pairsOf x k)
-  unfolding walkOf N reachablePairs finished
+  edges-many : edgeCount vs ≡ edgesIn g
+  unfolding padded gameOf
+  edges-many = refl
+
+  answer-is : a ≡ cond (ltb k (N x)) (Cut (settledBelow g (vertexCount g)) (vertexCount g) (edgesIn g))
+      (Done (settledBelow g (vertexCount g)) (vertexCount g) (edgesIn g))
+  unfolding walkOf N reachablePairs builtOutcome
+  answer-is =
+      done-or-cut (st .waiting) k (N x) (length vs - length (st .waiting)) (length vs) (edgeCount vs) (facts .cut)
+      ∙ (λ i. cond (ltb k (N x)) (Cut (steps-many i) (vertices-many i) (edges-many i))
+      (Done (steps-many i) (vertices-many i) (edges-many i)))
+
+  steps-are : settledBelow g (vertexCount g) ≡ min k (N x)
+  unfolding walkOf N reachablePairs
+  steps-are = counted-all ∙ facts .steps
+
+  done-is : N x ≤ k → a ≡ Done (N x) (vertexCount g) (edgesIn g)
+  done-is l =
+      let s : settledBelow g (vertexCount g) ≡ N x = omega (arith, steps-are) in
+      answer-is ∙ rw (le-ltb k (N x) l) (ap (λ (n : ℕ). Done n (vertexCount g) (edgesIn g)) s)
+
+  pub cut-theorem : CutTheorem rank x k a g (st .known)
+  unfolding walkOf N reachablePairs
   cut-theorem =
       record {
-        counted = counted-all ∙ facts .steps;
-        steps = steps-word ∙ sym counted-all;
-        sizes = (long ∙ sym counts, edges-word, sym counts);
+        counted = steps-are;
+        answered = answer-is;
+        paired = sym counts;
+        inside = λ p m. inner p (facts .reached p m);
         first = (initial-word, facts .first);
         distinct = facts .distinct;
         reached = facts .reached;
@@ -193,8 +246,7 @@ module _ (rank : Ranking) (x : Input) (k : ℕ) (facts : WalkFacts samePair (tar
         exactly = facts .exactly;
         once = facts .once;
         within = facts .within;
-        cut = done-or-cut (st .waiting) k (N x) (facts .cut);
         waits = some-waits;
-        finished = λ l. steps-word ∙ facts .steps ∙ omega arith;
+        ended = done-is;
         complete = all-settled;
       }

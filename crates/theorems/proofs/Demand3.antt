@@ -9,20 +9,21 @@ use native.Mathlib.Omega.{arith}
 use lib.ListN.{length}
 use Rattle.rules.specs.declared.Check.{Check}
 use Rattle.rules.specs.declared.Check.the-variants.{Passed, Fault}
-use Rattle.rules.specs.Lists.{word, In}
+use Rattle.rules.specs.Lists.{In}
 use Rattle.rules.specs.Words.{Input, Room, gameLength}
+use Rattle.rules.specs.Answers.{Accepted}
 use Rattle.rules.specs.Depth.{Ranking}
 use Rattle.rules.specs.Pairs.{Pair, samePair, initialPair, targets}
 use Rattle.rules.specs.Reach.{Reachable, pairCount}
 use Rattle.rules.specs.Game.{Vertex, gameOf}
 use Rattle.rules.specs.Refusal.{refusal}
-use Rattle.rules.specs.Run.{Outcome, walkOf, verticesOf, exceeds, finished, outOfRoom, run}
-use Rattle.rules.specs.Demands.{CutTheorem, Demand3, pairsOf}
-use Rattle.rules.specs.Good.{GoodInput}
+use Rattle.rules.specs.Run.{Outcome, walkOf, verticesOf, exceeds, builtOutcome, outOfRoom, run}
+use Rattle.rules.specs.Demands.{CutTheorem, Demand3}
+use Rattle.tables.specs.Good.{GoodInput}
 use Rattle.lists.proofs.Equalities.{pair-equality}
 use Rattle.tables.proofs.Accepted.{accepted-words, accepted-lengths}
 use Rattle.arena.specs.Arena.{allPairs}
-use Rattle.arena.proofs.Inside.{all-pairs-length, initial-listed, targets-listed}
+use Rattle.arena.proofs.Inside.{all-pairs-length, listed-inside, initial-listed, targets-listed}
 use Rattle.walks.specs.Facts.{WalkFacts}
 use Rattle.walks.proofs.Reached.{reachable-inside}
 use Rattle.walks.proofs.Facts.{walk-facts}
@@ -33,7 +34,7 @@ use Rattle.theorems.proofs.Runs.{run-refused, run-exceeds, run-fits, fi
 use Rattle.walks.proofs.Facts.{settled-or-waits}
 
 module _ (x : Input) (good : GoodInput x) where
-  covered : (p : Pair) → Reachable (targets x) (initialPair x) p → In p (allPairs x)
+  pub covered : (p : Pair) → Reachable (targets x) (initialPair x) p → In p (allPairs x)
   covered = reachable-inside (targets x) (initialPair x) (λ p. In p (allPairs x)) (initial-listed x good) (λ p m q i. targets-listed x good p q m i)
 
   -- the facts of a walk of k steps
@@ -55,22 +56,30 @@ module _ (rank : Ranking) (x : Input) (r : Room) (k : ℕ) (game work : List ℕ
   vs = verticesOf rank x (walkOf x k)
 
   -- what fits the room fits the game slice
-  fits-slice : refusal x r (length game) (length work) ≡ Passed → exceeds r vs ≡ false → length (gameOf vs) ≤ length game
+  fits-slice : refusal x r (length game) (length work) ≡ Passed → exceeds r vs ≡ false
+      → length (gameOf 0 vs) ≤ length game
   unfolding gameLength
   fits-slice e f =
       let (a, b) = fits rank x r k game work f in
-      omega (arith, length-read vs [], accepted-lengths x r (length game) (length work) e .0)
+      omega (arith, length-read 0 vs, accepted-lengths x r (length game) (length work) e .0)
 
   abbrev Claim : Outcome → Type 0
-  Claim o = (¬ (word (o .answer) 0 ≡ 2)) → CutTheorem rank x k (o .answer) (o .game) (pairsOf x k)
+  Claim o = Accepted (o .answer) → CutTheorem rank x k (o .answer) (o .game) (walkOf x k .known)
 
-  pub demand3 : Demand3 rank x k (run rank x r k game work .answer) (run rank x r k game work .game)
-  unfolding outOfRoom finished
-  demand3 = go (refusal x r (length game) (length work)) refl (exceeds r vs) refl
+  -- the pairs of the walk satisfy the cut theorem
+  pub walk-cut : Accepted (run rank x r k game work .answer)
+      → CutTheorem rank x k (run rank x r k game work .answer) (run rank x r k game work .game) (walkOf x k .known)
+  unfolding outOfRoom builtOutcome
+  walk-cut = go (refusal x r (length game) (length work)) refl (exceeds r vs) refl
     where
       go : (c : Check) → refusal x r (length game) (length work) ≡ c → (t : Bool) → exceeds r vs ≡ t → Claim (run rank x r k game work)
-      go (Fault n p) e t f = subst Claim (sym (run-refused rank x r k game work n p e)) (λ n. absurd (n refl))
-      go Passed e true f = subst Claim (sym (run-exceeds rank x r k game work e f)) (λ n. absurd (n refl))
+      go (Fault n p) e t f = subst Claim (sym (run-refused rank x r k game work n p e)) (λ z. absurd z)
+      go Passed e true f = subst Claim (sym (run-exceeds rank x r k game work e f)) (λ z. absurd z)
       go Passed e false f =
           let good = accepted-words x r (length game) (length work) e in
-          subst Claim (sym (run-fits rank x r k game work e f)) (λ n. cut-theorem rank x k (facts x good k) (ordered x good k) game work (fits-slice e f))
+          subst Claim (sym (run-fits rank x r k game work e f))
+          (λ z. cut-theorem rank x k (facts x good k) (ordered x good k) game work
+          (λ p m. listed-inside x p (covered x good p m)) (fits-slice e f))
+
+  pub demand3 : Demand3 rank x k (run rank x r k game work .answer) (run rank x r k game work .game)
+  demand3 a = (walkOf x k .known, walk-cut a)

@@ -1,40 +1,46 @@
 -- A finished game, handed over, passes the check of games; a cut one is refused 53 at the owner of its first waiting vertex. Assumes nothing.
 use mathlib.Core.Path.{_≡_, sym, ap, _∙_, subst}
 use mathlib.Core.Bool.{false}
-use mathlib.Core.List.{List, [], _∷_, map}
+use mathlib.Core.List.{List, [], _∷_}
 use mathlib.Core.Logic.{_⊎_, inl, inr, ⊎-elim}
 use Prim.Native.Nat.{ℕ, _+_, _≤_, _<_}
 use native.Mathlib.Omega.{arith}
 use lib.ListN.{length, getD}
 use Rattle.player.specs.Player.{playerIndex}
-use Rattle.player.specs.declared.Player.{Player}
 use Rattle.rules.specs.declared.Check.the-variants.{Passed, Fault}
-use Rattle.rules.specs.Lists.{In, place}
+use Rattle.rules.specs.Lists.{In, position}
 use Rattle.rules.specs.Words.{Input, Room}
 use Rattle.rules.specs.Depth.{Ranking}
 use Rattle.rules.specs.Pairs.{Pair, samePair, initialPair, owner, priority, targets}
-use Rattle.rules.specs.Walk.{State}
-use Rattle.rules.specs.Game.{Vertex, waitingVertex, settledVertex, edgeCount, gameOf}
+use Rattle.rules.specs.Walk.{Stand}
+use Rattle.rules.specs.Game.{Edge, Vertex, Ruled, edgeTo, waitingVertex, totalisedBy, totalised, settledVertex}
+use Rattle.rules.specs.Game.{ruledVertex, edgeCount, gameOf}
 use Rattle.rules.specs.GameRefusal.{gameRefusal}
 use Rattle.rules.specs.Refusal.{refusal}
 use Rattle.rules.specs.Run.{walkOf, verticesOf, exceeds}
-use Rattle.rules.specs.Good.{GoodInput}
+use Rattle.tables.specs.Good.{GoodInput}
 use Rattle.lists.proofs.Members.{in-map, in-or}
 use Rattle.lists.proofs.Equalities.{number-equality}
 use Rattle.tables.proofs.Accepted.{accepted-words, accepted-room}
 use Rattle.games.proofs.Handed.{owned-passes, first-unowned}
-use Rattle.theorems.proofs.Vertices.{length-vertices, vertex-at, vertex-waits, vertex-settled}
+use Rattle.theorems.proofs.Vertices.{length-vertices, vertex-at, vertex-waits, vertex-settled, ruledAt}
 use Rattle.theorems.proofs.Read.{player-below, settled-owner}
 use Rattle.theorems.proofs.Runs.{fits}
 use Rattle.theorems.proofs.Demand3.{facts}
 
-settled-edges : (v n : ℕ) (o : Player) (p : ℕ) (es : List ℕ) → v < n → ((t : ℕ) → In t es → t < n) → (t : ℕ) → In t (settledVertex v o p es .edges) → t < n
-unfolding settledVertex
-settled-edges v n o p [] h f t m = ⊎-elim (λ e. omega arith) (λ z. absurd z) m
-settled-edges v n o p (e ∷ es) h f t m = f t m
+settled-edges : (v n : ℕ) (r : Ruled) → v < n → ((e : Edge) → In e (r .edges) → e .target < n)
+    → (e : Edge) → In e (settledVertex (totalised v r) .edges) → e .target < n
+unfolding settledVertex totalised totalisedBy
+settled-edges v n r h f e m = go (r .edges) m
+  where
+    go : (es : List Edge) → In e (totalisedBy es v r .edges) → e .target < n
+    go [] i =
+        ⊎-elim (λ (q : e ≡ edgeTo v). let t : e .target ≡ v = ap (λ (y : Edge). y .target) q in omega arith)
+        (λ z. absurd z) i
+    go (x ∷ es) i = f e i
 
 module _ (rank : Ranking) (x : Input) (r : Room) (k : ℕ) (game work : List ℕ) (passed : refusal x r (length game) (length work) ≡ Passed) where
-  abbrev st : State Pair
+  abbrev st : Stand Pair
   st = walkOf x k
 
   abbrev vs : List Vertex
@@ -53,38 +59,39 @@ module _ (rank : Ranking) (x : Input) (r : Room) (k : ℕ) (game work : List ℕ
       vertex-at samePair (targets x) (initialPair x) (owner x) (priority rank x) st v waitingVertex h
       ∙ vertex-waits samePair (targets x) (initialPair x) (owner x) (priority rank x) st v m
 
-  abbrev settled-as : ℕ → Vertex
-  settled-as v =
-      settledVertex v (owner x (getD (st .known) v (initialPair x))) (priority rank x (getD (st .known) v (initialPair x)))
-      (map (λ q. place samePair q (st .known)) (targets x (getD (st .known) v (initialPair x))))
+  abbrev ruled : ℕ → Ruled
+  ruled = ruledAt samePair (targets x) (initialPair x) (owner x) (priority rank x) st
 
-  settled-at : (v : ℕ) → v < length (st .known) → (¬ In v (st .waiting)) → getD vs v waitingVertex ≡ settled-as v
+  settled-at : (v : ℕ) → v < length (st .known) → (¬ In v (st .waiting))
+      → getD vs v waitingVertex ≡ settledVertex (totalised v (ruled v))
   unfolding verticesOf
   settled-at v h n =
       vertex-at samePair (targets x) (initialPair x) (owner x) (priority rank x) st v waitingVertex h
       ∙ vertex-settled samePair (targets x) (initialPair x) (owner x) (priority rank x) st v n
 
-  edges-inside : (v : ℕ) → v < length vs → (t : ℕ) → In t (getD vs v waitingVertex .edges) → t < length vs
-  unfolding waitingVertex walkOf
-  edges-inside v l t m = go (in-or number-equality v (st .waiting))
+  edges-inside : (v : ℕ) → v < length vs → (e : Edge) → In e (getD vs v waitingVertex .edges) → e .target < length vs
+  unfolding waitingVertex walkOf ruledVertex
+  edges-inside v l e m = go (in-or number-equality v (st .waiting))
     where
       h : v < length (st .known)
       h = omega (arith, many)
 
-      go : In v (st .waiting) ⊎ (¬ In v (st .waiting)) → t < length vs
-      go (inl w) = absurd (subst (λ (y : Vertex). In t (y .edges)) (waits-at v h w) m)
+      go : In v (st .waiting) ⊎ (¬ In v (st .waiting)) → e .target < length vs
+      go (inl w) = absurd (subst (λ (y : Vertex). In e (y .edges)) (waits-at v h w) m)
       go (inr n) =
-          settled-edges v (length vs) (owner x (getD (st .known) v (initialPair x))) (priority rank x (getD (st .known) v (initialPair x)))
-          (map (λ q. place samePair q (st .known)) (targets x (getD (st .known) v (initialPair x)))) l
-          (λ u i. let (q, j, e) = in-map (λ q. place samePair q (st .known)) u (targets x (getD (st .known) v (initialPair x))) i in
-          let b = facts x good k .edges v (h, n) q j .0 in omega (arith, many))
-          t (subst (λ (y : Vertex). In t (y .edges)) (settled-at v h n) m)
+          settled-edges v (length vs) (ruled v) l
+          (λ f i. let (q, j, z) = in-map (λ q. edgeTo (position samePair q (st .known))) f
+          (targets x (getD (st .known) v (initialPair x))) i in
+          let b = facts x good k .edges v (h, n) q j .0 in
+          let t : f .target ≡ position samePair q (st .known) = ap (λ (y : Edge). y .target) z in omega (arith, many))
+          e (subst (λ (y : Vertex). In e (y .edges)) (settled-at v h n) m)
 
   owner-at : (v : ℕ) → v < length vs → (¬ In v (st .waiting)) → getD vs v waitingVertex .owner < 2
+  unfolding ruledVertex
   owner-at v l n =
       let p : Pair = getD (st .known) v (initialPair x) in
       let e : getD vs v waitingVertex .owner ≡ playerIndex (owner x p)
-      = ap (λ (y : Vertex). y .owner) (settled-at v (omega (arith, many)) n) ∙ settled-owner v (owner x p) (priority rank x p) (map (λ q. place samePair q (st .known)) (targets x p)) in
+      = ap (λ (y : Vertex). y .owner) (settled-at v (omega (arith, many)) n) ∙ settled-owner v (ruled v) in
       subst (λ (o : ℕ). o < 2) (sym e) (player-below (owner x p))
 
   module _ (fit : exceeds r vs ≡ false) where
@@ -99,11 +106,12 @@ module _ (rank : Ranking) (x : Input) (r : Room) (k : ℕ) (game work : List ℕ
     light = let (a, b) = fits rank x r k game work fit in let (p, q, s, t) = accepted-room x r (length game) (length work) passed in omega arith
 
     -- no vertex waits: the run is done
-    pub done-passes : st .waiting ≡ [] → gameRefusal (gameOf vs) ≡ Passed
+    pub done-passes : st .waiting ≡ [] → gameRefusal (gameOf 0 vs) ≡ Passed
     done-passes e = owned-passes vs waitingVertex some few light edges-inside (λ v l. owner-at v l (λ m. subst (In v) e m))
 
     -- vertex u is the first that waits: the run is cut
-    pub cut-refused : (u : ℕ) → u < length (st .known) → In u (st .waiting) → ((v : ℕ) → v < u → ¬ In v (st .waiting)) → gameRefusal (gameOf vs) ≡ Fault 53 (3 + u)
+    pub cut-refused : (u : ℕ) → u < length (st .known) → In u (st .waiting) → ((v : ℕ) → v < u → ¬ In v (st .waiting))
+        → gameRefusal (gameOf 0 vs) ≡ Fault 53 (3 + u)
     unfolding waitingVertex
     cut-refused u h w before =
         first-unowned vs waitingVertex some few light edges-inside u (omega (arith, many)) (ap (λ (y : Vertex). y .owner) (waits-at u h w))

@@ -8,15 +8,16 @@ use Prim.Native.Nat.{ℕ, zero, suc, _+_, _-_, _≤_, _<_}
 use native.Mathlib.Omega.{arith}
 use lib.ListN.{length, getD}
 use Rattle.player.specs.declared.Player.{Player}
-use Rattle.rules.specs.Lists.{In, place, insertAll}
+use Rattle.rules.specs.Lists.{In, position, insertAll}
 use Rattle.rules.specs.Words.{Input}
 use Rattle.rules.specs.Depth.{Ranking}
 use Rattle.rules.specs.Pairs.{samePair, initialPair, owner, priority, targets}
-use Rattle.rules.specs.Walk.{State, walk, settle, stepFrom, step}
-use Rattle.rules.specs.Game.{Vertex, settledVertex, vertexAt, gameOf, padded, vertexCount, ownerIn, priorityIn, targetsIn}
+use Rattle.rules.specs.Walk.{Stand, walk, settle, stepFrom, step}
+use Rattle.rules.specs.Game.{Edge, Vertex, edgeTo, totalised, settledVertex, ruledVertex, vertexAt, gameOf, padded}
+use Rattle.rules.specs.Game.{vertexCount, ownerIn, priorityIn, targetsIn}
 use Rattle.rules.specs.Run.{walkOf, verticesOf}
 use Rattle.lists.specs.Shapes.{Begins, Equality}
-use Rattle.lists.proofs.Members.{place-begins}
+use Rattle.lists.proofs.Members.{position-begins}
 use Rattle.lists.proofs.Shapes.{begins-at, begins-length}
 use Rattle.lists.proofs.Equalities.{pair-equality}
 use Rattle.walks.specs.Sums.{Settled}
@@ -35,7 +36,7 @@ module _ {A : Type 0} {same : A → A → Bool} (eq : Equality same) (next : A �
       ⊎-elim (λ l. absurd (omega arith)) (λ i. n (inr i))
       (push-only (length known) (length (insertAll same known (next (getD known u root))) - length known) rest v m)
 
-  settled-step : (st : State A) (v : ℕ) → Settled st v → Settled (step same next root st) v
+  settled-step : (st : Stand A) (v : ℕ) → Settled st v → Settled (step same next root st) v
   unfolding step
   settled-step st v (h, n) = (omega (arith, begins-length (st .known) (step same next root st .known) (begins-step eq next root st)), step-settled (st .known) (st .waiting) v h n)
 
@@ -44,37 +45,43 @@ module _ {A : Type 0} {same : A → A → Bool} (eq : Equality same) (next : A �
   settled-on k (suc i) v s =
       let e : suc (k + i) ≡ k + suc i = omega arith in
       subst (λ (n : ℕ). Settled (walk same next root n) v) e
-      (subst (λ (st : State A). Settled st v) (sym (walk-step same next root (k + i))) (settled-step (walk same next root (k + i)) v (settled-on k i v s)))
+      (subst (λ (st : Stand A). Settled st v) (sym (walk-step same next root (k + i))) (settled-step (walk same next root (k + i)) v (settled-on k i v s)))
 
   pub settled-stays : (k j v : ℕ) → k ≤ j → Settled (walk same next root k) v → Settled (walk same next root j) v
   settled-stays k j v h s = walk-later same next root k j h (λ st. Settled st v) (λ i. settled-on k i v s)
 
-  numbers-stay : (known more : List A) → Begins known more → (ts : List A) → ((q : A) → In q ts → In q known) → map (λ q. place same q more) ts ≡ map (λ q. place same q known) ts
-  numbers-stay known more b [] f = refl
-  numbers-stay known more b (t ∷ ts) f =
-      ap (λ (n : ℕ). n ∷ map (λ q. place same q more) ts) (place-begins eq t known more (f t (inl refl)) b)
-      ∙ ap (λ (ns : List ℕ). place same t known ∷ ns) (numbers-stay known more b ts (λ q m. f q (inr m)))
+  edges-stay : (known more : List A) → Begins known more → (ts : List A) → ((q : A) → In q ts → In q known)
+      → map (λ q. edgeTo (position same q more)) ts ≡ map (λ q. edgeTo (position same q known)) ts
+  edges-stay known more b [] f = refl
+  edges-stay known more b (t ∷ ts) f =
+      ap (λ (n : ℕ). edgeTo n ∷ map (λ q. edgeTo (position same q more)) ts)
+      (position-begins eq t known more (f t (inl refl)) b)
+      ∙ ap (λ (es : List Edge). edgeTo (position same t known) ∷ es) (edges-stay known more b ts (λ q m. f q (inr m)))
 
   module _ (owner′ : A → Player) (priority′ : A → ℕ) (k j v : ℕ) (h : k ≤ j) (s : Settled (walk same next root k) v) where
     -- a vertex settled after k steps is shown alike after j
     pub vertex-stays : vertexAt same next root owner′ priority′ (walk same next root j) v ≡ vertexAt same next root owner′ priority′ (walk same next root k) v
+    unfolding ruledVertex
     vertex-stays =
         let a = walk same next root k .known in
         let b = walk same next root j .known in
         let p : getD b v root ≡ getD a v root = begins-at a b root (walk-keeps eq next root k j h) v (s .0) in
         vertex-settled same next root owner′ priority′ (walk same next root j) v (settled-stays k j v h s .1)
-        ∙ ap (λ (q : A). settledVertex v (owner′ q) (priority′ q) (map (λ t. place same t b) (next q))) p
-        ∙ ap (settledVertex v (owner′ (getD a v root)) (priority′ (getD a v root)))
-        (numbers-stay a b (walk-keeps eq next root k j h) (next (getD a v root)) (sound eq next root k .edges v (s .0) (s .1)))
+        ∙ ap (λ (q : A). settledVertex
+        (totalised v (ruledVertex same next root owner′ priority′ (walk same next root j) q))) p
+        ∙ ap (λ (es : List Edge). settledVertex
+        (totalised v (record { owner = owner′ (getD a v root); priority = priority′ (getD a v root); edges = es })))
+        (edges-stay a b (walk-keeps eq next root k j h) (next (getD a v root))
+        (sound eq next root k .edges v (s .0) (s .1)))
         ∙ sym (vertex-settled same next root owner′ priority′ (walk same next root k) v (s .1))
 
 -- the same of the words of two runs' games, of which one makes more steps
 module _ (rank : Ranking) (x : Input) (k j n m v : ℕ) (h : k ≤ j) where
   abbrev before : List ℕ
-  before = padded n (gameOf (verticesOf rank x (walkOf x k)))
+  before = padded n (gameOf 0 (verticesOf rank x (walkOf x k)))
 
   abbrev after : List ℕ
-  after = padded m (gameOf (verticesOf rank x (walkOf x j)))
+  after = padded m (gameOf 0 (verticesOf rank x (walkOf x j)))
 
   pub cut-game-stays : v < vertexCount before → ownerIn before v < 2
       → (ownerIn after v ≡ ownerIn before v) × (priorityIn after v ≡ priorityIn before v) × (targetsIn after v ≡ targetsIn before v)
@@ -89,5 +96,9 @@ module _ (rank : Ranking) (x : Input) (k j n m v : ℕ) (h : k ≤ j) where
       let q = row-settled samePair (targets x) (initialPair x) (owner x) (priority rank x) t m v (settled-j .0) (settled-j .1) in
       let e = sym (vertex-settled samePair (targets x) (initialPair x) (owner x) (priority rank x) t v (settled-j .1))
       ∙ vertex-stays pair-equality (targets x) (initialPair x) (owner x) (priority rank x) k j v h settled-k
-      ∙ vertex-settled samePair (targets x) (initialPair x) (owner x) (priority rank x) s v (settled-k .1) in
-      (q .owned ∙ ap (λ (y : Vertex). y .owner) e ∙ sym (p .owned), q .ranked ∙ ap (λ (y : Vertex). y .priority) e ∙ sym (p .ranked), q .leads ∙ ap (λ (y : Vertex). y .edges) e ∙ sym (p .leads))
+      ∙ vertex-settled samePair (targets x) (initialPair x) (owner x) (priority rank x) s v (settled-k .1) in (
+        q .owned ∙ ap (λ (y : Vertex). y .owner) e ∙ sym (p .owned),
+        q .ranked ∙ ap (λ (y : Vertex). y .priority) e
+            ∙ sym (p .ranked),
+        q .leads ∙ ap (λ (y : Vertex). map (λ (z : Edge). z .target) (y .edges)) e ∙ sym (p .leads),
+      )

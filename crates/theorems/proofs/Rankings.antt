@@ -8,18 +8,19 @@ use native.Mathlib.Omega.{arith}
 use lib.ListN.{length, getD}
 use lib.Dec.{ltb}
 use Rattle.player.specs.declared.Player.{Player}
+use Rattle.rules.specs.declared.Answer.the-variants.{Refused}
 use Rattle.rules.specs.declared.Check.{Check}
 use Rattle.rules.specs.declared.Check.the-variants.{Passed, Fault}
-use Rattle.rules.specs.Lists.{In, place}
+use Rattle.rules.specs.Lists.{In, position}
 use Rattle.rules.specs.Words.{Input, Room}
 use Rattle.rules.specs.Formula.{equationCount}
 use Rattle.rules.specs.Depth.{Ranking}
 use Rattle.rules.specs.Pairs.{Pair, samePair, initialPair, owner, priority, targets}
-use Rattle.rules.specs.Walk.{State}
-use Rattle.rules.specs.Game.{Vertex, settledVertex, edgeCount, gameOf, padded, vertexCount, edgesIn, ownerIn, priorityIn, targetsIn}
+use Rattle.rules.specs.Walk.{Stand}
+use Rattle.rules.specs.Game.{Edge, Vertex, edgeTo, totalisedBy, totalised, settledVertex, ruledVertex, edgeCount}
+use Rattle.rules.specs.Game.{gameOf, padded, vertexCount, edgesIn, ownerIn, priorityIn, targetsIn}
 use Rattle.rules.specs.Refusal.{refusal}
-use Rattle.rules.specs.Run.{Outcome, walkOf, verticesOf, exceeds, finished, outOfRoom, run}
-use Rattle.rules.specs.Demands.{pairsOf}
+use Rattle.rules.specs.Run.{Outcome, walkOf, verticesOf, exceeds, builtAnswer, builtOutcome, outOfRoom, run}
 use Rattle.lists.proofs.Members.{in-or}
 use Rattle.lists.proofs.Equalities.{number-equality}
 use native.Mathlib.Decide.{decLt}
@@ -34,7 +35,7 @@ pub record AlikeButRanks (x : Input) (k : ℕ) (g h : List ℕ) : Type 0 where
   pub owners : (v : ℕ) → v < vertexCount g → ownerIn g v ≡ ownerIn h v
   pub targets : (v : ℕ) → v < vertexCount g → targetsIn g v ≡ targetsIn h v
   pub priorities : (v : ℕ) → v < vertexCount g
-      → (priorityIn g v ≡ priorityIn h v) ⊎ (getD (pairsOf x k) v (initialPair x) .1 < equationCount (x .formula))
+      → (priorityIn g v ≡ priorityIn h v) ⊎ (getD (walkOf x k .known) v (initialPair x) .1 < equationCount (x .formula))
 
 -- the two outcomes differ in nothing else
 pub record SameButRanks (x : Input) (k : ℕ) (o p : Outcome) : Type 0 where
@@ -43,10 +44,13 @@ pub record SameButRanks (x : Input) (k : ℕ) (o p : Outcome) : Type 0 where
   pub games : (o .game ≡ p .game) ⊎ AlikeButRanks x k (o .game) (p .game)
 
 -- what a settled vertex shows, with one priority or another
-settled-alike : (v : ℕ) (o : Player) (p q : ℕ) (es : List ℕ)
-    → (settledVertex v o p es .owner ≡ settledVertex v o q es .owner) × (settledVertex v o p es .edges ≡ settledVertex v o q es .edges)
-    × ((p ≡ q) → settledVertex v o p es .priority ≡ settledVertex v o q es .priority)
-unfolding settledVertex
+abbrev shown : ℕ → Player → ℕ → List Edge → Vertex
+shown v o p es = settledVertex (totalised v (record { owner = o; priority = p; edges = es }))
+
+settled-alike : (v : ℕ) (o : Player) (p q : ℕ) (es : List Edge)
+    → (shown v o p es .owner ≡ shown v o q es .owner) × (shown v o p es .edges ≡ shown v o q es .edges)
+    × ((p ≡ q) → shown v o p es .priority ≡ shown v o q es .priority)
+unfolding settledVertex totalised totalisedBy
 settled-alike v o p q [] = (refl, refl, λ e. refl)
 settled-alike v o p q (e ∷ es) = (refl, refl, λ f. f)
 
@@ -59,7 +63,7 @@ priority-elsewhere a b x p = go (decLt (p .1) (equationCount (x .formula)))
     go (no l) = inr (other-priority x a p (omega arith) ∙ sym (other-priority x b p (omega arith)))
 
 module _ (a b : Ranking) (x : Input) (r : Room) (k : ℕ) (game work : List ℕ) where
-  abbrev st : State Pair
+  abbrev st : Stand Pair
   st = walkOf x k
 
   abbrev va : List Vertex
@@ -79,10 +83,10 @@ module _ (a b : Ranking) (x : Input) (r : Room) (k : ℕ) (game work : List ℕ)
   fits-alike = ap₂ (λ (m n : ℕ). ltb (r .vertices) m || ltb (r .edges) n) many edged
 
   abbrev ga : List ℕ
-  ga = padded (length game) (gameOf va)
+  ga = padded (length game) (gameOf 0 va)
 
   abbrev gb : List ℕ
-  gb = padded (length game) (gameOf vb)
+  gb = padded (length game) (gameOf 0 vb)
 
   counts : vertexCount ga ≡ length (st .known)
   unfolding verticesOf
@@ -101,14 +105,14 @@ module _ (a b : Ranking) (x : Input) (r : Room) (k : ℕ) (game work : List ℕ)
       × ((priorityIn ga v ≡ priorityIn gb v) ⊎ (getD (st .known) v (initialPair x) .1 < equationCount (x .formula)))
 
   rows : (v : ℕ) → v < length (st .known) → Rows v
-  unfolding verticesOf
+  unfolding verticesOf ruledVertex
   rows v h = go (in-or number-equality v (st .waiting))
     where
       p : Pair
       p = getD (st .known) v (initialPair x)
 
-      es : List ℕ
-      es = map (λ q. place samePair q (st .known)) (targets x p)
+      es : List Edge
+      es = map (λ q. edgeTo (position samePair q (st .known))) (targets x p)
 
       go : In v (st .waiting) ⊎ (¬ In v (st .waiting)) → Rows v
       go (inl w) =
@@ -120,7 +124,7 @@ module _ (a b : Ranking) (x : Input) (r : Room) (k : ℕ) (game work : List ℕ)
           let rb = row-settled samePair (targets x) (initialPair x) (owner x) (priority b x) st (length game) v h n in
           let (o, e, q) = settled-alike v (owner x p) (priority a x p) (priority b x p) es in (
             ra .owned ∙ o ∙ sym (rb .owned),
-            ra .leads ∙ e ∙ sym (rb .leads),
+            ra .leads ∙ ap (map (λ (z : Edge). z .target)) e ∙ sym (rb .leads),
             ⊎-elim (λ l. inr l) (λ s. inl (ra .ranked ∙ q s ∙ sym (rb .ranked))) (priority-elsewhere a b x p),
           )
 
@@ -128,13 +132,13 @@ module _ (a b : Ranking) (x : Input) (r : Room) (k : ℕ) (game work : List ℕ)
   Claim = SameButRanks x k
 
   pub rankings : SameButRanks x k (run a x r k game work) (run b x r k game work)
-  unfolding finished
+  unfolding builtOutcome
   rankings = go (refusal x r (length game) (length work)) refl (exceeds r va) refl
     where
-      done : exceeds r va ≡ false → Claim (finished st va game work) (finished st vb game work)
+      done : exceeds r va ≡ false → Claim (builtOutcome st va game work) (builtOutcome st vb game work)
       done f =
           record {
-            answers = ap₂ (λ (m n : ℕ). Rattle.rules.specs.Run.doneOrCut (st .waiting) ∷ (m - length (st .waiting)) ∷ m ∷ n ∷ []) many edged;
+            answers = ap₂ (λ (m n : ℕ). builtAnswer (st .waiting) (m - length (st .waiting)) m n) many edged;
             works = refl;
             games = inr (record {
               count = counts ∙ sym counts-b;
@@ -150,11 +154,13 @@ module _ (a b : Ranking) (x : Input) (r : Room) (k : ℕ) (game work : List ℕ)
 
       go : (c : Check) → refusal x r (length game) (length work) ≡ c → (t : Bool) → exceeds r va ≡ t → Claim (run a x r k game work) (run b x r k game work)
       go (Fault n p) e t f =
-          same (run a x r k game work) (run b x r k game work) (record { answer = 2 ∷ n ∷ p ∷ 0 ∷ []; game = game; work = work })
+          same (run a x r k game work) (run b x r k game work)
+          (record { answer = Refused n p; game = game; work = work })
           (run-refused a x r k game work n p e) (run-refused b x r k game work n p e)
       go Passed e true f =
           same (run a x r k game work) (run b x r k game work) (outOfRoom game work)
           (run-exceeds a x r k game work e f) (run-exceeds b x r k game work e (sym fits-alike ∙ f))
       go Passed e false f =
           subst (λ (o : Outcome). Claim o (run b x r k game work)) (sym (run-fits a x r k game work e f))
-          (subst (Claim (finished st va game work)) (sym (run-fits b x r k game work e (sym fits-alike ∙ f))) (done f))
+          (subst (Claim (builtOutcome st va game work)) (sym (run-fits b x r k game work e (sym fits-alike ∙ f)))
+          (done f))

@@ -1,27 +1,29 @@
 -- What is read from the words of a run's game: of each vertex, by whether it waits; and that the words are a whole game. Assumes nothing.
 use mathlib.Core.Path.{_≡_, refl, sym, ap, _∙_, subst}
 use mathlib.Core.Bool.{Bool}
-use mathlib.Core.List.{List, [], _∷_, _++_}
+use mathlib.Core.List.{List, [], _∷_, _++_, map}
 use mathlib.Core.Logic.{_⊎_, inl, inr}
 use Prim.Native.Nat.{ℕ, zero, suc, _+_, _-_, _≤_, _<_}
 use native.Mathlib.Omega.{arith}
 use native.Mathlib.Decide.{decLt}
-use lib.ListN.{length, getD, take, replicate, length-append, length-replicate, getD-replicate}
+use lib.ListN.{length, getD, take, replicate, length-append, length-map, length-replicate, getD-replicate}
 use lib.Seq.{take-all, getD-append-add}
 use borrow.Author.Tests.{lt-ltb, le-ltb}
 use Rattle.player.specs.Player.{playerIndex}
 use Rattle.player.specs.declared.Player.{Player}
 use Rattle.player.specs.declared.Player.the-variants.{Even, Odd}
 use Rattle.rules.specs.Lists.{word, sum, In}
-use Rattle.rules.specs.Walk.{State}
-use Rattle.rules.specs.Game.{Vertex, waitingVertex, settledVertex, vertices, edgeCount, gameOf, padded, vertexCount, edgesIn, ownerIn, priorityIn, offsetIn, targetsIn, gameEnd}
+use Rattle.rules.specs.Walk.{Stand}
+use Rattle.rules.specs.Game.{Edge, Vertex, Ruled, waitingVertex, totalisedBy, totalised, settledVertex, ruledVertex}
+use Rattle.rules.specs.Game.{vertices, edgeCount, gameOf, padded, vertexCount, ownerIn, priorityIn, offsetIn}
+use Rattle.rules.specs.Game.{targetsIn, gameEnd}
 use Rattle.rules.specs.Demands.{settledBelow}
 use Rattle.lists.proofs.Members.{in-has, not-in, in-or}
 use Rattle.lists.proofs.Equalities.{number-equality}
 use Rattle.walks.specs.Sums.{sumBelow}
-use Rattle.games.proofs.Reading.{count-read, owner-read, priority-read, offset-read, targets-read, length-read}
+use Rattle.games.proofs.Reading.{count-read, edges-read, vertex-read, offset-read, edge-words-read, length-read}
 use Rattle.games.proofs.Rewriting.{Whole}
-use Rattle.theorems.proofs.Vertices.{length-vertices, vertex-at, vertex-waits, vertex-settled, pairAt, numbersAt}
+use Rattle.theorems.proofs.Vertices.{length-vertices, vertex-at, vertex-waits, vertex-settled, pairAt, ruledAt}
 
 -- ---- words past the end
 
@@ -50,35 +52,38 @@ count-more [] v d h = absurd (omega arith)
 count-more (x ∷ vs) zero d h = omega arith
 count-more (x ∷ vs) (suc v) d h = omega (arith, count-more vs v d (omega arith))
 
-module _ (vs : List Vertex) (n : ℕ) (room : length (gameOf vs) ≤ n) where
-  end-read : gameEnd (gameOf vs ++ replicate (n - length (gameOf vs)) 0) ≡ length (gameOf vs)
-  unfolding gameOf
-  end-read = omega (arith, length-read vs [])
+module _ (vs : List Vertex) (n : ℕ) (room : length (gameOf 0 vs) ≤ n) where
+  abbrev rest : List ℕ
+  rest = replicate (n - length (gameOf 0 vs)) 0
+
+  end-read : gameEnd (gameOf 0 vs ++ rest) ≡ length (gameOf 0 vs)
+  end-read = omega (arith, length-read 0 vs, count-read 0 vs rest, edges-read 0 vs rest)
 
   count-none : edgeCount (take 0 vs) ≡ 0
   unfolding edgeCount sum
   count-none = refl
 
-  edges-word : (rest : List ℕ) → edgesIn (gameOf vs ++ rest) ≡ edgeCount vs
-  unfolding gameOf
-  edges-word rest = refl
+  degree-read : (v : ℕ) → v < length vs
+      → length (targetsIn (gameOf 0 vs ++ rest) v) ≡ length (getD vs v waitingVertex .edges)
+  degree-read v l =
+      ap length (edge-words-read 0 vs rest 0 v waitingVertex (omega arith) l)
+      ∙ length-map (getD vs v waitingVertex .edges) (λ (e : Edge). e .target)
 
-  pub whole-game : Whole (padded n (gameOf vs))
+  pub whole-game : Whole (padded n (gameOf 0 vs))
   unfolding padded
   whole-game =
-      let rest : List ℕ = replicate (n - length (gameOf vs)) 0 in
       record {
-        begins = offset-read vs rest 0 (omega arith) ∙ count-none;
-        follows = λ v h. let l : v < length vs = omega (arith, count-read vs rest) in
-            offset-read vs rest (suc v) l ∙ count-more vs v waitingVertex l
-            ∙ omega (arith, offset-read vs rest v (omega arith), ap length (targets-read vs rest v waitingVertex l));
+        begins = offset-read 0 vs rest 0 (omega arith) ∙ count-none;
+        follows = λ v h. let l : v < length vs = omega (arith, count-read 0 vs rest) in
+            offset-read 0 vs rest (suc v) l ∙ count-more vs v waitingVertex l
+            ∙ omega (arith, offset-read 0 vs rest v (omega arith), degree-read v l);
         ends = (
-          ap (λ (v : ℕ). offsetIn (gameOf vs ++ rest) v) (count-read vs rest)
-              ∙ offset-read vs rest (length vs) (omega arith)
-              ∙ ap edgeCount (take-all (length vs) vs (omega arith)) ∙ sym (edges-word rest),
-          omega (arith, end-read, length-append (gameOf vs) rest),
+          ap (λ (v : ℕ). offsetIn (gameOf 0 vs ++ rest) v) (count-read 0 vs rest)
+              ∙ offset-read 0 vs rest (length vs) (omega arith)
+              ∙ ap edgeCount (take-all (length vs) vs (omega arith)) ∙ sym (edges-read 0 vs rest),
+          omega (arith, end-read, length-append (gameOf 0 vs) rest),
         );
-        past = λ i h. zeros-past (gameOf vs) (n - length (gameOf vs)) i (omega (arith, end-read));
+        past = λ i h. zeros-past (gameOf 0 vs) (n - length (gameOf 0 vs)) i (omega (arith, end-read));
       }
 
 -- ---- the game where a walk stands
@@ -87,47 +92,57 @@ pub player-below : (p : Player) → playerIndex p < 2
 player-below Even = omega arith
 player-below Odd = omega arith
 
-pub settled-owner : (v : ℕ) (o : Player) (p : ℕ) (es : List ℕ) → settledVertex v o p es .owner ≡ playerIndex o
-unfolding settledVertex
-settled-owner v o p [] = refl
-settled-owner v o p (e ∷ es) = refl
+pub settled-owner : (v : ℕ) (r : Ruled) → settledVertex (totalised v r) .owner ≡ playerIndex (r .owner)
+unfolding settledVertex totalised totalisedBy
+settled-owner v r = go (r .edges)
+  where
+    go : (es : List Edge) → playerIndex (totalisedBy es v r .owner) ≡ playerIndex (r .owner)
+    go [] = refl
+    go (e ∷ es) = refl
 
-module _ {A : Type 0} (same : A → A → Bool) (next : A → List A) (root : A) (owner : A → Player) (priority : A → ℕ) (st : State A) (n : ℕ) where
+module _ {A : Type 0} (same : A → A → Bool) (next : A → List A) (root : A) (owner : A → Player) (priority : A → ℕ) (st : Stand A) (n : ℕ) where
   abbrev vs : List Vertex
   vs = vertices same next root owner priority st
 
   abbrev g : List ℕ
-  g = padded n (gameOf vs)
+  g = padded n (gameOf 0 vs)
 
-  abbrev at : ℕ → Vertex
-  at v = settledVertex v (owner (pairAt same next root owner priority st v)) (priority (pairAt same next root owner priority st v)) (numbersAt same next root owner priority st v)
+  abbrev ruled : ℕ → Ruled
+  ruled = ruledAt same next root owner priority st
 
   pub count-word : vertexCount g ≡ length (st .known)
   unfolding padded
-  count-word = count-read vs (replicate (n - length (gameOf vs)) 0) ∙ length-vertices same next root owner priority st
+  count-word =
+      count-read 0 vs (replicate (n - length (gameOf 0 vs)) 0) ∙ length-vertices same next root owner priority st
 
   -- what is read of vertex v
   pub record Row (v : ℕ) (x : Vertex) : Type 0 where
     pub owned : ownerIn g v ≡ x .owner
     pub ranked : priorityIn g v ≡ x .priority
-    pub leads : targetsIn g v ≡ x .edges
+    pub leads : targetsIn g v ≡ map (λ e. e .target) (x .edges)
 
   row-of : (v : ℕ) (x : Vertex) → v < length (st .known) → getD vs v waitingVertex ≡ x → Row v x
   unfolding padded
   row-of v x h e =
-      let rest : List ℕ = replicate (n - length (gameOf vs)) 0 in
+      let more : List ℕ = replicate (n - length (gameOf 0 vs)) 0 in
       let l : v < length vs = omega (arith, length-vertices same next root owner priority st) in
       record {
-        owned = owner-read vs rest v waitingVertex l ∙ ap (λ (y : Vertex). y .owner) e;
-        ranked = ap (λ (k : ℕ). word (gameOf vs ++ rest) (3 + k + v)) (count-read vs rest) ∙ priority-read vs rest v waitingVertex l ∙ ap (λ (y : Vertex). y .priority) e;
-        leads = targets-read vs rest v waitingVertex l ∙ ap (λ (y : Vertex). y .edges) e;
+        owned = vertex-read 0 vs more 0 v waitingVertex (omega arith) l ∙ ap (λ (y : Vertex). y .owner) e;
+        ranked = vertex-read 0 vs more 1 v waitingVertex (omega arith) l ∙ ap (λ (y : Vertex). y .priority) e;
+        leads =
+            edge-words-read 0 vs more 0 v waitingVertex (omega arith) l
+            ∙ ap (λ (y : Vertex). map (λ (z : Edge). z .target) (y .edges)) e;
       }
 
   pub row-waits : (v : ℕ) → v < length (st .known) → In v (st .waiting) → Row v waitingVertex
   row-waits v h m = row-of v waitingVertex h (vertex-at same next root owner priority st v waitingVertex h ∙ vertex-waits same next root owner priority st v m)
 
-  pub row-settled : (v : ℕ) → v < length (st .known) → (¬ In v (st .waiting)) → Row v (at v)
-  row-settled v h m = row-of v (at v) h (vertex-at same next root owner priority st v waitingVertex h ∙ vertex-settled same next root owner priority st v m)
+  pub row-settled : (v : ℕ) → v < length (st .known) → (¬ In v (st .waiting))
+      → Row v (settledVertex (totalised v (ruled v)))
+  row-settled v h m =
+      row-of v (settledVertex (totalised v (ruled v))) h
+      (vertex-at same next root owner priority st v waitingVertex h
+      ∙ vertex-settled same next root owner priority st v m)
 
   -- a vertex shows owner 2 exactly if it waits
   pub owner-waits : (v : ℕ) → v < length (st .known) → In v (st .waiting) → ownerIn g v ≡ 2
@@ -135,9 +150,8 @@ module _ {A : Type 0} (same : A → A → Bool) (next : A → List A) (root : A)
   owner-waits v h m = row-waits v h m .owned
 
   pub owner-settled : (v : ℕ) → v < length (st .known) → (¬ In v (st .waiting)) → ownerIn g v ≡ playerIndex (owner (pairAt same next root owner priority st v))
-  owner-settled v h m =
-      row-settled v h m .owned
-      ∙ settled-owner v (owner (pairAt same next root owner priority st v)) (priority (pairAt same next root owner priority st v)) (numbersAt same next root owner priority st v)
+  unfolding ruledVertex
+  owner-settled v h m = row-settled v h m .owned ∙ settled-owner v (ruled v)
 
   pub settled-below : (v : ℕ) → v < length (st .known) → (¬ In v (st .waiting)) → ownerIn g v < 2
   settled-below v h m = subst (λ (k : ℕ). k < 2) (sym (owner-settled v h m)) (player-below (owner (pairAt same next root owner priority st v)))

@@ -4,21 +4,24 @@ use mathlib.Core.Bool.{Bool, true, false, _||_, true≢false}
 use mathlib.Core.List.{List, [], _∷_}
 use mathlib.Core.Logic.{_⊎_, inl, inr, ⊎-elim}
 use Prim.Native.Nat.{ℕ, _-_, _≤_, _<_}
-use native.Mathlib.Omega.{arith}
 use lib.ListN.{length}
 use lib.Dec.{ltb}
 use borrow.Author.Tests.{lt-ltb, ltb-true, ltb-false}
+use Rattle.rules.specs.declared.Answer.the-variants.{Refused}
 use Rattle.rules.specs.declared.Check.the-variants.{Passed, Fault}
-use Rattle.rules.specs.Lists.{word, zeros}
+use Rattle.rules.specs.Lists.{zeros}
 use Rattle.rules.specs.Words.{Input, Room}
+use Rattle.rules.specs.Answers.{Accepted}
 use Rattle.rules.specs.Depth.{Ranking}
 use Rattle.rules.specs.Pairs.{Pair, samePair, initialPair, owner, priority, targets}
-use Rattle.rules.specs.Walk.{State}
+use Rattle.rules.specs.Walk.{Stand}
 use Rattle.rules.specs.Game.{Vertex, edgeCount, vertices}
+use Rattle.rules.specs.Faulty.{FirstFaulty, Faultless}
 use Rattle.rules.specs.Refusal.{refusal}
-use Rattle.rules.specs.Run.{Outcome, walkOf, verticesOf, exceeds, doneOrCut, finished, outOfRoom, walked, refusedOr, run}
+use Rattle.rules.specs.Run.{Outcome, walkOf, verticesOf, exceeds, builtAnswer, builtOutcome, outOfRoom, walkOutcome, refusedOr, run}
 use Rattle.rules.specs.Demands.{Exceeded, edgesAfter, Demand1}
 use Rattle.lists.proofs.Equalities.{pair-equality}
+use Rattle.tables.proofs.Exact.{exact, exact-passed, faultless-or-first}
 use Rattle.walks.specs.Sums.{sumSettled}
 use Rattle.walks.proofs.After.{exceeded-within}
 use Rattle.theorems.proofs.Vertices.{length-vertices, edgesOf, count-edges}
@@ -39,14 +42,14 @@ exceeds-either a b c d e (inr l) = go (ltb a b) refl
     go true f = true≢false (sym (rw f refl) ∙ e)
     go false f = true≢false (sym (lt-ltb c d l) ∙ sym (rw f) ∙ e)
 
--- neither a run that ended nor a cut one answers 2
-not-two : (ws : List ℕ) → ¬ (doneOrCut ws ≡ 2)
-unfolding doneOrCut
-not-two [] e = absurd (omega arith)
-not-two (w ∷ ws) e = absurd (omega arith)
+-- neither a run that ended nor a cut one is refused
+pub built-accepted : (ws : List ℕ) (s n m : ℕ) → Accepted (builtAnswer ws s n m)
+unfolding builtAnswer
+built-accepted [] s n m = tt
+built-accepted (w ∷ ws) s n m = tt
 
 module _ (rank : Ranking) (x : Input) (r : Room) (k : ℕ) (game work : List ℕ) where
-  abbrev st : State Pair
+  abbrev st : Stand Pair
   st = walkOf x k
 
   abbrev vs : List Vertex
@@ -55,16 +58,16 @@ module _ (rank : Ranking) (x : Input) (r : Room) (k : ℕ) (game work : List ℕ
   -- ---- one law for each way in which a run ends
 
   pub run-refused : (n p : ℕ) → refusal x r (length game) (length work) ≡ Fault n p
-      → run rank x r k game work ≡ record { answer = 2 ∷ n ∷ p ∷ 0 ∷ []; game = game; work = work }
+      → run rank x r k game work ≡ record { answer = Refused n p; game = game; work = work }
   unfolding run refusedOr
   run-refused n p e = rw e refl
 
   pub run-exceeds : refusal x r (length game) (length work) ≡ Passed → exceeds r vs ≡ true → run rank x r k game work ≡ outOfRoom game work
-  unfolding run refusedOr walked
+  unfolding run refusedOr walkOutcome
   run-exceeds e h = rw (e, h) refl
 
-  pub run-fits : refusal x r (length game) (length work) ≡ Passed → exceeds r vs ≡ false → run rank x r k game work ≡ finished st vs game work
-  unfolding run refusedOr walked
+  pub run-fits : refusal x r (length game) (length work) ≡ Passed → exceeds r vs ≡ false → run rank x r k game work ≡ builtOutcome st vs game work
+  unfolding run refusedOr walkOutcome
   run-fits e h = rw (e, h) refl
 
   -- ---- 60
@@ -112,25 +115,38 @@ module _ (rank : Ranking) (x : Input) (r : Room) (k : ℕ) (game work : List ℕ
   abbrev o : Outcome
   o = run rank x r k game work
 
-  Said : Outcome → List ℕ → List ℕ → List ℕ → Type 0
-  Said out a g w = (out .answer ≡ a) × (out .game ≡ g) × (out .work ≡ w)
-
   pub demand1 : Demand1 x r k game work (run rank x r k game work .answer) (run rank x r k game work .game) (run rank x r k game work .work)
-  unfolding outOfRoom finished
+  unfolding outOfRoom builtOutcome
   demand1 =
       record {
-        refused = λ n p e. let q = run-refused n p e in (ap (λ (u : Outcome). u .answer) q, ap (λ (u : Outcome). u .game) q, ap (λ (u : Outcome). u .work) q);
-        full = λ e h. full e h (exceeds r vs) refl;
-        accepted = λ e n. accepted e n (exceeds r vs) refl;
+        refused = λ n p h.
+            let q = run-refused n p (exact x r (length game) (length work) n p .1 h) in
+            (ap (λ (u : Outcome). u .answer) q, ap (λ (u : Outcome). u .game) q, ap (λ (u : Outcome). u .work) q);
+        full = λ z h. full (exact-passed x r (length game) (length work) .1 z) h (exceeds r vs) refl;
+        accepted = λ z n. accepted (exact-passed x r (length game) (length work) .1 z) n (exceeds r vs) refl;
       }
     where
       full : refusal x r (length game) (length work) ≡ Passed → Exceeded x r k → (t : Bool) → exceeds r vs ≡ t
-          → (o .answer ≡ 2 ∷ 60 ∷ 0 ∷ 0 ∷ []) × (o .game ≡ zeros game) × (o .work ≡ zeros work)
+          → (o .answer ≡ Refused 60 0) × (o .game ≡ zeros game) × (o .work ≡ zeros work)
       full e h true f = let q = run-exceeds e f in (ap (λ (u : Outcome). u .answer) q, ap (λ (u : Outcome). u .game) q, ap (λ (u : Outcome). u .work) q)
       full e h false f = absurd (not-exceeded f h)
 
-      accepted : refusal x r (length game) (length work) ≡ Passed → (¬ Exceeded x r k) → (t : Bool) → exceeds r vs ≡ t → (¬ (word (o .answer) 0 ≡ 2)) × (o .work ≡ zeros work)
+      accepted : refusal x r (length game) (length work) ≡ Passed → (¬ Exceeded x r k) → (t : Bool) → exceeds r vs ≡ t
+          → Accepted (o .answer) × (o .work ≡ zeros work)
       accepted e n true f = absurd (n (exceeded f))
       accepted e n false f =
-          let q = run-fits e f in
-          (λ z. not-two (st .waiting) (sym (ap (λ (u : Outcome). word (u .answer) 0) q) ∙ z), ap (λ (u : Outcome). u .work) q)
+          let q = run-fits e f in (
+            subst (λ (u : Outcome). Accepted (u .answer)) (sym q)
+                (built-accepted (st .waiting) (length vs - length (st .waiting)) (length vs) (edgeCount vs)),
+            ap (λ (u : Outcome). u .work) q,
+          )
+
+  -- every run is of one of the three kinds that demand 1 tells apart
+  pub kinds-of-run : ((n : ℕ) × (p : ℕ) × FirstFaulty x r (length game) (length work) n p)
+      ⊎ (Faultless x r (length game) (length work) × (Exceeded x r k ⊎ (¬ Exceeded x r k)))
+  kinds-of-run =
+      ⊎-elim (λ z. inr (z, go (exceeds r vs) refl)) (λ f. inl f) (faultless-or-first x r (length game) (length work))
+    where
+      go : (t : Bool) → exceeds r vs ≡ t → Exceeded x r k ⊎ (¬ Exceeded x r k)
+      go true f = inl (exceeded f)
+      go false f = inr (not-exceeded f)

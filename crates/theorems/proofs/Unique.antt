@@ -1,24 +1,32 @@
--- The cut theorem leaves nothing open: two slices of one length that satisfy it for the same input, ranking and limit are equal, and so are the answers. So no wrong program
--- can satisfy it, whatever one thinks of the definition of a run. Assumes nothing.
+-- The cut theorem leaves nothing open: two slices of one length that satisfy it for the same input, ranking and limit
+-- are equal, and so are the answers and the lists of pairs. So no wrong program can satisfy it, whatever one thinks of
+-- the definition of a run. Assumes nothing.
 use mathlib.Core.Path.{_≡_, refl, sym, ap, _∙_, subst}
+use mathlib.Core.Bool.{cond}
 use mathlib.Core.List.{List, [], _∷_, _++_}
 use Prim.Native.Nat.{ℕ, _+_, _<_}
 use native.Mathlib.Omega.{arith}
 use native.Mathlib.Decide.{decLt}
 use lib.ListN.{length, getD}
+use lib.Dec.{ltb}
 use Rattle.player.specs.declared.Player.{Player}
-use Rattle.rules.specs.Lists.{word, In, Distinct}
+use Rattle.rules.specs.declared.Answer.{Answer}
+use Rattle.rules.specs.declared.Answer.the-variants.{Done, Cut}
+use Rattle.rules.specs.Lists.{In, Distinct}
 use Rattle.rules.specs.Words.{Input}
+use Rattle.rules.specs.Answers.{Accepted}
 use Rattle.rules.specs.Depth.{Ranking}
 use Rattle.rules.specs.Pairs.{Pair, initialPair, owner, priority, targets}
-use Rattle.rules.specs.Game.{vertexCount, edgesIn, ownerIn, priorityIn, targetsIn}
-use Rattle.rules.specs.Demands.{Stands, Lead, Totalised, SettledRow, CutTheorem}
-use Rattle.lists.proofs.Members.{distinct-places}
+use Rattle.rules.specs.Reach.{N}
+use Rattle.rules.specs.Game.{vertexCount, edgesIn, vertexWord, edgeWordsIn, ownerIn, priorityIn, targetsIn}
+use Rattle.rules.specs.Demands.{Stands, Lead, Totalised, SettledRow, settledBelow, CutTheorem, Demand3}
+use Rattle.lists.proofs.Members.{distinct-positions}
 use Rattle.walks.proofs.Only.{after-only}
+use Rattle.games.proofs.Columns.{each-vertex-column, each-edge-column}
 use Rattle.games.proofs.Rewriting.{words-alike}
 
 stands-once : (x : Input) (ps : List Pair) → Distinct ps → (u w : ℕ) (q : Pair) → Stands x ps u q → Stands x ps w q → u ≡ w
-stands-once x ps d u w q s t = distinct-places ps (initialPair x) d u w (s .0) (t .0) (s .1 ∙ sym (t .1))
+stands-once x ps d u w q s t = distinct-positions ps (initialPair x) d u w (s .0) (t .0) (s .1 ∙ sym (t .1))
 
 lead-once : (x : Input) (ps : List Pair) → Distinct ps → (us ws : List ℕ) (qs : List Pair) → Lead x ps us qs → Lead x ps ws qs → us ≡ ws
 lead-once x ps d [] [] qs l m = refl
@@ -51,7 +59,8 @@ module _ (rank : Ranking) (x : Input) (g h : List ℕ) (ps : List Pair) (d : Dis
     a .edges ∙ ap (λ (es : List ℕ). es ++ a .added) ruled-once ∙ ap (λ (es : List ℕ). b .ruled ++ es) (shown-once .1) ∙ sym (b .edges),
   )
 
-module _ (rank : Ranking) (x : Input) (k : ℕ) (a b g h : List ℕ) (ps qs : List Pair) (long : length g ≡ length h) (c : CutTheorem rank x k a g ps) (d : CutTheorem rank x k b h qs) where
+module _ (rank : Ranking) (x : Input) (k : ℕ) (a b : Answer) (g h : List ℕ) (ps qs : List Pair)
+    (long : length g ≡ length h) (c : CutTheorem rank x k a g ps) (d : CutTheorem rank x k b h qs) where
   pub pairs-once : ps ≡ qs
   pairs-once = after-only (targets x) (initialPair x) k ps (c .order) qs (d .order) (c .walked) (d .walked) .0
 
@@ -59,7 +68,7 @@ module _ (rank : Ranking) (x : Input) (k : ℕ) (a b g h : List ℕ) (ps qs : Li
   order-once = after-only (targets x) (initialPair x) k ps (c .order) qs (d .order) (c .walked) (d .walked) .1
 
   counts : vertexCount g ≡ vertexCount h
-  counts = sym (c .sizes .2) ∙ ap length pairs-once ∙ d .sizes .2
+  counts = sym (c .paired) ∙ ap length pairs-once ∙ d .paired
 
   both-settled : (v : ℕ) → v < vertexCount g → ownerIn g v < 2 → ownerIn h v < 2
   both-settled v l s = d .taken v (omega (arith, counts)) .1 (subst (In v) order-once (c .taken v l .0 s))
@@ -88,16 +97,28 @@ module _ (rank : Ranking) (x : Input) (k : ℕ) (a b g h : List ℕ) (ps qs : Li
       (record {
         count = counts;
         initial = c .first .0 ∙ sym (d .first .0);
-        owner = λ v l. rows v l .0;
-        priority = λ v l. rows v l .1;
-        targets = λ v l. rows v l .2;
+        vertex =
+            each-vertex-column (λ c. (v : ℕ) → v < vertexCount g → vertexWord g c v ≡ vertexWord h c v)
+            (λ v l. rows v l .0) (λ v l. rows v l .1);
+        edges =
+            each-edge-column (λ c. (v : ℕ) → v < vertexCount g → edgeWordsIn g c v ≡ edgeWordsIn h c v)
+            (λ v l. rows v l .2);
       })
 
-  -- the four words of the answers are equal
-  pub answer-once : (word a 0 ≡ word b 0) × (word a 1 ≡ word b 1) × (word a 2 ≡ word b 2) × (word a 3 ≡ word b 3)
-  answer-once = (
-    c .cut ∙ sym (d .cut),
-    c .steps ∙ c .counted ∙ sym (d .steps ∙ d .counted),
-    c .sizes .0 ∙ counts ∙ sym (d .sizes .0),
-    c .sizes .1 ∙ ap edgesIn game-once ∙ sym (d .sizes .1),
-  )
+  -- the answer that the cut theorem gives with a game
+  abbrev answer-of : List ℕ → Answer
+  answer-of w =
+      cond (ltb k (N x)) (Cut (settledBelow w (vertexCount w)) (vertexCount w) (edgesIn w))
+      (Done (settledBelow w (vertexCount w)) (vertexCount w) (edgesIn w))
+
+  -- the answers are equal
+  pub answer-once : a ≡ b
+  answer-once = c .answered ∙ ap answer-of game-once ∙ sym (d .answered)
+
+-- demand 3 leaves nothing open
+pub demand3-once : (rank : Ranking) (x : Input) (k : ℕ) (a b : Answer) (g h : List ℕ) → length g ≡ length h
+    → Accepted a → Accepted b → Demand3 rank x k a g → Demand3 rank x k b h → (a ≡ b) × (g ≡ h)
+demand3-once rank x k a b g h long p q s t =
+    let (ps, c) = s p in
+    let (qs, d) = t q in
+    (answer-once rank x k a b g h ps qs long c d, game-once rank x k a b g h ps qs long c d)

@@ -7,9 +7,10 @@ use native.Mathlib.Omega.{arith}
 use lib.ListN.{length, getD, length-map}
 use lib.Dec.{eqb}
 use Rattle.player.specs.declared.Player.{Player}
-use Rattle.rules.specs.Lists.{In, from, sum, has, place}
-use Rattle.rules.specs.Walk.{State}
-use Rattle.rules.specs.Game.{Vertex, waitingVertex, settledVertex, vertexAt, vertices, edgeCount}
+use Rattle.rules.specs.Lists.{In, from, sum, has, position}
+use Rattle.rules.specs.Walk.{Stand}
+use Rattle.rules.specs.Game.{Edge, Vertex, Ruled, edgeTo, waitingVertex, totalisedBy, totalised, settledVertex}
+use Rattle.rules.specs.Game.{ruledVertex, vertexAt, vertices, edgeCount}
 use Rattle.lists.proofs.Members.{map-at, in-has, not-in}
 use Rattle.lists.proofs.Equalities.{number-equality}
 use Rattle.walks.specs.Sums.{sumBelow, sumSettled}
@@ -25,12 +26,15 @@ map-snoc f [] x = refl
 map-snoc f (y ∷ xs) x = ap (λ l. f y ∷ l) (map-snoc f xs x)
 
 -- a settled vertex has as many edges as its pair has targets, or the one added
-pub settled-degree : (v : ℕ) (o : Player) (p : ℕ) (es : List ℕ) → length (settledVertex v o p es .edges) ≡ max 1 (length es)
-unfolding settledVertex
-settled-degree v o p [] = refl
-settled-degree v o p (e ∷ es) = omega arith
+pub settled-degree : (v : ℕ) (r : Ruled) → length (settledVertex (totalised v r) .edges) ≡ max 1 (length (r .edges))
+unfolding settledVertex totalised totalisedBy
+settled-degree v r = go (r .edges) refl
+  where
+    go : (es : List Edge) → r .edges ≡ es → length (totalisedBy es v r .edges) ≡ max 1 (length es)
+    go [] e = refl
+    go (x ∷ es) e = ap length e ∙ omega arith
 
-module _ {A : Type 0} (same : A → A → Bool) (next : A → List A) (root : A) (owner : A → Player) (priority : A → ℕ) (st : State A) where
+module _ {A : Type 0} (same : A → A → Bool) (next : A → List A) (root : A) (owner : A → Player) (priority : A → ℕ) (st : Stand A) where
   abbrev at : ℕ → Vertex
   at = vertexAt same next root owner priority st
 
@@ -48,14 +52,14 @@ module _ {A : Type 0} (same : A → A → Bool) (next : A → List A) (root : A)
   unfolding vertexAt
   vertex-waits v m = rw (in-has number-equality v (st .waiting) m) refl
 
-  -- the pair of a vertex, and the numbers of its targets
+  -- the pair of a vertex, and what the rules give it
   abbrev pub pairAt : ℕ → A
   pairAt v = getD (st .known) v root
 
-  abbrev pub numbersAt : ℕ → List ℕ
-  numbersAt v = map (λ q. place same q (st .known)) (next (pairAt v))
+  abbrev pub ruledAt : ℕ → Ruled
+  ruledAt v = ruledVertex same next root owner priority st (pairAt v)
 
-  pub vertex-settled : (v : ℕ) → (¬ In v (st .waiting)) → at v ≡ settledVertex v (owner (pairAt v)) (priority (pairAt v)) (numbersAt v)
+  pub vertex-settled : (v : ℕ) → (¬ In v (st .waiting)) → at v ≡ settledVertex (totalised v (ruledAt v))
   unfolding vertexAt
   vertex-settled v n = rw (not-in number-equality v (st .waiting) n) refl
 
@@ -64,15 +68,15 @@ module _ {A : Type 0} (same : A → A → Bool) (next : A → List A) (root : A)
   edgesOf p = max 1 (length (next p))
 
   degree-at : (v : ℕ) → length (at v .edges) ≡ cond (has eqb v (st .waiting)) 0 (edgesOf (pairAt v))
-  unfolding vertexAt waitingVertex
+  unfolding vertexAt waitingVertex ruledVertex
   degree-at v = go (has eqb v (st .waiting)) refl
     where
       go : (b : Bool) → has eqb v (st .waiting) ≡ b → length (at v .edges) ≡ cond b 0 (edgesOf (pairAt v))
       go true e = rw e refl
       go false e =
           rw e
-          (settled-degree v (owner (pairAt v)) (priority (pairAt v)) (numbersAt v)
-          ∙ ap (max 1) (length-map (next (pairAt v)) (λ q. place same q (st .known))))
+          (settled-degree v (ruledAt v)
+          ∙ ap (max 1) (length-map (next (pairAt v)) (λ q. edgeTo (position same q (st .known)))))
 
   count-below : (n : ℕ) → edgeCount (map at (from 0 n)) ≡ sumBelow edgesOf root st n
   unfolding edgeCount sumBelow from sum

@@ -9,7 +9,7 @@ use lib.ListN.{length, set}
 use lib.Seq.{getD-set-same, getD-set-other}
 use Rattle.rules.specs.Lists.{word, sumWords}
 use Rattle.rules.specs.System.{stateCount, transitionCount, degree, firstTransition}
-use Rattle.rules.specs.Good.{GoodSystem}
+use Rattle.tables.specs.Good.{GoodSystem}
 use Rattle.transitions.specs.Samples.{stride}
 use Rattle.lists.proofs.Sums.{sum-grows}
 

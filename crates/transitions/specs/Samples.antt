@@ -4,7 +4,7 @@ use mathlib.Core.List.{List}
 use Prim.Native.Nat.{ℕ, _*_, _<_}
 use Rattle.rules.specs.Lists.{word}
 use Rattle.rules.specs.System.{stateCount, firstTransition}
-use Rattle.rules.specs.Good.{GoodSystem}
+use Rattle.tables.specs.Good.{GoodSystem}
 
 -- a good system, for any number of labels: nothing here reads them
 abbrev pub System : List ℕ → Type 0

@@ -8,34 +8,37 @@ use native.Mathlib.Omega.{arith}
 use lib.ListN.{length, getD, take, drop, length-map}
 use lib.Seq.{take-take, drop-drop}
 use lib.Dec.{eqb}
-use borrow.Author.Tests.{eq-eqb, ne-eqb}
+use borrow.Author.Tests.{lt-ltb, eq-eqb, ne-eqb}
 use Rattle.player.specs.Player.{playerIndex}
 use Rattle.player.specs.declared.Player.{Player}
-use Rattle.rules.specs.Lists.{word, In, from, place}
+use Rattle.rules.specs.Lists.{word, In, from, position}
 use Rattle.rules.specs.Words.{Input}
-use Rattle.rules.specs.Depth.{byDepth}
+use Rattle.rules.specs.Depth.{Ranking}
 use Rattle.rules.specs.Pairs.{Pair, samePair, initialPair, owner, priority, targets}
 use Rattle.rules.specs.Reach.{Reachable, onward}
-use Rattle.rules.specs.Walk.{State}
-use Rattle.rules.specs.Game.{Vertex, waitingVertex, stuckPriority, settledVertex, vertexAt, vertices}
+use Rattle.rules.specs.Walk.{Stand}
+use Rattle.rules.specs.Game.{Edge, Vertex, Ruled, edgeTo, waitingVertex, stuckPriority, totalisedBy, totalised, settledVertex}
+use Rattle.rules.specs.Game.{ruledVertex, vertexAt, vertices}
 use Rattle.rules.specs.Run.{walkOf, verticesOf}
-use Rattle.rules.specs.Good.{GoodInput}
-use Rattle.lists.specs.Shapes.{places}
-use Rattle.lists.proofs.Members.{map-at, in-at, in-or, place-at}
+use Rattle.tables.specs.Good.{GoodInput}
+use Rattle.lists.specs.Shapes.{positions}
+use Rattle.lists.proofs.Members.{map-at, in-at, in-or, position-at}
 use Rattle.lists.proofs.Equalities.{number-equality, pair-equality}
 use Rattle.arena.proofs.SelfTargets.{no-self-target}
 use Rattle.walks.proofs.Steps.{sound}
-use Rattle.walks.proofs.Rename.{places-map}
+use Rattle.walks.proofs.Rename.{positions-map}
+use Rattle.games.proofs.Columns.{edges-map, targets-plain}
 use Rattle.theorems.proofs.Vertices.{vertex-waits, vertex-settled, settled-degree}
 use Rattle.pairs.specs.Table.{keyAt, stateAt, keysOf}
 use Rattle.pairs.proofs.Uses.{key-same, key-pair, key-item-below, key-word, length-keys}
 use Rattle.settling.specs.declared.Counters.{Counters}
 use Rattle.settling.specs.Keys.{pairKey, keyTargets, rootKey}
-use Rattle.settling.specs.Stand.{waitingOf, edgesOf, edgesFor}
-use Rattle.settling.specs.Good.{Good}
-use Rattle.item_table.specs.Entries.{Entry, ItemTable, kindOwner}
-use Rattle.item_table.proofs.Steps.{entry-owner, entry-priority}
-use Rattle.game_writer.specs.Shown.{itemIn, startIn, countIn, shownPlayer, shownOwner, shownPriority, shownEdges, shownVertex, shownVertices}
+use Rattle.settling.specs.Stand.{waitingOf, edgesOf, edgesFor, settledIn, startIn, countIn}
+use Rattle.settling.specs.Good.{Good, Stretch}
+use Rattle.item_table.specs.Entries.{ShownAt, ItemTable, Ranks, kindOwner}
+use Rattle.item_table.proofs.Steps.{entry-owner, ranks-priority}
+use Rattle.game_writer.specs.Shown.{itemIn, loopsIn, shownPlayer, shownOwner, shownPriority, shownEdges, shownVertex, shownVertices}
+use Rattle.game_writer.proofs.Vertices.{owner-settled, edges-settled, shown-waiting}
 use Rattle.theorems.proofs.Read.{settled-owner}
 use Rattle.stepping.proofs.Keys.{reached-inside, item-fits, alike, moved}
 
@@ -73,9 +76,6 @@ head-of-part c (suc b) [] t ts e = absurd (none c e)
     none (suc n) f = let z : 0 ≡ suc (length ts) = ap length f in absurd (omega arith)
 head-of-part c (suc b) (y ∷ w) t ts e = head-of-part c b w t ts e
 
-short-part : (c b : ℕ) (w : List ℕ) → c ≡ 0 → take c (drop b w) ≡ []
-short-part c b w e = ap (λ (n : ℕ). take n (drop b w)) e
-
 part-length : (c b : ℕ) (w : List ℕ) → length (take c (drop b w)) ≤ c
 part-length zero b w = omega arith
 part-length (suc c) b w = go (drop b w)
@@ -97,11 +97,12 @@ map-from f g i (suc n) h =
 
 -- ---- one vertex
 
--- a vertex with one more edge than none is not waiting, and its owner, priority and edges are those of the rules
-module _ (x : Input) (good : GoodInput x) (k : ℕ) (kinds lefts rights priorities : List ℕ) (table : ItemTable x kinds lefts rights priorities)
+-- a vertex that does not wait is settled, and its owner, priority and edges are those of the rules
+module _ (rank : Ranking) (x : Input) (good : GoodInput x) (k : ℕ) (kinds lefts rights priorities : List ℕ)
+    (table : ItemTable x kinds lefts rights) (ranks : Ranks rank x priorities)
     (w : List ℕ) (v e : ℕ) (c : Counters) (g : Good (keyTargets x) (rootKey x) w v e c)
     (same-known : keysOf w v (c .known) ≡ map pairKey (walkOf x k .known)) (same-waiting : waitingOf w v (c .waiting) ≡ walkOf x k .waiting) where
-  abbrev st : State Pair
+  abbrev st : Stand Pair
   st = walkOf x k
 
   abbrev pair : ℕ → Pair
@@ -137,116 +138,132 @@ module _ (x : Input) (good : GoodInput x) (k : ℕ) (kinds lefts rights prioriti
 
   -- the edges of a settled vertex, as the rules number its targets
   abbrev numbers : ℕ → List ℕ
-  numbers u = map (λ q. place samePair q (st .known)) (targets x (pair u))
+  numbers u = map (λ q. position samePair q (st .known)) (targets x (pair u))
 
-  places-at : (u : ℕ) → u < c .known → places eqb (keysOf w v (c .known)) (map pairKey (targets x (pair u))) ≡ numbers u
-  unfolding places
-  places-at u h =
-      ap (λ (l : List ℕ). places eqb l (map pairKey (targets x (pair u)))) same-known
-      ∙ places-map pair-equality number-equality pairKey (targets x) (keyTargets x) (initialPair x) (alike x good) (moved x good) (st .known) (targets x (pair u)) reached (numbers-at u h)
+  positions-at : (u : ℕ) → u < c .known → positions eqb (keysOf w v (c .known)) (map pairKey (targets x (pair u))) ≡ numbers u
+  unfolding positions
+  positions-at u h =
+      ap (λ (l : List ℕ). positions eqb l (map pairKey (targets x (pair u)))) same-known
+      ∙ positions-map pair-equality number-equality pairKey (targets x) (keyTargets x) (initialPair x) (alike x good) (moved x good) (st .known) (targets x (pair u)) reached (numbers-at u h)
 
-  edges-for : (u : ℕ) (o : Player) (p : ℕ) (ts : List Pair) → places eqb (keysOf w v (c .known)) (map pairKey ts) ≡ map (λ q. place samePair q (st .known)) ts
-      → edgesFor u (keysOf w v (c .known)) (map pairKey ts) ≡ settledVertex u o p (map (λ q. place samePair q (st .known)) ts) .edges
-  unfolding edgesFor settledVertex
+  -- the vertex of a pair with these targets
+  abbrev ruledOf : Player → ℕ → List Pair → Ruled
+  ruledOf o p ts = record { owner = o; priority = p; edges = map (λ q. edgeTo (position samePair q (st .known))) ts }
+
+  abbrev settled : ℕ → Player → ℕ → List Pair → Vertex
+  settled u o p ts = settledVertex (totalised u (ruledOf o p ts))
+
+  edges-for : (u : ℕ) (o : Player) (p : ℕ) (ts : List Pair)
+      → positions eqb (keysOf w v (c .known)) (map pairKey ts) ≡ map (λ q. position samePair q (st .known)) ts
+      → map (λ t. edgeTo t) (edgesFor u (keysOf w v (c .known)) (map pairKey ts)) ≡ settled u o p ts .edges
+  unfolding edgesFor settledVertex totalised totalisedBy
   edges-for u o p [] s = refl
-  edges-for u o p (t ∷ ts) s = s
+  edges-for u o p (t ∷ ts) s = ap (map (λ n. edgeTo n)) s ∙ edges-map (λ q. position samePair q (st .known)) (t ∷ ts)
 
-  shown-edges : (u : ℕ) → u < c .known → (¬ In u (st .waiting)) → (o : Player) (p : ℕ) → shownEdges w v u ≡ settledVertex u o p (numbers u) .edges
-  unfolding shownEdges edgesOf
-  shown-edges u h n o p =
-      let s = g .stretches u (omega (arith, length-keys w v (c .known)), λ m. n (subst (In u) same-waiting m)) in
-      sym (part-of-part (countIn w v u) (startIn w v u) (c .edges) (8 * v) w (s .inside))
+  stretch-at : (u : ℕ) → u < c .known → (¬ In u (st .waiting)) → Stretch (keyTargets x) (rootKey x) w v c u
+  stretch-at u h n = g .stretches u (omega (arith, length-keys w v (c .known)), λ m. n (subst (In u) same-waiting m))
+
+  part-edges : (u : ℕ) → u < c .known → (¬ In u (st .waiting)) → (o : Player) (p : ℕ)
+      → map (λ t. edgeTo t) (take (countIn w v u) (drop (8 * v + startIn w v u) w))
+      ≡ settled u o p (targets x (pair u)) .edges
+  unfolding edgesOf
+  part-edges u h n o p =
+      let s = stretch-at u h n in
+      ap (map (λ t. edgeTo t))
+      (sym (part-of-part (countIn w v u) (startIn w v u) (c .edges) (8 * v) w (s .inside))
       ∙ s .row
-      ∙ ap (edgesFor u (keysOf w v (c .known))) (targets-at u h)
-      ∙ edges-for u o p (targets x (pair u)) (places-at u h)
+      ∙ ap (edgesFor u (keysOf w v (c .known))) (targets-at u h))
+      ∙ edges-for u o p (targets x (pair u)) (positions-at u h)
 
-  shown-length : (u : ℕ) → u < c .known → (¬ In u (st .waiting)) → 0 < countIn w v u
-  unfolding shownEdges
-  shown-length u h n =
+  -- there is an edge, if only to itself
+  some-edge : (u : ℕ) → u < c .known → (¬ In u (st .waiting)) → 0 < countIn w v u
+  some-edge u h n =
       let o = owner x (pair u) in
-      let e : length (take (countIn w v u) (drop (8 * v + startIn w v u) w)) ≡ max 1 (length (numbers u))
-      = ap length (shown-edges u h n o 0) ∙ settled-degree u o 0 (numbers u) in
+      let part : List ℕ = take (countIn w v u) (drop (8 * v + startIn w v u) w) in
+      let e : length part ≡ max 1 (length (ruledOf o 0 (targets x (pair u)) .edges))
+      = sym (length-map part (λ t. edgeTo t)) ∙ ap length (part-edges u h n o 0)
+      ∙ settled-degree u (ruledOf o 0 (targets x (pair u))) in
       omega (arith, part-length (countIn w v u) (8 * v + startIn w v u) w)
 
-  waits-none : (u : ℕ) → u < c .known → In u (st .waiting) → countIn w v u ≡ 0
-  waits-none u h m =
-      let l = g .ready .table .slots .room in
-      let z = g .unsettled u (omega arith) (λ s. s .1 (subst (In u) (sym same-waiting) m)) in
-      omega arith
+  waits-unsettled : (u : ℕ) → u < c .known → In u (st .waiting) → settledIn w v u ≡ false
+  waits-unsettled u h m =
+      g .unsettled u (omega (arith, g .ready .table .slots .room)) (λ s. s .1 (subst (In u) (sym same-waiting) m))
 
-  entry-at : (u : ℕ) → u < c .known → Entry x (pair u .1) (word kinds (pair u .1)) (word lefts (pair u .1)) (word rights (pair u .1)) (word priorities (pair u .1))
+  entry-at : (u : ℕ) → u < c .known → ShownAt x kinds lefts rights (pair u .1)
   entry-at u h = table .entry (pair u .1) (reached-inside x good (pair u) (pair-reached u h) .1)
 
   player-at : (u : ℕ) → u < c .known → shownPlayer kinds w v u ≡ owner x (pair u)
   unfolding shownPlayer
   player-at u h =
       ap (λ (q : ℕ). kindOwner (word kinds q)) (item-at u h)
-      ∙ sym (entry-owner x (pair u .1) (word kinds (pair u .1)) (word lefts (pair u .1)) (word rights (pair u .1)) (word priorities (pair u .1)) (pair u .0) (entry-at u h))
+      ∙ sym (entry-owner x (pair u .1) (word kinds (pair u .1)) (word lefts (pair u .1)) (word rights (pair u .1)) (pair u .0) (entry-at u h))
 
-  priority-at : (u : ℕ) → u < c .known → word priorities (itemIn w v u) ≡ priority byDepth x (pair u)
-  priority-at u h =
-      ap (word priorities) (item-at u h)
-      ∙ sym (entry-priority x (pair u .1) (word kinds (pair u .1)) (word lefts (pair u .1)) (word rights (pair u .1)) (word priorities (pair u .1)) (pair u .0) (entry-at u h))
+  priority-at : (u : ℕ) → u < c .known → word priorities (itemIn w v u) ≡ priority rank x (pair u)
+  priority-at u h = ap (word priorities) (item-at u h) ∙ ranks-priority rank x priorities ranks (pair u .0) (pair u .1)
 
   -- the first edge of a vertex with targets leads to another vertex
-  first-other : (u : ℕ) → u < c .known → (¬ In u (st .waiting)) → (t : Pair) → In t (targets x (pair u)) → ¬ (place samePair t (st .known) ≡ u)
+  first-other : (u : ℕ) → u < c .known → (¬ In u (st .waiting)) → (t : Pair) → In t (targets x (pair u)) → ¬ (position samePair t (st .known) ≡ u)
   unfolding walkOf
   first-other u h n t m e =
       let l : u < length (st .known) = omega (arith, known-many) in
       let known = sound pair-equality (targets x) (initialPair x) k .edges u l n t m in
-      let same : t ≡ pair u = sym (place-at pair-equality t (st .known) (initialPair x) known) ∙ ap (λ (i : ℕ). getD (st .known) i (initialPair x)) e in
+      let same : t ≡ pair u = sym (position-at pair-equality t (st .known) (initialPair x) known) ∙ ap (λ (i : ℕ). getD (st .known) i (initialPair x)) e in
       no-self-target x good (pair u) (reached-inside x good (pair u) (pair-reached u h)) (subst (λ (q : Pair). In q (targets x (pair u))) same m)
 
-  settled-priority : (u : ℕ) (o : Player) (p : ℕ) (ts : List Pair) (b : ℕ) → (shown : List ℕ) → take b (drop (8 * v + startIn w v u) w) ≡ shown
-      → shown ≡ settledVertex u o p (map (λ q. place samePair q (st .known)) ts) .edges
-      → ((t : Pair) → In t ts → ¬ (place samePair t (st .known) ≡ u))
-      → cond (eqb (word w (8 * v + startIn w v u)) u) (stuckPriority o) p ≡ settledVertex u o p (map (λ q. place samePair q (st .known)) ts) .priority
-  unfolding settledVertex
-  settled-priority u o p [] b shown s f other =
-      let e : word w (8 * v + startIn w v u) ≡ u = head-of-part b (8 * v + startIn w v u) w u [] (s ∙ f) in
-      rw (eq-eqb (word w (8 * v + startIn w v u)) u e) refl
-  settled-priority u o p (t ∷ ts) b shown s f other =
-      let e : word w (8 * v + startIn w v u) ≡ place samePair t (st .known)
-      = head-of-part b (8 * v + startIn w v u) w (place samePair t (st .known)) (map (λ q. place samePair q (st .known)) ts) (s ∙ f) in
-      rw (ne-eqb (word w (8 * v + startIn w v u)) u (λ q. other t (inl refl) (sym e ∙ q))) refl
+  settled-priority : (u : ℕ) (o : Player) (p : ℕ) (ts : List Pair) → 0 < countIn w v u
+      → map (λ t. edgeTo t) (take (countIn w v u) (drop (8 * v + startIn w v u) w)) ≡ settled u o p ts .edges
+      → ((t : Pair) → In t ts → ¬ (position samePair t (st .known) ≡ u))
+      → cond (loopsIn w v u) (stuckPriority o) p ≡ settled u o p ts .priority
+  unfolding settledVertex totalised totalisedBy loopsIn
+  settled-priority u o p [] some f other =
+      let part : List ℕ = take (countIn w v u) (drop (8 * v + startIn w v u) w) in
+      let l : part ≡ u ∷ [] = sym (targets-plain part) ∙ ap (map (λ (e : Edge). e .target)) f in
+      let e : word w (8 * v + startIn w v u) ≡ u = head-of-part (countIn w v u) (8 * v + startIn w v u) w u [] l in
+      rw (lt-ltb 0 (countIn w v u) some, eq-eqb (word w (8 * v + startIn w v u)) u e) refl
+  settled-priority u o p (t ∷ ts) some f other =
+      let part : List ℕ = take (countIn w v u) (drop (8 * v + startIn w v u) w) in
+      let more : List ℕ = map (λ (e : Edge). e .target) (ruledOf o p ts .edges) in
+      let l : part ≡ position samePair t (st .known) ∷ more
+      = sym (targets-plain part) ∙ ap (map (λ (e : Edge). e .target)) f in
+      let e : word w (8 * v + startIn w v u) ≡ position samePair t (st .known)
+      = head-of-part (countIn w v u) (8 * v + startIn w v u) w (position samePair t (st .known)) more l in
+      let apart = ne-eqb (word w (8 * v + startIn w v u)) u (λ q. other t (inl refl) (sym e ∙ q)) in
+      rw (lt-ltb 0 (countIn w v u) some, apart) refl
 
   abbrev ruled : ℕ → Vertex
-  ruled u = settledVertex u (owner x (pair u)) (priority byDepth x (pair u)) (numbers u)
+  ruled u = settled u (owner x (pair u)) (priority rank x (pair u)) (targets x (pair u))
 
   shown-settled : (u : ℕ) → u < c .known → (¬ In u (st .waiting)) → shownVertex kinds priorities w v u ≡ ruled u
-  unfolding shownVertex shownOwner shownPriority
+  unfolding shownVertex shownPriority
   shown-settled u h n =
-      let some : eqb (countIn w v u) 0 ≡ false = ne-eqb (countIn w v u) 0 (λ z. let l = shown-length u h n in omega arith) in
+      let some : settledIn w v u ≡ true = stretch-at u h n .settled in
+      let edged = part-edges u h n (owner x (pair u)) (priority rank x (pair u)) in
       let a : shownOwner kinds w v u ≡ ruled u .owner
-      = rw some (ap playerIndex (player-at u h) ∙ sym (settled-owner u (owner x (pair u)) (priority byDepth x (pair u)) (numbers u))) in
+      = owner-settled kinds w v u some ∙ ap playerIndex (player-at u h)
+      ∙ sym (settled-owner u (ruledOf (owner x (pair u)) (priority rank x (pair u)) (targets x (pair u)))) in
       let b : shownPriority kinds priorities w v u ≡ ruled u .priority
       = rw (some, player-at u h, priority-at u h)
-      (settled-priority u (owner x (pair u)) (priority byDepth x (pair u)) (targets x (pair u)) (countIn w v u) (shownEdges w v u) (edges-word u)
-      (shown-edges u h n (owner x (pair u)) (priority byDepth x (pair u))) (first-other u h n)) in
-      λ i. record { owner = a i; priority = b i; edges = shown-edges u h n (owner x (pair u)) (priority byDepth x (pair u)) i }
-    where
-      edges-word : (z : ℕ) → take (countIn w v z) (drop (8 * v + startIn w v z) w) ≡ shownEdges w v z
-      edges-word z = unfold shownEdges in refl
+      (settled-priority u (owner x (pair u)) (priority rank x (pair u)) (targets x (pair u)) (some-edge u h n) edged
+      (first-other u h n)) in
+      let d : map (λ t. edgeTo t) (shownEdges w v u) ≡ ruled u .edges
+      = ap (map (λ t. edgeTo t)) (edges-settled w v u some) ∙ edged in
+      λ i. record { owner = a i; priority = b i; edges = d i }
 
   shown-waits : (u : ℕ) → u < c .known → In u (st .waiting) → shownVertex kinds priorities w v u ≡ waitingVertex
-  unfolding shownVertex shownOwner shownPriority shownEdges waitingVertex
-  shown-waits u h m =
-      let none : eqb (countIn w v u) 0 ≡ true = eq-eqb (countIn w v u) 0 (waits-none u h m) in
-      let a : shownOwner kinds w v u ≡ 2 = rw none refl in
-      let b : shownPriority kinds priorities w v u ≡ 0 = rw none refl in
-      λ i. record { owner = a i; priority = b i; edges = short-part (countIn w v u) (8 * v + startIn w v u) w (waits-none u h m) i }
+  shown-waits u h m = shown-waiting kinds priorities w v u (waits-unsettled u h m)
 
-  shown-vertex : (u : ℕ) → u < c .known → shownVertex kinds priorities w v u ≡ vertexAt samePair (targets x) (initialPair x) (owner x) (priority byDepth x) st u
+  shown-vertex : (u : ℕ) → u < c .known → shownVertex kinds priorities w v u ≡ vertexAt samePair (targets x) (initialPair x) (owner x) (priority rank x) st u
+  unfolding ruledVertex
   shown-vertex u h = go (in-or number-equality u (st .waiting))
     where
-      go : In u (st .waiting) ⊎ (¬ In u (st .waiting)) → shownVertex kinds priorities w v u ≡ vertexAt samePair (targets x) (initialPair x) (owner x) (priority byDepth x) st u
-      go (inl m) = shown-waits u h m ∙ sym (vertex-waits samePair (targets x) (initialPair x) (owner x) (priority byDepth x) st u m)
-      go (inr n) = shown-settled u h n ∙ sym (vertex-settled samePair (targets x) (initialPair x) (owner x) (priority byDepth x) st u n)
+      go : In u (st .waiting) ⊎ (¬ In u (st .waiting)) → shownVertex kinds priorities w v u ≡ vertexAt samePair (targets x) (initialPair x) (owner x) (priority rank x) st u
+      go (inl m) = shown-waits u h m ∙ sym (vertex-waits samePair (targets x) (initialPair x) (owner x) (priority rank x) st u m)
+      go (inr n) = shown-settled u h n ∙ sym (vertex-settled samePair (targets x) (initialPair x) (owner x) (priority rank x) st u n)
 
   -- the vertices shown are those of the rules
-  pub shown-all : shownVertices kinds priorities w v (c .known) ≡ verticesOf byDepth x (walkOf x k)
+  pub shown-all : shownVertices kinds priorities w v (c .known) ≡ verticesOf rank x (walkOf x k)
   unfolding shownVertices verticesOf vertices
   shown-all =
-      map-from (shownVertex kinds priorities w v) (vertexAt samePair (targets x) (initialPair x) (owner x) (priority byDepth x) st) 0 (c .known)
+      map-from (shownVertex kinds priorities w v) (vertexAt samePair (targets x) (initialPair x) (owner x) (priority rank x) st) 0 (c .known)
       (λ u a b. shown-vertex u (omega arith))
-      ∙ ap (λ (n : ℕ). map (vertexAt samePair (targets x) (initialPair x) (owner x) (priority byDepth x) st) (from 0 n)) (sym known-many)
+      ∙ ap (λ (n : ℕ). map (vertexAt samePair (targets x) (initialPair x) (owner x) (priority rank x) st) (from 0 n)) (sym known-many)

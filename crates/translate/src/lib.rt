@@ -11,6 +11,7 @@ ghost use Rattle.rules.specs.declared.Check.the-variants.{Passed};
 ghost use Rattle.rules.specs.Words.{inputOf, roomOf};
 ghost use Rattle.rules.specs.Answers.{said};
 ghost use Rattle.rules.specs.Depth.{byDepth};
+ghost use Rattle.rules.specs.Items.{items};
 ghost use Rattle.rules.specs.Refusal.{refusal};
 ghost use Rattle.rules.specs.Run.{Outcome, run};
 ghost use Rattle.rules.specs.Demands.{Demand1, Demand3};
@@ -20,6 +21,7 @@ ghost use Rattle.settling.specs.Good.{WalkAnswer};
 ghost use Rattle.item_table.specs.Entries.{ItemTable};
 ghost use Rattle.labels.specs.Classes.{Classes};
 ghost use Rattle.stepping.specs.Tables.{Tables};
+ghost use Rattle.translate.specs.Runs.{RunBy, RunByRanks};
 
 // The walk of at most k steps, whatever the work words hold.
 fn explore(
@@ -35,12 +37,11 @@ fn explore(
     kinds: &[u32],
     lefts: &[u32],
     rights: &[u32],
-    priorities: &[u32],
     v: u32,
     e: u32,
     k: u32,
 ) -> Stepped
-    requires { ⌜ Tables (inputOf (now labels) (now system) (now actions) (now formula)) (now multiples) (now classes) (now samples) (now matched) (now kinds) (now lefts) (now rights) (now priorities) ⌝ }
+    requires { ⌜ Tables (inputOf (now labels) (now system) (now actions) (now formula)) (now multiples) (now classes) (now samples) (now matched) (now kinds) (now lefts) (now rights) ⌝ }
     requires { ⌜ Sized (now work) v e ⌝ }
     ensures { λ r. ⌜ WalkAnswer (keyTargets (inputOf (now (labels .entry)) (now (system .entry)) (now (actions .entry)) (now (formula .entry))))
         (rootKey (inputOf (now (labels .entry)) (now (system .entry)) (now (actions .entry)) (now (formula .entry)))) v e k (now (work .exit)) r ⌝ }
@@ -60,7 +61,6 @@ fn explore(
             kinds,
             lefts,
             rights,
-            priorities,
             v,
             e,
             k,
@@ -69,7 +69,8 @@ fn explore(
     }
 }
 
-// The walk's game is written out and the work slice cleared, or both are cleared where there was no room.
+// The walk's game is written out and the work slice cleared, or both are cleared where there was no room. It is the
+// game by whatever ranking the priorities show.
 fn write_out(
     walked: Stepped,
     labels: &[u32],
@@ -86,11 +87,14 @@ fn write_out(
     game: &mut [u32],
     work: &mut [u32],
 ) -> Answer
-    requires { ⌜ ItemTable (inputOf (now labels) (now system) (now actions) (now formula)) (now kinds) (now lefts) (now rights) (now priorities) ⌝ }
+    requires { ⌜ ItemTable (inputOf (now labels) (now system) (now actions) (now formula)) (now kinds) (now lefts) (now rights) ⌝ }
+    requires { ⌜ length (items (inputOf (now labels) (now system) (now actions) (now formula)))
+        ≤ length (now priorities) ⌝ }
     requires { ⌜ refusal (inputOf (now labels) (now system) (now actions) (now formula)) (roomOf v e) (length (now game)) (length (now work)) ≡ Passed ⌝ }
     requires { ⌜ WalkAnswer (keyTargets (inputOf (now labels) (now system) (now actions) (now formula))) (rootKey (inputOf (now labels) (now system) (now actions) (now formula))) v e k (now work) walked ⌝ }
-    ensures { λ r. ⌜ _≡_ {A = Outcome} (record { answer = said r; game = now (game .exit); work = now (work .exit) })
-        (run byDepth (inputOf (now (labels .entry)) (now (system .entry)) (now (actions .entry)) (now (formula .entry))) (roomOf v e) k (now (game .entry)) (now (work .entry))) ⌝ }
+    ensures { λ r. ⌜ RunByRanks (now (priorities .entry))
+        (inputOf (now (labels .entry)) (now (system .entry)) (now (actions .entry)) (now (formula .entry)))
+        (roomOf v e) k (now (game .entry)) (now (work .entry)) r (now (game .exit)) (now (work .exit)) ⌝ }
 {
     match walked {
         Stepped::Room(c) => {
@@ -131,10 +135,13 @@ fn build_game(
     game: &mut [u32],
     work: &mut [u32],
 ) -> Answer
-    requires { ⌜ Tables (inputOf (now labels) (now system) (now actions) (now formula)) (now multiples) (now classes) (now samples) (now matched) (now kinds) (now lefts) (now rights) (now priorities) ⌝ }
+    requires { ⌜ Tables (inputOf (now labels) (now system) (now actions) (now formula)) (now multiples) (now classes) (now samples) (now matched) (now kinds) (now lefts) (now rights) ⌝ }
+    requires { ⌜ length (items (inputOf (now labels) (now system) (now actions) (now formula)))
+        ≤ length (now priorities) ⌝ }
     requires { ⌜ refusal (inputOf (now labels) (now system) (now actions) (now formula)) (roomOf v e) (length (now game)) (length (now work)) ≡ Passed ⌝ }
-    ensures { λ r. ⌜ _≡_ {A = Outcome} (record { answer = said r; game = now (game .exit); work = now (work .exit) })
-        (run byDepth (inputOf (now (labels .entry)) (now (system .entry)) (now (actions .entry)) (now (formula .entry))) (roomOf v e) k (now (game .entry)) (now (work .entry))) ⌝ }
+    ensures { λ r. ⌜ RunByRanks (now (priorities .entry))
+        (inputOf (now (labels .entry)) (now (system .entry)) (now (actions .entry)) (now (formula .entry)))
+        (roomOf v e) k (now (game .entry)) (now (work .entry)) r (now (game .exit)) (now (work .exit)) ⌝ }
 {
     let walked = explore(
         multiples,
@@ -149,7 +156,6 @@ fn build_game(
         kinds,
         lefts,
         rights,
-        priorities,
         v,
         e,
         k,
@@ -191,11 +197,13 @@ fn build_walk(
     work: &mut [u32],
 ) -> Answer
     requires { ⌜ Classes (now labels) (now classes) ⌝ }
-    requires { ⌜ ItemTable (inputOf (now labels) (now system) (now actions) (now formula)) (now kinds) (now lefts) (now rights) (now priorities) ⌝ }
-    requires { ⌜ (count ≤ length (now kinds)) × (count ≤ length (now rights)) ⌝ }
+    requires { ⌜ ItemTable (inputOf (now labels) (now system) (now actions) (now formula)) (now kinds) (now lefts) (now rights) ⌝ }
+    requires { ⌜ (count ≤ length (now kinds)) × (count ≤ length (now rights))
+        × (length (items (inputOf (now labels) (now system) (now actions) (now formula))) ≤ length (now priorities)) ⌝ }
     requires { ⌜ refusal (inputOf (now labels) (now system) (now actions) (now formula)) (roomOf v e) (length (now game)) (length (now work)) ≡ Passed ⌝ }
-    ensures { λ r. ⌜ _≡_ {A = Outcome} (record { answer = said r; game = now (game .exit); work = now (work .exit) })
-        (run byDepth (inputOf (now (labels .entry)) (now (system .entry)) (now (actions .entry)) (now (formula .entry))) (roomOf v e) k (now (game .entry)) (now (work .entry))) ⌝ }
+    ensures { λ r. ⌜ RunByRanks (now (priorities .entry))
+        (inputOf (now (labels .entry)) (now (system .entry)) (now (actions .entry)) (now (formula .entry)))
+        (roomOf v e) k (now (game .entry)) (now (work .entry)) r (now (game .exit)) (now (work .exit)) ⌝ }
 {
     let multiples = pairs::byte_multiples();
     let mut samples = [0u32; 4096];
@@ -223,7 +231,7 @@ fn build_walk(
     )
 }
 
-// The formula is compiled into its table of items.
+// The formula is compiled into its table of items, with their priorities by depth.
 fn build_items(
     labels: &[u32],
     system: &[u32],
@@ -238,8 +246,9 @@ fn build_items(
 ) -> Answer
     requires { ⌜ Classes (now labels) (now classes) ⌝ }
     requires { ⌜ refusal (inputOf (now labels) (now system) (now actions) (now formula)) (roomOf v e) (length (now game)) (length (now work)) ≡ Passed ⌝ }
-    ensures { λ r. ⌜ _≡_ {A = Outcome} (record { answer = said r; game = now (game .exit); work = now (work .exit) })
-        (run byDepth (inputOf (now (labels .entry)) (now (system .entry)) (now (actions .entry)) (now (formula .entry))) (roomOf v e) k (now (game .entry)) (now (work .entry))) ⌝ }
+    ensures { λ r. ⌜ RunBy byDepth
+        (inputOf (now (labels .entry)) (now (system .entry)) (now (actions .entry)) (now (formula .entry)))
+        (roomOf v e) k (now (game .entry)) (now (work .entry)) r (now (game .exit)) (now (work .exit)) ⌝ }
 {
     let mut kinds = [0u32; 2048];
     let mut lefts = [0u32; 2048];
@@ -290,8 +299,9 @@ fn build(
     work: &mut [u32],
 ) -> Answer
     requires { ⌜ refusal (inputOf (now labels) (now system) (now actions) (now formula)) (roomOf v e) (length (now game)) (length (now work)) ≡ Passed ⌝ }
-    ensures { λ r. ⌜ _≡_ {A = Outcome} (record { answer = said r; game = now (game .exit); work = now (work .exit) })
-        (run byDepth (inputOf (now (labels .entry)) (now (system .entry)) (now (actions .entry)) (now (formula .entry))) (roomOf v e) k (now (game .entry)) (now (work .entry))) ⌝ }
+    ensures { λ r. ⌜ RunBy byDepth
+        (inputOf (now (labels .entry)) (now (system .entry)) (now (actions .entry)) (now (formula .entry)))
+        (roomOf v e) k (now (game .entry)) (now (work .entry)) r (now (game .exit)) (now (work .exit)) ⌝ }
 {
     let mut classes = [0u32; 4096];
     labels::label_classes(labels, &mut classes);
@@ -311,9 +321,10 @@ fn build(
 
 // Builds the parity game of a model and a formula: document 01's run. The words handed over are `labels`, `system`, `actions` and `formula`; there is room for so many
 // vertices and edges, and at most `limit` steps are made. For every input, refused ones included:
-// - `equals` gives the answer's words and both slices afterwards by the rules' run;
+// - `equals` gives the answer and both slices afterwards by the rules' run;
+// - `coded`: the answer's words (`said`) are those of the rules' answer;
 // - `demand1` says when a run is refused, by which number and place, and what it leaves;
-// - `demand3` is the cut theorem, of the answer's words and the words in the game slice.
+// - `demand3` is the cut theorem, of the answer and the words in the game slice.
 pub fn translate(
     labels: &[u32],
     system: &[u32],
@@ -325,11 +336,16 @@ pub fn translate(
     game: &mut [u32],
     work: &mut [u32],
 ) -> Answer
-    ensures equals { λ r. ⌜ _≡_ {A = Outcome} (record { answer = said r; game = now (game .exit); work = now (work .exit) })
+    ensures equals { λ r. ⌜ _≡_ {A = Outcome} (record { answer = r; game = now (game .exit); work = now (work .exit) })
         (run byDepth (inputOf (now (labels .entry)) (now (system .entry)) (now (actions .entry)) (now (formula .entry))) (roomOf vertices edges) limit (now (game .entry)) (now (work .entry))) ⌝ }
+    ensures coded { λ r. ⌜ said r ≡ said (run byDepth
+        (inputOf (now (labels .entry)) (now (system .entry)) (now (actions .entry)) (now (formula .entry)))
+        (roomOf vertices edges) limit (now (game .entry)) (now (work .entry)) .answer) ⌝ }
     ensures demand1 { λ r. ⌜ Demand1 (inputOf (now (labels .entry)) (now (system .entry)) (now (actions .entry)) (now (formula .entry))) (roomOf vertices edges) limit
-        (now (game .entry)) (now (work .entry)) (said r) (now (game .exit)) (now (work .exit)) ⌝ }
-    ensures demand3 { λ r. ⌜ Demand3 byDepth (inputOf (now (labels .entry)) (now (system .entry)) (now (actions .entry)) (now (formula .entry))) limit (said r) (now (game .exit)) ⌝ }
+        (now (game .entry)) (now (work .entry)) r (now (game .exit)) (now (work .exit)) ⌝ }
+    ensures demand3 { λ r. ⌜ Demand3 byDepth
+        (inputOf (now (labels .entry)) (now (system .entry)) (now (actions .entry)) (now (formula .entry)))
+        limit r (now (game .exit)) ⌝ }
 {
     match inputs::check(
         labels,

@@ -7,26 +7,28 @@ use Prim.Native.Nat.{ℕ, zero, suc, _-_, _≤_, _<_}
 use native.Mathlib.Omega.{arith}
 use lib.Dec.{eqb}
 use Rattle.rules.specs.Labels.{multiset}
-use Rattle.rules.specs.Table.{size, kind, operand, decodeAction, actionNode}
-use Rattle.rules.specs.Actions.{Action, anyAction, neverAction, multiAction, union, intersection, negation, actionOf, actionTo, actionTree, matches}
-use Rattle.rules.specs.Good.{GoodActions}
-use Rattle.tables.proofs.Decode.{action-at}
-
--- a node of the table is decoded from its kind and operand
-pub action-decoded : (acts : List ℕ) (v : ℕ) → v < size acts → actionNode acts v ≡ decodeAction (kind acts v) (operand acts v)
-action-decoded acts v h = action-at acts v h
+use Rattle.rules.specs.Table.{size, kind, operand, decodeAction}
+use Rattle.rules.specs.Actions.{Action, anyAction, neverAction, multiAction, union, intersection, negation, actionOf}
+use Rattle.rules.specs.Actions.{actionTo, actionTree, ActionTreeEquation, matches}
+use Rattle.tables.specs.Good.{GoodActions}
+use Rattle.tables.proofs.Decode.{action-at, action-kinds, action-of-kind}
 
 -- only the trees of the children that a kind has matter
-actionOf-same : (t u : ℕ → Action) (ls : List ℕ) (v o k : ℕ) → (3 ≤ k → k ≤ 5 → t (suc v) ≡ u (suc v)) → (3 ≤ k → k ≤ 4 → t o ≡ u o)
+actionOf-same : (t u : ℕ → Action) (ls : List ℕ) (v o k : ℕ)
+    → (3 ≤ k → k ≤ 5 → t (suc v) ≡ u (suc v)) → (3 ≤ k → k ≤ 4 → t o ≡ u o)
     → actionOf t ls v (decodeAction k o) ≡ actionOf u ls v (decodeAction k o)
-unfolding actionOf decodeAction
-actionOf-same t u ls v o zero p q = refl
-actionOf-same t u ls v o (suc zero) p q = refl
-actionOf-same t u ls v o (suc (suc zero)) p q = refl
-actionOf-same t u ls v o (suc (suc (suc zero))) p q = ap₂ union (p (omega arith) (omega arith)) (q (omega arith) (omega arith))
-actionOf-same t u ls v o (suc (suc (suc (suc zero)))) p q = ap₂ intersection (p (omega arith) (omega arith)) (q (omega arith) (omega arith))
-actionOf-same t u ls v o (suc (suc (suc (suc (suc zero))))) p q = ap negation (p (omega arith) (omega arith))
-actionOf-same t u ls v o (suc (suc (suc (suc (suc (suc k)))))) p q = refl
+unfolding actionOf
+actionOf-same t u ls v o =
+    action-kinds o
+    (λ k n. (3 ≤ k → k ≤ 5 → t (suc v) ≡ u (suc v)) → (3 ≤ k → k ≤ 4 → t o ≡ u o) → actionOf t ls v n
+    ≡ actionOf u ls v n)
+    (λ p q. refl)
+    (λ p q. refl)
+    (λ p q. refl)
+    (λ p q. ap₂ union (p (omega arith) (omega arith)) (q (omega arith) (omega arith)))
+    (λ p q. ap₂ intersection (p (omega arith) (omega arith)) (q (omega arith) (omega arith)))
+    (λ p q. ap negation (p (omega arith) (omega arith)))
+    (λ k h p q. refl)
 
 module _ (l : ℕ) (acts : List ℕ) (good : GoodActions l acts) (ls : List ℕ) where
   -- any depth that reaches the last node gives the same tree
@@ -36,20 +38,20 @@ module _ (l : ℕ) (acts : List ℕ) (good : GoodActions l acts) (ls : List ℕ)
   action-depth (suc d) zero v h a b = absurd (omega arith)
   action-depth (suc d) (suc e) v h a b =
       let n = good .nodes v h in
-      rw (action-decoded acts v h)
+      rw (action-at acts v h)
       (actionOf-same (λ u. actionTo d ls acts u) (λ u. actionTo e ls acts u) ls v (operand acts v) (kind acts v)
       (λ p q. action-depth d e (suc v) (n .next p) (omega arith) (omega arith))
       (λ p q. let r = n .right p q in action-depth d e (operand acts v) (r .1) (omega arith) (omega arith)))
 
   -- a node's tree is made of the trees of its children
-  pub action-tree : (v : ℕ) → v < size acts → actionTree ls acts v ≡ actionOf (actionTree ls acts) ls v (actionNode acts v)
+  pub action-tree : (v : ℕ) → v < size acts → ActionTreeEquation ls acts v
   unfolding actionTree actionTo
   action-tree v h = action-depth (size acts) (suc (size acts)) v h (omega arith) (omega arith)
 
   module _ (v : ℕ) (h : v < size acts) where
     -- of a known kind
     at-kind : (k : ℕ) → kind acts v ≡ k → actionTree ls acts v ≡ actionOf (actionTree ls acts) ls v (decodeAction k (operand acts v))
-    at-kind k e = action-tree v h ∙ ap (actionOf (actionTree ls acts) ls v) (action-decoded acts v h ∙ ap (λ (j : ℕ). decodeAction j (operand acts v)) e)
+    at-kind k e = action-tree v h ∙ ap (actionOf (actionTree ls acts) ls v) (action-of-kind acts v h k e)
 
     pub any-tree : kind acts v ≡ 0 → actionTree ls acts v ≡ anyAction
     unfolding actionOf decodeAction

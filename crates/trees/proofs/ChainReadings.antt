@@ -11,7 +11,7 @@ use Rattle.rules.specs.Lists.{largest, In, has, one}
 use Rattle.rules.specs.Words.{Input}
 use Rattle.rules.specs.Formula.{equationCount, equationOf}
 use Rattle.rules.specs.Depth.{alternates, contribution, reading}
-use Rattle.rules.specs.Good.{GoodFormula}
+use Rattle.tables.specs.Good.{GoodFormula}
 use Rattle.lists.proofs.Equalities.{number-equality}
 use Rattle.lists.proofs.Members.{has-in, in-has}
 use Rattle.trees.specs.Chains.{referred, Chain, lastOf, changes, worth}

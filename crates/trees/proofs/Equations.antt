@@ -3,44 +3,30 @@ use mathlib.Core.Path.{_≡_, refl, sym, ap, _∙_}
 use mathlib.Core.Logic.{_⊎_, inl, inr}
 use mathlib.Core.Bool.{Bool, true, false, true≢false, false≢true}
 use mathlib.Core.List.{List, [], _∷_, _++_, append-nil}
+use mathlib.Core.Option.{Option, none, some}
 use Prim.Native.Nat.{ℕ, zero, suc, _+_, _-_, _≤_, _<_}
 use native.Mathlib.Decide.{decLt, ℕ-discrete}
 use native.Mathlib.Omega.{arith}
 use lib.ListN.{length, getD, length-append, List·getD-append}
 use lib.Seq.{getD-append-seam}
-use Rattle.rules.specs.Table.{size, kind, operand, FormulaNode, truthNode, falsityNode, andNode, orNode, boxNode, diamondNode, leastNode, greatestNode, referenceNode, noFormulaNode, decodeFormula, formulaNode}
+use Rattle.rules.specs.Table.{size, kind, operand, FormulaNode, decodeFormula, formulaNode, isSome, fixpointOf}
 use Rattle.rules.specs.Formula.{Operator, least, greatest, Equation, equationAt, isFixpoint, placeholder, equationsBefore, equations, equationCount, equationOf, equationNumber}
-use Rattle.rules.specs.Good.{GoodFormula}
-use Rattle.trees.proofs.FormulaTrees.{formula-known}
+use Rattle.tables.specs.Good.{GoodFormula}
+use Rattle.tables.proofs.Decode.{formula-of-kind}
 use Rattle.trees.proofs.Fixpoints.{fixpoint-at, no-fixpoint-below, no-fixpoint-above, fixpoint-inside, fixpoint-kind}
 
 -- ---- the equation of one node
 
-none-at : (v : ℕ) (n : FormulaNode) → isFixpoint n ≡ false → equationAt v n ≡ []
-unfolding equationAt isFixpoint
-none-at v truthNode e = refl
-none-at v falsityNode e = refl
-none-at v (andNode r) e = refl
-none-at v (orNode r) e = refl
-none-at v (boxNode a) e = refl
-none-at v (diamondNode a) e = refl
-none-at v leastNode e = absurd (true≢false e)
-none-at v greatestNode e = absurd (true≢false e)
-none-at v (referenceNode u) e = refl
-none-at v noFormulaNode e = refl
+none-at : (v : ℕ) (o : Option Operator) → isSome o ≡ false → equationAt v o ≡ []
+unfolding equationAt
+none-at v none e = refl
+none-at v (some o) e = absurd (true≢false e)
 
-one-at : (v : ℕ) (n : FormulaNode) → isFixpoint n ≡ true → (o : Operator) × (equationAt v n ≡ record { operator = o; body = suc v } ∷ [])
-unfolding equationAt isFixpoint
-one-at v truthNode e = absurd (false≢true e)
-one-at v falsityNode e = absurd (false≢true e)
-one-at v (andNode r) e = absurd (false≢true e)
-one-at v (orNode r) e = absurd (false≢true e)
-one-at v (boxNode a) e = absurd (false≢true e)
-one-at v (diamondNode a) e = absurd (false≢true e)
-one-at v leastNode e = (least, refl)
-one-at v greatestNode e = (greatest, refl)
-one-at v (referenceNode u) e = absurd (false≢true e)
-one-at v noFormulaNode e = absurd (false≢true e)
+one-at : (v : ℕ) (o : Option Operator) → isSome o ≡ true
+    → (p : Operator) × (equationAt v o ≡ record { operator = p; body = suc v } ∷ [])
+unfolding equationAt
+one-at v none e = absurd (false≢true e)
+one-at v (some o) e = (o, refl)
 
 module _ (f : List ℕ) where
   -- ---- the list grows from node to node
@@ -54,13 +40,17 @@ module _ (f : List ℕ) where
   start-placeholder e = rw e
 
   pub equations-same : (v : ℕ) → isFixpoint (formulaNode f v) ≡ false → equationsBefore f (suc v) ≡ equationsBefore f v
-  unfolding equationsBefore
-  equations-same v e = ap (λ (l : List Equation). equationsBefore f v ++ l) (none-at v (formulaNode f v) e) ∙ append-nil (equationsBefore f v)
+  unfolding equationsBefore isFixpoint
+  equations-same v e =
+      ap (λ (l : List Equation). equationsBefore f v ++ l) (none-at v (fixpointOf (formulaNode f v)) e)
+      ∙ append-nil (equationsBefore f v)
 
   pub equations-more : (v : ℕ) → isFixpoint (formulaNode f v) ≡ true
       → (o : Operator) × (equationsBefore f (suc v) ≡ equationsBefore f v ++ (record { operator = o; body = suc v } ∷ []))
-  unfolding equationsBefore
-  equations-more v e = let (o, q) = one-at v (formulaNode f v) e in (o, ap (λ (l : List Equation). equationsBefore f v ++ l) q)
+  unfolding equationsBefore isFixpoint
+  equations-more v e =
+      let (o, q) = one-at v (fixpointOf (formulaNode f v)) e in
+      (o, ap (λ (l : List Equation). equationsBefore f v ++ l) q)
 
   -- the same by kinds
   pub equations-below : (v : ℕ) → v < size f → kind f v ≤ 5 → equationsBefore f (suc v) ≡ equationsBefore f v
@@ -70,13 +60,15 @@ module _ (f : List ℕ) where
   equations-above v h p = equations-same v (no-fixpoint-above f v h p)
 
   pub equations-least : (v : ℕ) → v < size f → kind f v ≡ 6 → equationsBefore f (suc v) ≡ equationsBefore f v ++ (record { operator = least; body = suc v } ∷ [])
-  unfolding equationsBefore equationAt decodeFormula
-  equations-least v h e = ap (λ (n : FormulaNode). equationsBefore f v ++ equationAt v n) (formula-known f v 6 h e)
+  unfolding equationsBefore equationAt fixpointOf decodeFormula
+  equations-least v h e =
+      ap (λ (n : FormulaNode). equationsBefore f v ++ equationAt v (fixpointOf n)) (formula-of-kind f v h 6 e)
 
   pub equations-greatest : (v : ℕ) → v < size f → kind f v ≡ 7
       → equationsBefore f (suc v) ≡ equationsBefore f v ++ (record { operator = greatest; body = suc v } ∷ [])
-  unfolding equationsBefore equationAt decodeFormula
-  equations-greatest v h e = ap (λ (n : FormulaNode). equationsBefore f v ++ equationAt v n) (formula-known f v 7 h e)
+  unfolding equationsBefore equationAt fixpointOf decodeFormula
+  equations-greatest v h e =
+      ap (λ (n : FormulaNode). equationsBefore f v ++ equationAt v (fixpointOf n)) (formula-of-kind f v h 7 e)
 
   -- ---- numbers
 
@@ -175,7 +167,7 @@ module _ (f : List ℕ) where
   -- what the list holds stays as it grows
   equations-kept : (i : ℕ) (d : Equation) (v : ℕ) → i < equationNumber f v → getD (equationsBefore f (suc v)) i d ≡ getD (equationsBefore f v) i d
   unfolding equationsBefore equationNumber
-  equations-kept i d v h = List·getD-append (equationsBefore f v) (equationAt v (formulaNode f v)) d i h
+  equations-kept i d v h = List·getD-append (equationsBefore f v) (equationAt v (fixpointOf (formulaNode f v))) d i h
 
   equations-hold : (v u i : ℕ) (d : Equation) → u ≤ v → i < equationNumber f u → getD (equationsBefore f v) i d ≡ getD (equationsBefore f u) i d
   equations-hold zero u i d h p = let e : u ≡ 0 = omega arith in rw e

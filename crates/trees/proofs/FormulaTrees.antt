@@ -1,39 +1,36 @@
 -- The trees of formulas: the depth to which they are read does not matter, a node's tree is made of its children's trees, and one law for each kind of node.
 -- A fixpoint and a reference are leaves: a reference to an equation. Assumes nothing.
 use mathlib.Core.Path.{_≡_, refl, ap, ap₂, _∙_}
-use mathlib.Core.List.{List}
 use Prim.Native.Nat.{ℕ, zero, suc, _-_, _≤_, _<_}
 use native.Mathlib.Decide.{ℕ-discrete}
 use native.Mathlib.Omega.{arith}
 use Rattle.rules.specs.Words.{Input}
-use Rattle.rules.specs.Table.{size, kind, operand, decodeFormula, formulaNode}
+use Rattle.rules.specs.Table.{size, kind, operand, decodeFormula}
 use Rattle.rules.specs.Actions.{actionTree}
-use Rattle.rules.specs.Formula.{Formula, truth, falsity, conjunction, disjunction, box, diamond, reference, equationNumber, formulaOf, formulaTo, formulaTree}
-use Rattle.rules.specs.Good.{GoodFormula}
-use Rattle.tables.proofs.Decode.{formula-at}
-
--- a node of the table is decoded from its kind and operand
-pub formula-decoded : (f : List ℕ) (v : ℕ) → v < size f → formulaNode f v ≡ decodeFormula (kind f v) (operand f v)
-formula-decoded f v h = formula-at f v h
-
--- of a known kind
-pub formula-known : (f : List ℕ) (v k : ℕ) → v < size f → kind f v ≡ k → formulaNode f v ≡ decodeFormula k (operand f v)
-formula-known f v k h e = formula-decoded f v h ∙ ap (λ (j : ℕ). decodeFormula j (operand f v)) e
+use Rattle.rules.specs.Formula.{Formula, truth, falsity, conjunction, disjunction, box, diamond, reference}
+use Rattle.rules.specs.Formula.{equationNumber, formulaOf, formulaTo, formulaTree, FormulaTreeEquation}
+use Rattle.tables.specs.Good.{GoodFormula}
+use Rattle.tables.proofs.Decode.{formula-at, formula-kinds, formula-of-kind}
 
 -- only the trees of the children that a kind has matter
-formulaOf-same : (t u : ℕ → Formula) (x : Input) (v o k : ℕ) → (2 ≤ k → k ≤ 5 → t (suc v) ≡ u (suc v)) → (2 ≤ k → k ≤ 3 → t o ≡ u o)
+formulaOf-same : (t u : ℕ → Formula) (x : Input) (v o k : ℕ)
+    → (2 ≤ k → k ≤ 5 → t (suc v) ≡ u (suc v)) → (2 ≤ k → k ≤ 3 → t o ≡ u o)
     → formulaOf t x v (decodeFormula k o) ≡ formulaOf u x v (decodeFormula k o)
-unfolding formulaOf decodeFormula
-formulaOf-same t u x v o zero p q = refl
-formulaOf-same t u x v o (suc zero) p q = refl
-formulaOf-same t u x v o (suc (suc zero)) p q = ap₂ conjunction (p (omega arith) (omega arith)) (q (omega arith) (omega arith))
-formulaOf-same t u x v o (suc (suc (suc zero))) p q = ap₂ disjunction (p (omega arith) (omega arith)) (q (omega arith) (omega arith))
-formulaOf-same t u x v o (suc (suc (suc (suc zero)))) p q = ap (box (actionTree (x .labels) (x .actions) o)) (p (omega arith) (omega arith))
-formulaOf-same t u x v o (suc (suc (suc (suc (suc zero))))) p q = ap (diamond (actionTree (x .labels) (x .actions) o)) (p (omega arith) (omega arith))
-formulaOf-same t u x v o (suc (suc (suc (suc (suc (suc zero)))))) p q = refl
-formulaOf-same t u x v o (suc (suc (suc (suc (suc (suc (suc zero))))))) p q = refl
-formulaOf-same t u x v o (suc (suc (suc (suc (suc (suc (suc (suc zero)))))))) p q = refl
-formulaOf-same t u x v o (suc (suc (suc (suc (suc (suc (suc (suc (suc k))))))))) p q = refl
+unfolding formulaOf
+formulaOf-same t u x v o =
+    formula-kinds o
+    (λ k n. (2 ≤ k → k ≤ 5 → t (suc v) ≡ u (suc v)) → (2 ≤ k → k ≤ 3 → t o ≡ u o) → formulaOf t x v n
+    ≡ formulaOf u x v n)
+    (λ p q. refl)
+    (λ p q. refl)
+    (λ p q. ap₂ conjunction (p (omega arith) (omega arith)) (q (omega arith) (omega arith)))
+    (λ p q. ap₂ disjunction (p (omega arith) (omega arith)) (q (omega arith) (omega arith)))
+    (λ p q. ap (box (actionTree (x .labels) (x .actions) o)) (p (omega arith) (omega arith)))
+    (λ p q. ap (diamond (actionTree (x .labels) (x .actions) o)) (p (omega arith) (omega arith)))
+    (λ p q. refl)
+    (λ p q. refl)
+    (λ p q. refl)
+    (λ k h p q. refl)
 
 module _ (m : ℕ) (x : Input) (good : GoodFormula m (x .formula)) where
   -- any depth that reaches the last node gives the same tree
@@ -43,20 +40,20 @@ module _ (m : ℕ) (x : Input) (good : GoodFormula m (x .formula)) where
   formula-depth (suc d) zero v h a b = absurd (omega arith)
   formula-depth (suc d) (suc e) v h a b =
       let n = good .nodes v h in
-      rw (formula-decoded (x .formula) v h)
+      rw (formula-at (x .formula) v h)
       (formulaOf-same (λ u. formulaTo d x u) (λ u. formulaTo e x u) x v (operand (x .formula) v) (kind (x .formula) v)
       (λ p q. formula-depth d e (suc v) (n .next p (omega arith)) (omega arith) (omega arith))
       (λ p q. let r = n .right p q in formula-depth d e (operand (x .formula) v) (r .1) (omega arith) (omega arith)))
 
   -- a node's tree is made of the trees of its children
-  pub formula-tree : (v : ℕ) → v < size (x .formula) → formulaTree x v ≡ formulaOf (formulaTree x) x v (formulaNode (x .formula) v)
+  pub formula-tree : (v : ℕ) → v < size (x .formula) → FormulaTreeEquation x v
   unfolding formulaTree formulaTo
   formula-tree v h = formula-depth (size (x .formula)) (suc (size (x .formula))) v h (omega arith) (omega arith)
 
   module _ (v : ℕ) (h : v < size (x .formula)) where
     -- of a known kind
     at-kind : (k : ℕ) → kind (x .formula) v ≡ k → formulaTree x v ≡ formulaOf (formulaTree x) x v (decodeFormula k (operand (x .formula) v))
-    at-kind k e = formula-tree v h ∙ ap (formulaOf (formulaTree x) x v) (formula-known (x .formula) v k h e)
+    at-kind k e = formula-tree v h ∙ ap (formulaOf (formulaTree x) x v) (formula-of-kind (x .formula) v h k e)
 
     pub truth-tree : kind (x .formula) v ≡ 0 → formulaTree x v ≡ truth
     unfolding formulaOf decodeFormula

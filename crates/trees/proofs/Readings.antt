@@ -10,8 +10,9 @@ use borrow.Author.Tests.{ltb-true, eq-eqb, ne-eqb, lt-ltb, le-ltb}
 use Rattle.rules.specs.Lists.{largest}
 use Rattle.rules.specs.Words.{Input}
 use Rattle.rules.specs.Formula.{Operator, least, greatest, equationCount, equationOf, bodyTree}
-use Rattle.rules.specs.Depth.{references, alternates, contribution, readingTo, reading, depth, leastBit, byDepth}
-use Rattle.rules.specs.Good.{GoodFormula}
+use Rattle.rules.specs.Depth.{references, alternates, contribution, readingTo, reading, ReadingEquation, depth}
+use Rattle.rules.specs.Depth.{leastBit, byDepth}
+use Rattle.tables.specs.Good.{GoodFormula}
 use Rattle.trees.proofs.Equations.{count-limit}
 use Rattle.trees.proofs.Largest.{largest-same, largest-most}
 use Rattle.trees.proofs.References.{body-references-below, references-words}
@@ -130,7 +131,6 @@ module _ (m : ℕ) (x : Input) (good : GoodFormula m (x .formula)) where
       (λ l. reading-depth d e t j (body-references-below m x good j i h r) (omega arith) (omega arith)))
 
   -- to read an equation, take the largest of what the references in its body count
-  pub reading-equation : (t i : ℕ) → i < equationCount (x .formula)
-      → reading x t i ≡ largest (map (λ j. contribution (x .formula) t i j (reading x t j)) (references (bodyTree x (equationOf (x .formula) i))))
+  pub reading-equation : (t i : ℕ) → i < equationCount (x .formula) → ReadingEquation x t i
   unfolding reading readingTo
   reading-equation t i h = reading-depth (equationCount (x .formula)) (suc (equationCount (x .formula))) t i h (omega arith) (omega arith)

@@ -11,9 +11,11 @@ use Rattle.rules.specs.Words.{Input}
 use Rattle.rules.specs.Table.{size, kind, operand, FormulaNode, truthNode, falsityNode, andNode, orNode, boxNode, diamondNode, leastNode, greatestNode, referenceNode, noFormulaNode, decodeFormula, formulaNode}
 use Rattle.rules.specs.Formula.{Formula, equationNumber, equationCount, equationOf, formulaOf, formulaTo, formulaTree, bodyTree}
 use Rattle.rules.specs.Depth.{references}
-use Rattle.rules.specs.Good.{GoodFormula}
+use Rattle.tables.specs.Good.{GoodFormula}
+use Rattle.tables.proofs.Decode.{formula-at, formula-kinds}
 use Rattle.lists.proofs.Members.{in-either}
-use Rattle.trees.proofs.FormulaTrees.{formula-decoded, truth-tree, falsity-tree, conjunction-tree, disjunction-tree, box-tree, diamond-tree}
+use Rattle.trees.proofs.FormulaTrees.{truth-tree, falsity-tree, conjunction-tree, disjunction-tree, box-tree}
+use Rattle.trees.proofs.FormulaTrees.{diamond-tree}
 use Rattle.trees.proofs.Fixpoints.{fixpoint-at}
 use Rattle.trees.proofs.Equations.{number-below, referred-below, body-below}
 use Rattle.trees.proofs.Largest.{largest-map-append}
@@ -63,17 +65,26 @@ node-below : (n j : ℕ) (t : ℕ → Formula) (x : Input) (v o k : ℕ)
     → (2 ≤ k → k ≤ 5 → In j (references (t (suc v))) → j < n) → (2 ≤ k → k ≤ 3 → In j (references (t o)) → j < n)
     → (6 ≤ k → k ≤ 7 → equationNumber (x .formula) v < n) → (8 ≤ k → equationNumber (x .formula) o < n)
     → In j (references (formulaOf t x v (decodeFormula k o))) → j < n
-unfolding formulaOf decodeFormula references
-node-below n j t x v o zero a b c d = λ m. absurd m
-node-below n j t x v o (suc zero) a b c d = λ m. absurd m
-node-below n j t x v o (suc (suc zero)) a b c d = both-below n j (references (t (suc v))) (references (t o)) (a (omega arith) (omega arith)) (b (omega arith) (omega arith))
-node-below n j t x v o (suc (suc (suc zero))) a b c d = both-below n j (references (t (suc v))) (references (t o)) (a (omega arith) (omega arith)) (b (omega arith) (omega arith))
-node-below n j t x v o (suc (suc (suc (suc zero)))) a b c d = a (omega arith) (omega arith)
-node-below n j t x v o (suc (suc (suc (suc (suc zero))))) a b c d = a (omega arith) (omega arith)
-node-below n j t x v o (suc (suc (suc (suc (suc (suc zero)))))) a b c d = one-below n j (equationNumber (x .formula) v) (c (omega arith) (omega arith))
-node-below n j t x v o (suc (suc (suc (suc (suc (suc (suc zero))))))) a b c d = one-below n j (equationNumber (x .formula) v) (c (omega arith) (omega arith))
-node-below n j t x v o (suc (suc (suc (suc (suc (suc (suc (suc zero)))))))) a b c d = one-below n j (equationNumber (x .formula) o) (d (omega arith))
-node-below n j t x v o (suc (suc (suc (suc (suc (suc (suc (suc (suc k))))))))) a b c d = λ m. absurd m
+unfolding formulaOf references
+node-below n j t x v o =
+    formula-kinds o
+    (λ k y. (2 ≤ k → k ≤ 5 → In j (references (t (suc v))) → j < n) → (2 ≤ k → k ≤ 3 → In j (references (t o)) → j < n)
+    → (6 ≤ k → k ≤ 7 → equationNumber (x .formula) v < n) → (8 ≤ k → equationNumber (x .formula) o < n)
+    → In j (references (formulaOf t x v y)) → j < n)
+    (λ a b c d m. absurd m)
+    (λ a b c d m. absurd m)
+    (λ a b c d. both (a (omega arith) (omega arith)) (b (omega arith) (omega arith)))
+    (λ a b c d. both (a (omega arith) (omega arith)) (b (omega arith) (omega arith)))
+    (λ a b c d. a (omega arith) (omega arith))
+    (λ a b c d. a (omega arith) (omega arith))
+    (λ a b c d. one-below n j (equationNumber (x .formula) v) (c (omega arith) (omega arith)))
+    (λ a b c d. one-below n j (equationNumber (x .formula) v) (c (omega arith) (omega arith)))
+    (λ a b c d. one-below n j (equationNumber (x .formula) o) (d (omega arith)))
+    (λ k h a b c d m. absurd m)
+  where
+    both : (In j (references (t (suc v))) → j < n) → (In j (references (t o)) → j < n)
+        → In j (references (t (suc v)) ++ references (t o)) → j < n
+    both = both-below n j (references (t (suc v))) (references (t o))
 
 module _ (m : ℕ) (x : Input) (good : GoodFormula m (x .formula)) where
   below-to : (d j v : ℕ) → v < size (x .formula) → In j (references (formulaTo d x v)) → j < equationCount (x .formula)
@@ -81,7 +92,7 @@ module _ (m : ℕ) (x : Input) (good : GoodFormula m (x .formula)) where
   below-to zero j v h = λ i. absurd i
   below-to (suc d) j v h =
       let n = good .nodes v h in
-      rw (formula-decoded (x .formula) v h)
+      rw (formula-at (x .formula) v h)
       (node-below (equationCount (x .formula)) j (λ u. formulaTo d x u) x v (operand (x .formula) v) (kind (x .formula) v)
       (λ p q. below-to d j (suc v) (n .next p (omega arith)))
       (λ p q. below-to d j (operand (x .formula) v) (n .right p q .1))

@@ -10,12 +10,12 @@ use native.Mathlib.Decide.{decLt}
 use native.Mathlib.Omega.{arith}
 use lib.ListN.{length, getD}
 use Rattle.rules.specs.Lists.{In, Distinct, has, sum, insert, insertAll}
-use Rattle.rules.specs.Walk.{State, pushNew, settle, stepFrom, step, walk}
+use Rattle.rules.specs.Walk.{Stand, pushNew, settle, stepFrom, step, walk}
 use Rattle.rules.specs.Demands.{Numbers, numbered, old, new, Waits, After, start, settles, rests}
 use Rattle.lists.specs.Shapes.{Equality, Begins}
 use Rattle.lists.proofs.Shapes.{falling-below, falling-length, begins-length, begins-at}
 use Rattle.lists.proofs.Inserts.{insert-cases, inserts-begins}
-use Rattle.walks.specs.Sums.{stateOf, settled, Settled, sumBelow, sumSettled}
+use Rattle.walks.specs.Sums.{standWith, settled, Settled, sumBelow, sumSettled}
 use Rattle.walks.proofs.Push.{push-before, push-holds, push-only}
 use Rattle.walks.proofs.Steps.{Sound, sound, settled-settle, walk-start, walk-step}
 use Rattle.walks.proofs.Sums.{sum-settle}
@@ -59,7 +59,7 @@ module _ {A : Type 0} (next : A → List A) (root : A) where
     pub after : After next root k known order
     pub distinct : Distinct order
     pub counted : length order ≡ length known - length waiting
-    pub summed : (weight : A → ℕ) → weighed weight root known order ≡ sumSettled weight root (stateOf known waiting)
+    pub summed : (weight : A → ℕ) → weighed weight root known order ≡ sumSettled weight root (standWith known waiting)
 
 module _ {A : Type 0} {same : A → A → Bool} (eq : Equality same) (next : A → List A) (root : A) where
   stands-settle : (k : ℕ) (known : List A) (v : ℕ) (rest : List ℕ) → Sound next root known (v ∷ rest) → Stands next root k known (v ∷ rest)
@@ -131,7 +131,7 @@ module _ {A : Type 0} {same : A → A → Bool} (eq : Equality same) (next : A �
       }
   stands-from k known (v ∷ rest) s t = stands-settle k known v rest s t
 
-  stands-step : (k : ℕ) (st : State A) → Sound next root (st .known) (st .waiting) → Stands next root k (st .known) (st .waiting)
+  stands-step : (k : ℕ) (st : Stand A) → Sound next root (st .known) (st .waiting) → Stands next root k (st .known) (st .waiting)
       → Stands next root (suc k) (step same next root st .known) (step same next root st .waiting)
   unfolding step
   stands-step k st s t = stands-from k (st .known) (st .waiting) s t
@@ -149,9 +149,9 @@ module _ {A : Type 0} {same : A → A → Bool} (eq : Equality same) (next : A �
       }
 
   pub stands : (k : ℕ) → Stands next root k (walk same next root k .known) (walk same next root k .waiting)
-  stands zero = subst (λ (st : State A). Stands next root 0 (st .known) (st .waiting)) (sym (walk-start same next root)) stands-start
+  stands zero = subst (λ (st : Stand A). Stands next root 0 (st .known) (st .waiting)) (sym (walk-start same next root)) stands-start
   stands (suc k) =
-      subst (λ (st : State A). Stands next root (suc k) (st .known) (st .waiting)) (sym (walk-step same next root k))
+      subst (λ (st : Stand A). Stands next root (suc k) (st .known) (st .waiting)) (sym (walk-step same next root k))
       (stands-step k (walk same next root k) (sound eq next root k) (stands k))
 
   -- the settled vertices after k steps, the latest first

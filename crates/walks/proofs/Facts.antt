@@ -9,17 +9,17 @@ use native.Mathlib.Decide.{decLt, decLe}
 use native.Mathlib.Omega.{arith}
 use lib.ListN.{length, getD}
 use Rattle.rules.specs.Lists.{In}
-use Rattle.rules.specs.Walk.{State, walk}
+use Rattle.rules.specs.Walk.{Stand, walk}
 use Rattle.rules.specs.Reach.{Reachable, reachedIn}
 use Rattle.lists.specs.Shapes.{Equality, Begins}
-use Rattle.lists.proofs.Members.{in-or, place-below, place-at}
+use Rattle.lists.proofs.Members.{in-or, position-below, position-at}
 use Rattle.lists.proofs.Shapes.{begins-at, begins-length}
 use Rattle.lists.proofs.Equalities.{number-equality}
 use Rattle.walks.specs.Sums.{Settled, sumSettled}
 use Rattle.walks.specs.Facts.{WalkFacts}
 use Rattle.walks.proofs.Steps.{sound, idle-walk, begins-walk, walk-later, walk-start}
 use Rattle.walks.proofs.Sums.{sum-walk}
-use Rattle.walks.proofs.Count.{count-settled, Stand, stand}
+use Rattle.walks.proofs.Count.{count-settled, StepCount, step-count}
 use Rattle.walks.proofs.Reached.{reached-distinct, reached-reachable, reached-every, reached-within}
 
 empty : (xs : List ℕ) → length xs ≡ 0 → xs ≡ []
@@ -27,7 +27,7 @@ empty [] e = refl
 empty (x ∷ xs) e = absurd (omega arith)
 
 -- a vertex is settled or waits
-pub settled-or-waits : {A : Type 0} (st : State A) (v : ℕ) → v < length (st .known) → Settled st v ⊎ In v (st .waiting)
+pub settled-or-waits : {A : Type 0} (st : Stand A) (v : ℕ) → v < length (st .known) → Settled st v ⊎ In v (st .waiting)
 settled-or-waits st v h = go (in-or number-equality v (st .waiting))
   where
     go : In v (st .waiting) ⊎ (¬ In v (st .waiting)) → Settled st v ⊎ In v (st .waiting)
@@ -47,7 +47,7 @@ module _ {A : Type 0} {same : A → A → Bool} (eq : Equality same) (next : A �
   walk-first k = go (walk-keeps 0 k (omega arith))
     where
       first : walk same next root 0 .known ≡ root ∷ []
-      first = ap (λ (st : State A). st .known) (walk-start same next root)
+      first = ap (λ (st : Stand A). st .known) (walk-start same next root)
 
       go : Begins (walk same next root 0 .known) (walk same next root k .known) → (0 < length (walk same next root k .known)) × (getD (walk same next root k .known) 0 root ≡ root)
       go b = (
@@ -61,9 +61,9 @@ module _ {A : Type 0} {same : A → A → Bool} (eq : Equality same) (next : A �
     found = reachedIn same next root bound
 
     stands : (k : ℕ)
-        → Stand eq next root found (reached-distinct eq next root bound) (reached-reachable eq next root bound) (reached-every eq next root all cover bound few) k
+        → StepCount eq next root found (reached-distinct eq next root bound) (reached-reachable eq next root bound) (reached-every eq next root all cover bound few) k
         (walk same next root k)
-    stands k = stand eq next root found (reached-distinct eq next root bound) (reached-reachable eq next root bound) (reached-every eq next root all cover bound few) k
+    stands k = step-count eq next root found (reached-distinct eq next root bound) (reached-reachable eq next root bound) (reached-every eq next root all cover bound few) k
 
     still : (k : ℕ) → 0 < length (walk same next root k .waiting) → k < length found
     still k h = go (decLt k (length found))
@@ -90,7 +90,7 @@ module _ {A : Type 0} {same : A → A → Bool} (eq : Equality same) (next : A �
           first = walk-first k;
           reached = s .reached;
           distinct = s .distinct;
-          edges = λ v h q i. let m = s .edges v (h .0) (h .1) q i in (place-below eq q known m, place-at eq q known root m);
+          edges = λ v h q i. let m = s .edges v (h .0) (h .1) q i in (position-below eq q known m, position-at eq q known root m);
           falling = s .falling;
           either = settled-or-waits (walk same next root k);
           ended = (λ e. c .ends (ap length e), λ h. empty (walk same next root k .waiting) (c .ended h));

@@ -9,30 +9,30 @@ use native.Mathlib.Omega.{arith}
 use lib.ListN.{length, getD, length-map}
 use lib.Dec.{eqb}
 use Rattle.rules.specs.Lists.{In, has, insertAll}
-use Rattle.rules.specs.Walk.{State, pushNew, settle, stepFrom, step, walk}
+use Rattle.rules.specs.Walk.{Stand, pushNew, settle, stepFrom, step, walk}
 use Rattle.rules.specs.Reach.{Reachable, atRoot, onward, allTargets, reachedIn}
 use Rattle.rules.specs.Demands.{Numbers, numbered, old, new, Waits, After, start, settles, rests}
-use Rattle.lists.specs.Shapes.{Equality, places}
-use Rattle.lists.proofs.Members.{in-at, map-in, in-map, map-append, map-default, place-map}
+use Rattle.lists.specs.Shapes.{Equality, positions}
+use Rattle.lists.proofs.Members.{in-at, map-in, in-map, map-append, map-default, position-map}
 use Rattle.lists.proofs.Inserts.{inserts-map}
-use Rattle.walks.specs.Sums.{stateOf, sumBelow, sumSettled}
+use Rattle.walks.specs.Sums.{standWith, sumBelow, sumSettled}
 use Rattle.walks.proofs.Steps.{Sound, sound, walk-start, walk-step}
 use Rattle.walks.proofs.Reached.{in-targets, reached-reachable}
 use Rattle.walks.proofs.Only.{after-reached}
 
 module _ {A B : Type 0} (f : A → B) where
   -- the state under the other names
-  abbrev pub renamed : State A → State B
-  renamed st = stateOf (map f (st .known)) (st .waiting)
+  abbrev pub renamed : Stand A → Stand B
+  renamed st = standWith (map f (st .known)) (st .waiting)
 
   -- a sum over the settled vertices goes by the weights of the names
-  sum-below-renamed : (weight : B → ℕ) (root : A) (st : State A) (n : ℕ) → sumBelow weight (f root) (renamed st) n ≡ sumBelow (λ p. weight (f p)) root st n
+  sum-below-renamed : (weight : B → ℕ) (root : A) (st : Stand A) (n : ℕ) → sumBelow weight (f root) (renamed st) n ≡ sumBelow (λ p. weight (f p)) root st n
   unfolding sumBelow
   sum-below-renamed weight root st zero = refl
   sum-below-renamed weight root st (suc v) =
       ap₂ (λ (x y : ℕ). cond (has eqb v (st .waiting)) 0 x + y) (ap weight (map-default f (st .known) v root)) (sum-below-renamed weight root st v)
 
-  pub sum-renamed : (weight : B → ℕ) (root : A) (st : State A) → sumSettled weight (f root) (renamed st) ≡ sumSettled (λ p. weight (f p)) root st
+  pub sum-renamed : (weight : B → ℕ) (root : A) (st : Stand A) → sumSettled weight (f root) (renamed st) ≡ sumSettled (λ p. weight (f p)) root st
   unfolding sumSettled
   sum-renamed weight root st = ap (sumBelow weight (f root) (renamed st)) (length-map (st .known) f) ∙ sum-below-renamed weight root st (length (st .known))
 
@@ -50,8 +50,8 @@ module _ {A B : Type 0} {same : A → A → Bool} {same′ : B → B → Bool} (
       let ts : next′ (getD (map f known) v (f root)) ≡ map f (next here) = ap next′ (map-default f known v root) ∙ moved here reached in
       let more : insertAll same′ (map f known) (next′ (getD (map f known) v (f root))) ≡ map f (insertAll same known (next here))
       = ap (insertAll same′ (map f known)) ts ∙ inserts-map eq eq′ f (Reachable next root) alike known (next here) r (λ q m. onward reached m) in
-      ap (λ (l : List B). stateOf l (pushNew (length (map f known)) (length l - length (map f known)) rest)) more
-      ∙ ap₂ (λ (a c : ℕ). stateOf (map f (insertAll same known (next here))) (pushNew a (c - a) rest)) (length-map known f) (length-map (insertAll same known (next here)) f)
+      ap (λ (l : List B). standWith l (pushNew (length (map f known)) (length l - length (map f known)) rest)) more
+      ∙ ap₂ (λ (a c : ℕ). standWith (map f (insertAll same known (next here))) (pushNew a (c - a) rest)) (length-map known f) (length-map (insertAll same known (next here)) f)
 
   from-map : (known : List A) (waiting : List ℕ) → Sound next root known waiting
       → stepFrom same′ next′ (f root) (map f known) waiting ≡ renamed f (stepFrom same next root known waiting)
@@ -59,7 +59,7 @@ module _ {A B : Type 0} {same : A → A → Bool} {same′ : B → B → Bool} (
   from-map known [] s = refl
   from-map known (v ∷ rest) s = settle-map known v rest (s .reached) (s .falling .0)
 
-  step-map : (st : State A) → Sound next root (st .known) (st .waiting) → step same′ next′ (f root) (renamed f st) ≡ renamed f (step same next root st)
+  step-map : (st : Stand A) → Sound next root (st .known) (st .waiting) → step same′ next′ (f root) (renamed f st) ≡ renamed f (step same next root st)
   unfolding step
   step-map st s = from-map (st .known) (st .waiting) s
 
@@ -72,12 +72,12 @@ module _ {A B : Type 0} {same : A → A → Bool} {same′ : B → B → Bool} (
       ∙ sym (ap (renamed f) (walk-step same next root k))
 
   -- the places of reachable elements among reachable ones, so the edges, are the same
-  pub places-map : (known ts : List A) → ((x : A) → In x known → Reachable next root x) → ((t : A) → In t ts → Reachable next root t)
-      → places same′ (map f known) (map f ts) ≡ places same known ts
-  unfolding places
-  places-map known [] r s = refl
-  places-map known (t ∷ ts) r s =
-      ap₂ _∷_ (place-map eq eq′ f known t (λ x m e. alike t x (s t (inl refl)) (r x m) e)) (places-map known ts r (λ u m. s u (inr m)))
+  pub positions-map : (known ts : List A) → ((x : A) → In x known → Reachable next root x) → ((t : A) → In t ts → Reachable next root t)
+      → positions same′ (map f known) (map f ts) ≡ positions same known ts
+  unfolding positions
+  positions-map known [] r s = refl
+  positions-map known (t ∷ ts) r s =
+      ap₂ _∷_ (position-map eq eq′ f known t (λ x m e. alike t x (s t (inl refl)) (r x m) e)) (positions-map known ts r (λ u m. s u (inr m)))
 
   -- ---- the reachable elements
 

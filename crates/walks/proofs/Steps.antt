@@ -9,14 +9,14 @@ use native.Mathlib.Nat.{add-zero, add-suc}
 use native.Mathlib.Decide.{decLt, ℕ-discrete}
 use native.Mathlib.Omega.{arith}
 use lib.ListN.{length, getD}
-use Rattle.rules.specs.Lists.{In, Distinct, place, insertAll}
-use Rattle.rules.specs.Walk.{State, pushNew, settle, stepFrom, step, stepsFrom, walk}
+use Rattle.rules.specs.Lists.{In, Distinct, position, insertAll}
+use Rattle.rules.specs.Walk.{Stand, pushNew, settle, stepFrom, step, stepsFrom, walk}
 use Rattle.rules.specs.Reach.{Reachable, atRoot, onward}
 use Rattle.lists.specs.Shapes.{Equality, Falling, Begins}
-use Rattle.lists.proofs.Members.{in-at, place-below, place-at}
+use Rattle.lists.proofs.Members.{in-at, position-below, position-at}
 use Rattle.lists.proofs.Shapes.{falling-above, begins-refl, begins-trans, begins-length, begins-in, begins-at}
 use Rattle.lists.proofs.Inserts.{inserts-begins, inserts-holds, inserts-only, inserts-distinct}
-use Rattle.walks.specs.Sums.{stateOf, settled}
+use Rattle.walks.specs.Sums.{standWith, settled}
 use Rattle.walks.proofs.Push.{push-falling, push-length, push-before, push-holds}
 
 -- ---- one step more
@@ -29,7 +29,7 @@ module _ {A : Type 0} (same : A → A → Bool) (next : A → List A) (root : A)
   steps-suc (suc k) known [] = refl
   steps-suc (suc k) known (v ∷ rest) = steps-suc k (settle same next root known v rest .known) (settle same next root known v rest .waiting)
 
-  pub walk-start : walk same next root 0 ≡ stateOf (root ∷ []) (0 ∷ [])
+  pub walk-start : walk same next root 0 ≡ standWith (root ∷ []) (0 ∷ [])
   unfolding walk stepsFrom
   walk-start = refl
 
@@ -38,19 +38,19 @@ module _ {A : Type 0} (same : A → A → Bool) (next : A → List A) (root : A)
   walk-step k = steps-suc k (root ∷ []) (0 ∷ [])
 
   -- a step, by the vertices that wait
-  pub step-none : (known : List A) → step same next root (stateOf known []) ≡ stateOf known []
+  pub step-none : (known : List A) → step same next root (standWith known []) ≡ standWith known []
   unfolding step stepFrom
   step-none known = refl
 
   -- what holds at the start and is kept by a step holds of every walk
-  pub walk-all : (P : State A → Type 0) → P (stateOf (root ∷ []) (0 ∷ [])) → ((st : State A) → P st → P (step same next root st)) → (k : ℕ) → P (walk same next root k)
+  pub walk-all : (P : Stand A → Type 0) → P (standWith (root ∷ []) (0 ∷ [])) → ((st : Stand A) → P st → P (step same next root st)) → (k : ℕ) → P (walk same next root k)
   walk-all P start on zero = subst P (sym walk-start) start
   walk-all P start on (suc k) = subst P (sym (walk-step k)) (on (walk same next root k) (walk-all P start on k))
 
   -- with nothing waiting nothing changes
-  pub step-idle : (st : State A) → st .waiting ≡ [] → step same next root st ≡ st
+  pub step-idle : (st : Stand A) → st .waiting ≡ [] → step same next root st ≡ st
   unfolding step stepFrom
-  step-idle st e = ap (stepFrom same next root (st .known)) e ∙ ap (λ (w : List ℕ). stateOf (st .known) w) (sym e)
+  step-idle st e = ap (stepFrom same next root (st .known)) e ∙ ap (λ (w : List ℕ). standWith (st .known) w) (sym e)
 
   pub idle-walk : (k j : ℕ) → walk same next root k .waiting ≡ [] → walk same next root (k + j) ≡ walk same next root k
   idle-walk k zero e = ap (walk same next root) (add-zero k)
@@ -58,7 +58,7 @@ module _ {A : Type 0} (same : A → A → Bool) (next : A → List A) (root : A)
       ap (walk same next root) (add-suc k j) ∙ walk-step (k + j) ∙ ap (step same next root) (idle-walk k j e) ∙ step-idle (walk same next root k) e
 
   -- what holds between the walk after k and after k + j steps holds between k and any later one
-  pub walk-later : (k j : ℕ) → k ≤ j → (P : State A → Type 0) → ((i : ℕ) → P (walk same next root (k + i))) → P (walk same next root j)
+  pub walk-later : (k j : ℕ) → k ≤ j → (P : Stand A → Type 0) → ((i : ℕ) → P (walk same next root (k + i))) → P (walk same next root j)
   walk-later k j h P f = subst (λ (n : ℕ). P (walk same next root n)) (omega arith) (f (j - k))
 
 -- ---- what holds at every step
@@ -112,7 +112,7 @@ module _ {A : Type 0} {same : A → A → Bool} (eq : Equality same) (next : A �
   sound-from known [] s = s
   sound-from known (v ∷ rest) s = sound-settle known v rest s
 
-  pub sound-step : (st : State A) → Sound next root (st .known) (st .waiting) → Sound next root (step same next root st .known) (step same next root st .waiting)
+  pub sound-step : (st : Stand A) → Sound next root (st .known) (st .waiting) → Sound next root (step same next root st .known) (step same next root st .waiting)
   unfolding step
   sound-step st s = sound-from (st .known) (st .waiting) s
 
@@ -136,7 +136,7 @@ module _ {A : Type 0} {same : A → A → Bool} (eq : Equality same) (next : A �
   begins-from known [] = begins-refl known
   begins-from known (v ∷ rest) = inserts-begins eq known (next (getD known v root))
 
-  pub begins-step : (st : State A) → Begins (st .known) (step same next root st .known)
+  pub begins-step : (st : Stand A) → Begins (st .known) (step same next root st .known)
   unfolding step
   begins-step st = begins-from (st .known) (st .waiting)
 
@@ -145,7 +145,7 @@ module _ {A : Type 0} {same : A → A → Bool} (eq : Equality same) (next : A �
   begins-walk k zero = rw add-zero (begins-refl (walk same next root k .known))
   begins-walk k (suc j) =
       rw (add-suc k j)
-      (subst (λ (st : State A). Begins (walk same next root k .known) (st .known)) (sym (walk-step same next root (k + j)))
+      (subst (λ (st : Stand A). Begins (walk same next root k .known) (st .known)) (sym (walk-step same next root (k + j)))
       (begins-trans (walk same next root k .known) (walk same next root (k + j) .known) (step same next root (walk same next root (k + j)) .known) (begins-walk k j)
       (begins-step (walk same next root (k + j)))))
 
@@ -163,5 +163,5 @@ module _ {A : Type 0} {same : A → A → Bool} (eq : Equality same) (next : A �
   pub all-known : (known : List A) → Sound next root known [] → (p : A) → Reachable next root p → In p known
   all-known known s p atRoot = s .rooted
   all-known known s p (onward {p = o} r m) =
-      s .edges (place same o known) (place-below eq o known (all-known known s o r)) (λ z. z) p
-      (subst (λ (u : A). In p (next u)) (sym (place-at eq o known root (all-known known s o r))) m)
+      s .edges (position same o known) (position-below eq o known (all-known known s o r)) (λ z. z) p
+      (subst (λ (u : A). In p (next u)) (sym (position-at eq o known root (all-known known s o r))) m)

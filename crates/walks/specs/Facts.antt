@@ -6,7 +6,7 @@ use mathlib.Core.List.{List, []}
 use mathlib.Core.Logic.{_⊎_, _↔_}
 use Prim.Native.Nat.{ℕ, _≤_, _<_, min}
 use lib.ListN.{length, getD}
-use Rattle.rules.specs.Lists.{In, Distinct, place}
+use Rattle.rules.specs.Lists.{In, Distinct, position}
 use Rattle.rules.specs.Walk.{walk}
 use Rattle.rules.specs.Reach.{Reachable, reachedIn}
 use Rattle.lists.specs.Shapes.{Falling, Begins}
@@ -35,7 +35,7 @@ module _ {A : Type 0} (same : A → A → Bool) (next : A → List A) (root : A)
     pub distinct : Distinct (knownAfter k)
     -- for each target of a settled vertex's element a vertex stands
     pub edges : (v : ℕ) → Settled (walk same next root k) v → (q : A) → In q (next (getD (knownAfter k) v root))
-        → (place same q (knownAfter k) < length (knownAfter k)) × (getD (knownAfter k) (place same q (knownAfter k)) root ≡ q)
+        → (position same q (knownAfter k) < length (knownAfter k)) × (getD (knownAfter k) (position same q (knownAfter k)) root ≡ q)
     -- the waiting vertices are numbers of known elements, the last numbered first, none twice, and a vertex waits or is settled
     pub falling : Falling (length (knownAfter k)) (waitingAfter k)
     pub either : (v : ℕ) → v < length (knownAfter k) → Settled (walk same next root k) v ⊎ In v (waitingAfter k)

@@ -13,7 +13,7 @@ use Rattle.rules.specs.Labels.{labelCount, multiset}
 use Rattle.rules.specs.Table.{size, kind, operand, actionChildren, treeEnd, isNotEnd}
 use Rattle.rules.specs.Actions.{union, intersection, negation, multiAction, actionTree}
 use Rattle.rules.specs.Refusal.{badActionOperand}
-use Rattle.rules.specs.Good.{GoodActions}
+use Rattle.tables.specs.Good.{GoodActions}
 use Rattle.tables.specs.Ends.{treeAfter}
 use Rattle.tables.proofs.Ends.{end-leaf, end-one, end-two}
 use Rattle.tables.proofs.Decode.{action-children-none, action-children-one, action-children-two}

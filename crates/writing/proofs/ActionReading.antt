@@ -4,7 +4,7 @@ use mathlib.Core.Bool.{true, false, not}
 use mathlib.Core.List.{List, [], _∷_, _++_}
 use mathlib.Core.Option.{some, Option·some-injective}
 use Prim.Native.Nat.{ℕ, zero, suc, _+_, _-_, _≤_, _<_}
-use native.Mathlib.Decide.{decLt, ℕ-discrete}
+use native.Mathlib.Decide.{decLt}
 use native.Mathlib.Omega.{arith}
 use borrow.Author.Tests.{eqb-true}
 use Rattle.rules.specs.declared.Check.the-variants.{Passed}
@@ -15,7 +15,7 @@ use Rattle.rules.specs.Table.{actionChildren, treeEnd, onRow}
 use Rattle.rules.specs.Refusal.{faultFrom, badActionOperand, refusal33, refusal34}
 use Rattle.tables.specs.Ends.{onRowFrom}
 use Rattle.tables.proofs.Ends.{end-bounds, end-leaf, end-one, end-number-some, row-done, row-step}
-use Rattle.tables.proofs.Decode.{action-children-none, action-children-one}
+use Rattle.tables.proofs.Decode.{action-kinds, action-children-none, action-children-one}
 use Rattle.tables.proofs.Operands.{action-zero, action-negated}
 use Rattle.tables.proofs.Faults.{from-passed, lower-both}
 use Rattle.tables.proofs.Accepted.{actions-known, actions-finished, actions-right, good-action-node}
@@ -120,7 +120,7 @@ module _ (ls acts : List ℕ) (r33 : refusal33 acts ≡ Passed) (r34 : refusal34
   pub action-from : (d v e : ℕ) → size acts - v ≤ d → treeEnd (actionChildren acts) (size acts) v ≡ some e → ActionFrom (labelCount ls) acts v e
   action-from zero v e l h = let i = inside v e h in absurd (omega arith)
   action-from (suc d) v e l h =
-      go (action-from d) (ℕ-discrete (kind acts v) 0) (ℕ-discrete (kind acts v) 1) (ℕ-discrete (kind acts v) 2) (ℕ-discrete (kind acts v) 5) (ℕ-discrete (kind acts v) 3)
+      by-kind (action-from d) (kind acts v) refl
     where
       i : v < size acts
       i = inside v e h
@@ -141,16 +141,27 @@ module _ (ls acts : List ℕ) (r33 : refusal33 acts ≡ Passed) (r34 : refusal34
           let (p, q, x, y) = actions-right ls acts r33 r34 v i a b in
           later (operand acts v) e (omega arith) (sym q ∙ h)
 
-      go : Later → Dec (kind acts v ≡ 0) → Dec (kind acts v ≡ 1) → Dec (kind acts v ≡ 2) → Dec (kind acts v ≡ 5) → Dec (kind acts v ≡ 3)
+      only : Later → kind acts v ≡ 5 → ActionFrom (labelCount ls) acts (suc v) e
+      only later z =
+          later (suc v) e (omega arith)
+          (sym (end-one (actionChildren acts) (size acts) v i (action-children-one acts v i z)) ∙ h)
+
+      two : Later → (ActionFrom (labelCount ls) acts (suc v) (operand acts v)
+          → ActionFrom (labelCount ls) acts (operand acts v) e
+          → ActionFrom (labelCount ls) acts v e) → 3 ≤ kind acts v → kind acts v ≤ 4
           → ActionFrom (labelCount ls) acts v e
-      go later (yes c) b f g j = from-true v e h c
-      go later (no a) (yes c) f g j = from-false v e h c
-      go later (no a) (no b) (yes c) g j = from-label v e h c
-      go later (no a) (no b) (no f) (yes c) j =
-          from-negation v e h c (later (suc v) e (omega arith) (sym (end-one (actionChildren acts) (size acts) v i (action-children-one acts v i c)) ∙ h))
-      go later (no a) (no b) (no f) (no g) (yes c) = from-union v e h c (left later (omega arith) (omega arith)) (right later (omega arith) (omega arith))
-      go later (no a) (no b) (no f) (no g) (no j) =
-          from-intersection v e h (omega (arith, k)) (left later (omega (arith, k)) (omega (arith, k))) (right later (omega (arith, k)) (omega (arith, k)))
+      two later join a b = join (left later a b) (right later a b)
+
+      by-kind : Later → (j : ℕ) → kind acts v ≡ j → ActionFrom (labelCount ls) acts v e
+      by-kind later =
+          action-kinds 0 (λ j n. kind acts v ≡ j → ActionFrom (labelCount ls) acts v e)
+          (λ z. from-true v e h z)
+          (λ z. from-false v e h z)
+          (λ z. from-label v e h z)
+          (λ z. two later (from-union v e h z) (omega arith) (omega arith))
+          (λ z. two later (from-intersection v e h z) (omega arith) (omega arith))
+          (λ z. from-negation v e h z (only later z))
+          (λ j g z. absurd (omega (arith, k)))
 
   -- the first tree of a row, then the rest
   row-join : (u e : ℕ) → ActionFrom (labelCount ls) acts u e → RowFrom (labelCount ls) acts e (size acts) → RowFrom (labelCount ls) acts u (size acts)

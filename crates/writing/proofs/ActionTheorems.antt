@@ -15,7 +15,7 @@ use Rattle.rules.specs.Answers.{faultIf}
 use Rattle.rules.specs.Table.{size, kind, actionChildren, onRow}
 use Rattle.rules.specs.Actions.{actionTree}
 use Rattle.rules.specs.Refusal.{differ, badActionOperand, refusal31, refusal32, refusal33, refusal34}
-use Rattle.rules.specs.Good.{GoodActions}
+use Rattle.tables.specs.Good.{GoodActions}
 use Rattle.tables.specs.Ends.{onRowFrom}
 use Rattle.tables.proofs.Ends.{row-start}
 use Rattle.tables.proofs.Faults.{if-false, from-none, lower-passed}

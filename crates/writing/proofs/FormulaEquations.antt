@@ -9,7 +9,7 @@ use Rattle.rules.specs.Words.{Input}
 use Rattle.rules.specs.Table.{size, kind, operand, formulaNode}
 use Rattle.rules.specs.Actions.{actionTree}
 use Rattle.rules.specs.Formula.{Operator, least, greatest, Equation, isFixpoint, equationsBefore, equationNumber, Formula, conjunction, disjunction, box, diamond, reference, formulaTree, bodyTree}
-use Rattle.rules.specs.Good.{GoodFormula}
+use Rattle.tables.specs.Good.{GoodFormula}
 use Rattle.lists.proofs.Members.{map-at, map-append}
 use Rattle.tables.proofs.Decode.{fixpoint-yes, fixpoint-low, fixpoint-high}
 use Rattle.trees.proofs.FormulaTrees.{truth-tree, falsity-tree, conjunction-tree, disjunction-tree, box-tree, diamond-tree, least-tree, greatest-tree, reference-tree}

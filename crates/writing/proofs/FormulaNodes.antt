@@ -1,6 +1,6 @@
 -- Where the nodes of a formula stand in the words: its tree ends just past them, and each of them passes 43, 44 and 45. Assumes nothing.
 use mathlib.Core.Path.{_≡_, refl, ap, ap₂, _∙_, subst}
-use mathlib.Core.Bool.{true, false, not, _&&_}
+use mathlib.Core.Bool.{Bool, true, false, not, _&&_}
 use mathlib.Core.List.{List, _∷_, _++_}
 use mathlib.Core.Option.{some}
 use Prim.Native.Nat.{ℕ, zero, suc, _+_, _-_, _≤_, _<_}
@@ -8,9 +8,9 @@ use native.Mathlib.Decide.{decLt, ℕ-discrete}
 use native.Mathlib.Omega.{arith}
 use lib.ListN.{length, getD, length-append}
 use borrow.Author.Tests.{lt-ltb}
-use Rattle.rules.specs.Table.{size, kind, operand, formulaNode, formulaChildren, treeEnd, isBeforeEnd}
+use Rattle.rules.specs.Table.{size, kind, operand, formulaNode, formulaChildren, referenceOf, treeEnd, isBeforeEnd}
 use Rattle.rules.specs.Formula.{isFixpoint}
-use Rattle.rules.specs.Refusal.{namesNoTree, badFormulaOperand, encloses, wrongReference}
+use Rattle.rules.specs.Refusal.{badFormulaOperand, encloses, wrongReference}
 use Rattle.tables.specs.Ends.{treeAfter}
 use Rattle.tables.proofs.Ends.{end-leaf, end-one, end-two}
 use Rattle.tables.proofs.Decode.{formula-children-none, formula-children-one, formula-children-two, formula-children-reference, fixpoint-yes}
@@ -116,10 +116,12 @@ module _ (row : List ActionSyntax) where
     surround-more around v e p t s zero h = (p, omega arith, (e, t, omega arith))
     surround-more around v e p t s (suc i) h = surround-inner around v e (suc v) e (omega arith) (omega arith) s i (omega arith)
 
-    module _ (acts : List ℕ) (named : (i : ℕ) → i < length row → namesNoTree acts (firstNode row i) ≡ false) where
+    module _ (noTree : ℕ → Bool) (named : (i : ℕ) → i < length row → noTree (firstNode row i) ≡ false) where
       -- node u passes
       abbrev pub FineNode : ℕ → Type 0
-      FineNode u = (kind f u ≤ 8) × (badFormulaOperand acts f u ≡ false) × (wrongReference f u (formulaNode f u) ≡ false)
+      FineNode u =
+          (kind f u ≤ 8) × (badFormulaOperand noTree f u ≡ false)
+          × (wrongReference f u (referenceOf (formulaNode f u)) ≡ false)
 
       -- the node itself, then the nodes after it
       fine-first : (v e u : ℕ) → FineNode v → (suc v ≤ u → u < e → FineNode u) → v ≤ u → u < e → FineNode u
@@ -137,16 +139,28 @@ module _ (row : List ActionSyntax) where
           go (no l) = right (omega arith) b
 
       fine-zero : (v : ℕ) → v < size f → kind f v ≤ 1 → operand f v ≡ 0 → FineNode v
-      fine-zero v h k o = (omega arith, formula-zero acts f v h k ∙ differ-no o, reference-other f v h (omega arith))
+      fine-zero v h k o =
+          (omega arith, formula-zero noTree f v h k ∙ differ-no o, reference-other f v h (λ z. omega arith))
 
       fine-fixpoint : (v : ℕ) → v < size f → 6 ≤ kind f v → kind f v ≤ 7 → operand f v ≡ 0 → FineNode v
-      fine-fixpoint v h a b o = (omega arith, formula-fixpoint acts f v h a b ∙ differ-no o, reference-other f v h (omega arith))
+      fine-fixpoint v h a b o =
+          (omega arith, formula-fixpoint noTree f v h a b ∙ differ-no o, reference-other f v h (λ z. omega arith))
 
       fine-action : (i v : ℕ) → v < size f → 4 ≤ kind f v → kind f v ≤ 5 → i < length row → operand f v ≡ firstNode row i → FineNode v
-      fine-action i v h a b l o = (omega arith, formula-action acts f v h a b ∙ ap (namesNoTree acts) o ∙ named i l, reference-other f v h (omega arith))
+      fine-action i v h a b l o = (
+        omega arith,
+        formula-action noTree f v h a b ∙ ap noTree o
+            ∙ named i l,
+        reference-other f v h (λ z. omega arith),
+      )
 
       fine-right : (v e : ℕ) → v < size f → 2 ≤ kind f v → kind f v ≤ 3 → operand f v ≡ e → treeEnd (formulaChildren f) (size f) (suc v) ≡ some e → FineNode v
-      fine-right v e h a b o t = (omega arith, formula-right acts f v h a b ∙ right-end (operand f v) e _ t o, reference-other f v h (omega arith))
+      fine-right v e h a b o t = (
+        omega arith,
+        formula-right noTree f v h a b
+            ∙ right-end (operand f v) e _ t o,
+        reference-other f v h (λ z. omega arith),
+      )
 
       fine-reference : (around : List ℕ) (i v : ℕ) → v < size f → kind f v ≡ 8 → operand f v ≡ getD around i 0 → i < length around → Surround around v (v + 1) → FineNode v
       unfolding encloses isBeforeEnd
@@ -154,7 +168,7 @@ module _ (row : List ActionSyntax) where
           let (p, q, (x, r, y)) = s i l in
           let e : (isFixpoint (formulaNode f (getD around i 0)) && encloses f (getD around i 0) v) ≡ true = rw (p, lt-ltb (getD around i 0) v q, r) (lt-ltb v x (omega arith)) in (
             omega arith,
-            formula-other acts f v h (omega arith),
+            formula-other noTree f v h (omega arith),
             reference-test f v h k
                 ∙ ap (λ (u : ℕ). not (isFixpoint (formulaNode f u) && encloses f u v)) o
                 ∙ ap not e,

@@ -11,18 +11,19 @@ use lib.ListN.{length, getD}
 use lib.Dec.{eqb, ltb}
 use borrow.Author.Tests.{ltb-true, lt-ltb, le-ltb}
 use Rattle.rules.specs.declared.Check.the-variants.{Passed}
-use Rattle.rules.specs.Lists.{In, place}
+use Rattle.rules.specs.Lists.{In, position}
 use Rattle.rules.specs.Table.{size, kind, operand, FormulaNode, truthNode, falsityNode, andNode, orNode, boxNode, diamondNode, leastNode, greatestNode, referenceNode, noFormulaNode, decodeFormula}
 use Rattle.rules.specs.Table.{formulaNode, formulaChildren, treeEnd, isBeforeEnd}
 use Rattle.rules.specs.Formula.{isFixpoint}
-use Rattle.rules.specs.Refusal.{faultFrom, badFormulaOperand, wrongEnd, refusal43, refusal44, refusal45}
+use Rattle.rules.specs.Refusal.{faultFrom, namesNoTree, badFormulaOperand, wrongEnd, refusal43, refusal44, refusal45}
 use Rattle.lists.specs.Shapes.{Falling}
-use Rattle.lists.proofs.Members.{place-below, place-at, place-of}
+use Rattle.lists.proofs.Members.{position-below, position-at, position-of}
 use Rattle.lists.proofs.Shapes.{falling-above, falling-distinct}
 use Rattle.lists.proofs.Equalities.{number-equality}
 use Rattle.tables.proofs.Ends.{end-bounds, end-leaf, end-one}
 use Rattle.tables.proofs.Finished.{tree-inside}
-use Rattle.tables.proofs.Decode.{formula-children-none, formula-children-one, formula-children-reference, fixpoint-low}
+use Rattle.tables.proofs.Decode.{formula-kinds, formula-children-none, formula-children-one, formula-children-reference}
+use Rattle.tables.proofs.Decode.{fixpoint-low}
 use Rattle.tables.proofs.Operands.{formula-zero, formula-fixpoint}
 use Rattle.tables.proofs.Faults.{from-passed, lower-both}
 use Rattle.tables.proofs.Accepted.{formula-known, formula-right-child, formula-names, formula-refers}
@@ -86,12 +87,14 @@ module _ (f : List ℕ) where
           let i = before-end r x _ q b in
           absurd (omega arith)
 
-module _ (row : List ActionSyntax) (f : List ℕ) (r43 : refusal43 f ≡ Passed) (r44 : refusal44 (rowWords row) f ≡ Passed) (r45 : refusal45 f ≡ Passed) where
-  right-operand : (v : ℕ) → v < size f → badFormulaOperand (rowWords row) f v ≡ false
+module _ (row : List ActionSyntax) (f : List ℕ) (r43 : refusal43 f ≡ Passed)
+    (r44 : refusal44 (namesNoTree (rowWords row)) f ≡ Passed) (r45 : refusal45 f ≡ Passed) where
+  right-operand : (v : ℕ) → v < size f → badFormulaOperand (namesNoTree (rowWords row)) f v ≡ false
   unfolding refusal44
   right-operand v h =
-      let (a, b) = lower-both (faultFrom 44 0 (size f) (badFormulaOperand (rowWords row) f)) (wrongEnd (size f) (treeEnd (formulaChildren f) (size f) 0)) r44 in
-      from-passed 44 0 (size f) (badFormulaOperand (rowWords row) f) a v (omega arith) h
+      let (a, b) = lower-both (faultFrom 44 0 (size f) (badFormulaOperand (namesNoTree (rowWords row)) f))
+      (wrongEnd (size f) (treeEnd (formulaChildren f) (size f) 0)) r44 in
+      from-passed 44 0 (size f) (badFormulaOperand (namesNoTree (rowWords row)) f) a v (omega arith) h
 
   module _ (around : List ℕ) (v e : ℕ) (h : treeEnd (formulaChildren f) (size f) v ≡ some e) where
     inside : v < size f
@@ -103,10 +106,14 @@ module _ (row : List ActionSyntax) (f : List ℕ) (r43 : refusal43 f ≡ Passed)
         omega arith
 
     zero-operand : kind f v ≤ 1 → operand f v ≡ 0
-    zero-operand k = differ-false (operand f v) 0 (sym (formula-zero (rowWords row) f v inside k) ∙ right-operand v inside)
+    zero-operand k =
+        differ-false (operand f v) 0
+        (sym (formula-zero (namesNoTree (rowWords row)) f v inside k) ∙ right-operand v inside)
 
     zero-fixpoint : 6 ≤ kind f v → kind f v ≤ 7 → operand f v ≡ 0
-    zero-fixpoint a b = differ-false (operand f v) 0 (sym (formula-fixpoint (rowWords row) f v inside a b) ∙ right-operand v inside)
+    zero-fixpoint a b =
+        differ-false (operand f v) 0
+        (sym (formula-fixpoint (namesNoTree (rowWords row)) f v inside a b) ∙ right-operand v inside)
 
     from-true : kind f v ≡ 0 → FormulaFrom row f around v e
     unfolding writeFormula formulaSize
@@ -134,10 +141,10 @@ module _ (row : List ActionSyntax) (f : List ℕ) (r43 : refusal43 f ≡ Passed)
         let (p, q, r) = formula-refers (rowWords row) f r43 r44 r45 v inside (omega arith) in
         let m = c (operand f v) p q r in
         record {
-          tree = referenceFormula (place eqb (operand f v) around);
-          names = place-below number-equality (operand f v) around m;
+          tree = referenceFormula (position eqb (operand f v) around);
+          names = position-below number-equality (operand f v) around m;
           ends = leaf-end (formula-children-reference f v inside (omega arith));
-          holds = (k, sym (place-at number-equality (operand f v) around 0 m), tt);
+          holds = (k, sym (position-at number-equality (operand f v) around 0 m), tt);
         }
 
     from-least : kind f v ≡ 6 → FormulaFrom row f (v ∷ around) (suc v) e → FormulaFrom row f around v e
@@ -210,8 +217,7 @@ module _ (row : List ActionSyntax) (f : List ℕ) (r43 : refusal43 f ≡ Passed)
       → FormulaFrom row f around v e
   formula-from zero around v e l h c = let i = inside around v e h in absurd (omega arith)
   formula-from (suc d) around v e l h c =
-      go (formula-from d) (decLt (kind f v) 1) (decLt (kind f v) 2) (decLt (kind f v) 3) (decLt (kind f v) 4) (decLt (kind f v) 5)
-      (decLt (kind f v) 6) (decLt (kind f v) 7) (decLt (kind f v) 8)
+      by-kind (formula-from d) (kind f v) refl
     where
       i : v < size f
       i = inside around v e h
@@ -241,17 +247,24 @@ module _ (row : List ActionSyntax) (f : List ℕ) (r43 : refusal43 f ≡ Passed)
       body : Later → 6 ≤ kind f v → kind f v ≤ 7 → FormulaFrom row f (v ∷ around) (suc v) e
       body later a b = later (v ∷ around) (suc v) e (omega arith) (next (omega arith) b) (complete-more f around v c)
 
-      go : Later → Dec (kind f v < 1) → Dec (kind f v < 2) → Dec (kind f v < 3) → Dec (kind f v < 4) → Dec (kind f v < 5) → Dec (kind f v < 6)
-          → Dec (kind f v < 7) → Dec (kind f v < 8) → FormulaFrom row f around v e
-      go later (yes z) k1 k2 k3 k4 k5 k6 k7 = from-true around v e h (omega arith)
-      go later (no k0) (yes z) k2 k3 k4 k5 k6 k7 = from-false around v e h (omega arith)
-      go later (no k0) (no k1) (yes z) k3 k4 k5 k6 k7 = from-and around v e h (omega arith) (left later (omega arith) (omega arith)) (right later (omega arith) (omega arith))
-      go later (no k0) (no k1) (no k2) (yes z) k4 k5 k6 k7 = from-or around v e h (omega arith) (left later (omega arith) (omega arith)) (right later (omega arith) (omega arith))
-      go later (no k0) (no k1) (no k2) (no k3) (yes z) k5 k6 k7 = from-box around v e h (omega arith) (modal later (omega arith) (omega arith))
-      go later (no k0) (no k1) (no k2) (no k3) (no k4) (yes z) k6 k7 = from-diamond around v e h (omega arith) (modal later (omega arith) (omega arith))
-      go later (no k0) (no k1) (no k2) (no k3) (no k4) (no k5) (yes z) k7 = from-least around v e h (omega arith) (body later (omega arith) (omega arith))
-      go later (no k0) (no k1) (no k2) (no k3) (no k4) (no k5) (no k6) (yes z) = from-greatest around v e h (omega arith) (body later (omega arith) (omega arith))
-      go later (no k0) (no k1) (no k2) (no k3) (no k4) (no k5) (no k6) (no k7) = from-reference around v e h (omega (arith, k)) c
+      two : Later → (FormulaFrom row f around (suc v) (operand f v) → FormulaFrom row f around (operand f v) e
+          → FormulaFrom row f around v e)
+          → 2 ≤ kind f v → kind f v ≤ 3 → FormulaFrom row f around v e
+      two later join a b = join (left later a b) (right later a b)
+
+      by-kind : Later → (j : ℕ) → kind f v ≡ j → FormulaFrom row f around v e
+      by-kind later =
+          formula-kinds 0 (λ j n. kind f v ≡ j → FormulaFrom row f around v e)
+          (λ z. from-true around v e h z)
+          (λ z. from-false around v e h z)
+          (λ z. two later (from-and around v e h z) (omega arith) (omega arith))
+          (λ z. two later (from-or around v e h z) (omega arith) (omega arith))
+          (λ z. from-box around v e h z (modal later (omega arith) (omega arith)))
+          (λ z. from-diamond around v e h z (modal later (omega arith) (omega arith)))
+          (λ z. from-least around v e h z (body later (omega arith) (omega arith)))
+          (λ z. from-greatest around v e h z (body later (omega arith) (omega arith)))
+          (λ z. from-reference around v e h z c)
+          (λ j g z. absurd (omega (arith, k)))
 
 -- ---- a formula is written in its own way
 
@@ -279,7 +292,7 @@ module _ (row : List ActionSyntax) where
   syntaxOf tree around v (diamondNode a) = diamondFormula (treeOf row a) (tree around (suc v))
   syntaxOf tree around v leastNode = leastFormula (tree (v ∷ around) (suc v))
   syntaxOf tree around v greatestNode = greatestFormula (tree (v ∷ around) (suc v))
-  syntaxOf tree around v (referenceNode u) = referenceFormula (place eqb u around)
+  syntaxOf tree around v (referenceNode u) = referenceFormula (position eqb u around)
   syntaxOf tree around v noFormulaNode = falseFormula
 
   syntaxTo : (depth : ℕ) → List ℕ → List ℕ → ℕ → FormulaSyntax
@@ -320,7 +333,7 @@ module _ (row : List ActionSyntax) where
       syntax-step d f around v 7 0 k o ∙ ap greatestFormula (syntax-reads b d f (v ∷ around) (suc v) h ns (omega arith, a) (omega arith))
   syntax-reads (referenceFormula i) (suc d) f around v (k, o, h) ns a l =
       syntax-step d f around v 8 (getD around i 0) k o
-      ∙ ap referenceFormula (place-of number-equality around i 0 (falling-distinct v around a) ns)
+      ∙ ap referenceFormula (position-of number-equality around i 0 (falling-distinct v around a) ns)
 
   -- two closed formulas whose nodes are the same are the same
   pub formula-same : (t u : FormulaSyntax) (f : List ℕ) → Holds (writeFormula row t [] 0) f 0 → Holds (writeFormula row u [] 0) f 0

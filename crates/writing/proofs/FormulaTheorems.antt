@@ -13,11 +13,11 @@ use Rattle.rules.specs.declared.Check.the-variants.{Passed}
 use Rattle.rules.specs.Words.{Input, inputOf, mostNodes}
 use Rattle.rules.specs.Answers.{firstFault}
 use Rattle.rules.specs.Labels.{labelCount}
-use Rattle.rules.specs.Table.{size, kind, formulaNode, formulaChildren, treeEnd}
+use Rattle.rules.specs.Table.{size, kind, formulaNode, formulaChildren, referenceOf, treeEnd}
 use Rattle.rules.specs.Formula.{least, Equation, Formula, isFixpoint, equations, equationsBefore, equationNumber, formulaTree, bodyTree}
 use Rattle.rules.specs.Refusal.{refusal31, refusal32, refusal33, refusal34}
 use Rattle.rules.specs.Refusal.{outside, namesNoTree, badFormulaOperand, wrongEnd, wrongReference, refusal41, refusal42, refusal43, refusal44, refusal45, inputRefusal}
-use Rattle.rules.specs.Good.{GoodFormula}
+use Rattle.tables.specs.Good.{GoodFormula}
 use Rattle.tables.proofs.Faults.{if-false, from-none, lower-passed, first-passed, first-next, then-passed, then-both, first-none}
 use Rattle.tables.proofs.Accepted.{good-formula, formula-whole}
 use Rattle.trees.proofs.Equations.{start-fixpoint, start-placeholder, number-start, number-start-placeholder}
@@ -52,11 +52,13 @@ module _ (row : List ActionSyntax) (t : FormulaSyntax) where
     names-one i h = let (a, b) = first-nodes row i h in rw (lt-leb (size (rowWords row)) (firstNode row i) a, b) refl
 
     formula-passes : (v : ℕ) → v < size (formulaWords row t)
-        → (kind (formulaWords row t) v ≤ 8) × (badFormulaOperand (rowWords row) (formulaWords row t) v ≡ false)
-        × (wrongReference (formulaWords row t) v (formulaNode (formulaWords row t) v) ≡ false)
+        → (kind (formulaWords row t) v ≤ 8)
+        × (badFormulaOperand (namesNoTree (rowWords row)) (formulaWords row t) v ≡ false)
+        × (wrongReference (formulaWords row t) v (referenceOf (formulaNode (formulaWords row t) v)) ≡ false)
     formula-passes v h =
         let b = formula-words-size in
-        formula-fine row (formulaWords row t) (rowWords row) names-one t [] 0 formula-words-hold (omega arith) (fits .closed) (λ i l. absurd (omega arith)) v
+        formula-fine row (formulaWords row t) (namesNoTree (rowWords row)) names-one t [] 0 formula-words-hold
+        (omega arith) (fits .closed) (λ i l. absurd (omega arith)) v
         (omega arith) (omega arith)
 
     passes-42 : refusal42 (formulaWords row t) ≡ Passed
@@ -72,19 +74,22 @@ module _ (row : List ActionSyntax) (t : FormulaSyntax) where
     passes-43 =
         from-none 43 0 (size (formulaWords row t)) (λ v. ltb 8 (kind (formulaWords row t) v)) (λ v a b. le-ltb 8 (kind (formulaWords row t) v) (formula-passes v b .0))
 
-    passes-44 : refusal44 (rowWords row) (formulaWords row t) ≡ Passed
+    passes-44 : refusal44 (namesNoTree (rowWords row)) (formulaWords row t) ≡ Passed
     unfolding refusal44 wrongEnd
     passes-44 =
         let b = formula-words-size in
         lower-passed (wrongEnd (size (formulaWords row t)) (treeEnd (formulaChildren (formulaWords row t)) (size (formulaWords row t)) 0))
-        (from-none 44 0 (size (formulaWords row t)) (badFormulaOperand (rowWords row) (formulaWords row t)) (λ v x y. formula-passes v y .1))
+        (from-none 44 0 (size (formulaWords row t))
+        (badFormulaOperand (namesNoTree (rowWords row)) (formulaWords row t)) (λ v x y. formula-passes v y .1))
         ∙ ap (wrongEnd (size (formulaWords row t))) (formula-ends row (formulaWords row t) t [] 0 formula-words-hold (omega arith))
         ∙ if-false 44 (0 + formulaSize t) (le-ltb (0 + formulaSize t) (size (formulaWords row t)) (omega arith))
 
     passes-45 : refusal45 (formulaWords row t) ≡ Passed
     unfolding refusal45
     passes-45 =
-        from-none 45 0 (size (formulaWords row t)) (λ v. wrongReference (formulaWords row t) v (formulaNode (formulaWords row t) v)) (λ v a b. formula-passes v b .2)
+        from-none 45 0 (size (formulaWords row t))
+        (λ v. wrongReference (formulaWords row t) v (referenceOf (formulaNode (formulaWords row t) v)))
+        (λ v a b. formula-passes v b .2)
 
     -- the words of a closed formula within the limits are accepted
     pub written-formula-accepted : FormulaAccepted (rowWords row) (formulaWords row t)
@@ -184,7 +189,8 @@ written-input-accepted x h w =
     (subst (FormulaAccepted (rowWords (w .row))) (sym (w .wholeWords)) (written-formula-accepted (w .row) (w .whole) (w .formulaFits))) in
     both-pass (labelAndSystemChecks x)
     (refusal31 (x .actions) ∷ refusal32 (x .actions) ∷ refusal33 (x .actions) ∷ refusal34 (x .labels) (x .actions)
-    ∷ refusal41 (x .formula) ∷ refusal42 (x .formula) ∷ refusal43 (x .formula) ∷ refusal44 (x .actions) (x .formula) ∷ refusal45 (x .formula) ∷ [])
+    ∷ refusal41 (x .formula) ∷ refusal42 (x .formula) ∷ refusal43 (x .formula)
+    ∷ refusal44 (namesNoTree (x .actions)) (x .formula) ∷ refusal45 (x .formula) ∷ [])
     h
     (pass-more _ _ (a .long) (pass-more _ _ (a .few) (pass-more _ _ (a .kinds) (pass-more _ _ (a .operands)
     (pass-more _ _ (f .long) (pass-more _ _ (f .few) (pass-more _ _ (f .kinds) (pass-more _ _ (f .operands) (pass-more _ _ (f .references) first-none)))))))))

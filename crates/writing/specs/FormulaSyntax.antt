@@ -12,7 +12,7 @@ use Rattle.rules.specs.Labels.{labelCount}
 use Rattle.rules.specs.Actions.{Action}
 use Rattle.rules.specs.Formula.{Operator, least, greatest, Equation, equations, Formula, truth, falsity, conjunction, disjunction, box, diamond, reference, bodyTree}
 use Rattle.rules.specs.Refusal.{refusal11, refusal12, refusal13, refusal21, refusal22, refusal23, refusal24, refusal25, refusal26}
-use Rattle.rules.specs.Refusal.{refusal41, refusal42, refusal43, refusal44, refusal45}
+use Rattle.rules.specs.Refusal.{namesNoTree, refusal41, refusal42, refusal43, refusal44, refusal45}
 use Rattle.writing.specs.Nodes.{Node, tableWords}
 use Rattle.writing.specs.ActionSyntax.{ActionSyntax, trueAction, rowWords, firstNode, RowFits, readAction}
 
@@ -80,7 +80,7 @@ pub record FormulaAccepted (acts f : List ℕ) : Type 0 where
   pub long : refusal41 f ≡ Passed
   pub few : refusal42 f ≡ Passed
   pub kinds : refusal43 f ≡ Passed
-  pub operands : refusal44 acts f ≡ Passed
+  pub operands : refusal44 (namesNoTree acts) f ≡ Passed
   pub references : refusal45 f ≡ Passed
 
 -- how many fixpoints stand in it

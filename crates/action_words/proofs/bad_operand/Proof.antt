@@ -1,4 +1,6 @@
 use mathlib.Core.Path.{_∙_}
+use denote.Ref.{now}
+use Rattle.rules.specs.Table.{actionChildren}
 use Rattle.action_words.proofs.Actions.{constant-operand, label-operand, right-operand, negation-operand, unknown-operand}
 use borrow.Author.Needs.{needs}
 use Rattle.action_words.proofs.bad_operand.Statement.{statement}
@@ -30,7 +32,10 @@ not-right-child-requires c κs = search needs
 
 -- src/lib.rt:27:9
 returns-3 : tie.Need-returns-3
-returns-3 c = c .not-right-child .ensures ∙ right-operand _ _ _ _ _ (c .before .before .before .before .before .before .before .before .pre .0 .2) (c .before .before .before .before .before .kind-at .ensures) (c .before .before .before .before .operand-at .ensures) (c .before .before .if2 .left) (c .before .if3 .taken)
+returns-3 c = let s = c .before .before .before .before .before .before .before .before in
+    c .not-right-child .ensures (actionChildren (now (s .args .acts))) (s .pre .1)
+    ∙ right-operand _ _ _ _ _ (s .pre .0 .2) (c .before .before .before .before .before .kind-at .ensures)
+    (c .before .before .before .before .operand-at .ensures) (c .before .before .if2 .left) (c .before .if3 .taken)
 
 -- src/lib.rt:30:9
 returns-4 : tie.Need-returns-4

@@ -1,4 +1,6 @@
 use lib.ListN.{length-replicate}
+use denote.Ref.{now}
+use Rattle.rules.specs.Table.{actionChildren}
 use mathlib.Core.Bool.{Bool, false}
 use Rattle.table_words.proofs.Row.{blank}
 use borrow.Author.Needs.{needs}
@@ -11,11 +13,17 @@ tree-ends-requires c κs = search needs
 
 -- src/lib.rt:68:5
 first-nodes-requires : tie.Need-first-nodes-requires
-first-nodes-requires c κs = ((c .before .before .before .before .before .before .pre .1, length-replicate {A = Bool} 1025 false), (c .before .before .tree-ends .ensures .0, λ v. blank 1025 v))
+first-nodes-requires c κs = let s = c .before .before .before .before .before .before in (
+  (s .pre .1, length-replicate {A = Bool} 1025 false),
+  ((actionChildren (now (s .args .acts)), c .before .before .tree-ends .ensures .0), λ v. blank 1025 v),
+)
 
 -- src/lib.rt:69:5
 check-operands-requires : tie.Need-check-operands-requires
-check-operands-requires c κs = search needs
+check-operands-requires c κs =
+    let s = c .before .before .before .before .before .before .before .before .before in
+    let known = c .before .before .before .before .before .tree-ends .ensures .0 in
+    (s .pre, (known, c .before .before .first-nodes .ensures (actionChildren (now (s .args .acts))) known))
 
 -- src/lib.rt:61:1
 returns : tie.Need-returns

@@ -1,4 +1,6 @@
 use mathlib.Core.Path.{_∙_}
+use denote.Ref.{now}
+use Rattle.rules.specs.Table.{formulaChildren}
 use Rattle.formula_words.proofs.Formula.{constant-operand, right-operand, action-operand, fixpoint-operand, other-operand}
 use borrow.Author.Needs.{needs}
 use Rattle.formula_words.proofs.bad_operand.Statement.{statement}
@@ -22,7 +24,10 @@ not-right-child-requires c κs = search needs
 
 -- src/lib.rt:41:9
 returns-2 : tie.Need-returns-2
-returns-2 c = c .not-right-child .ensures ∙ right-operand _ _ _ _ _ (c .before .before .before .before .before .before .before .pre .1 .1) (c .before .before .before .before .kind-at .ensures) (c .before .before .before .operand-at .ensures) (c .before .before .if1 .left) (c .before .if2 .taken)
+returns-2 c = let s = c .before .before .before .before .before .before .before in
+    c .not-right-child .ensures (formulaChildren (now (s .args .f))) (s .pre .1 .2)
+    ∙ right-operand _ _ _ _ _ (s .pre .1 .1) (c .before .before .before .before .kind-at .ensures)
+    (c .before .before .before .operand-at .ensures) (c .before .before .if1 .left) (c .before .if2 .taken)
 
 -- src/lib.rt:44:9
 names-no-tree-requires : tie.Need-names-no-tree-requires

@@ -6,7 +6,7 @@ use lib.Dec.{eqb, ltb}
 use denote.Ref.{now}
 use Rattle.rules.specs.Answers.{faultIf, andThen}
 use Rattle.rules.specs.Table.{size, formulaChildren}
-use Rattle.rules.specs.Refusal.{faultFrom, badFormulaOperand, refusal44}
+use Rattle.rules.specs.Refusal.{faultFrom, namesNoTree, badFormulaOperand, refusal44}
 use Rattle.tables.specs.Ends.{endOf}
 use Rattle.tables.proofs.Faults.{from-stop, from-next, from-done, then-fault, then-passed, then-same}
 use Rattle.tables.proofs.Pools.{refusal44-scan}
@@ -16,7 +16,11 @@ use Rattle.formula_words.proofs.check_operands.Statement.{statement}
 use Rattle.formula_words.proofs.check_operands.Tie as tie
 
 abbrev Inv-loop : tie.InvT-loop
-Inv-loop acts firsts f ends n end v₀ v = refusal44 acts f ≡ andThen (faultFrom 44 v (size f) (λ j. badFormulaOperand acts f j || eqb j (endOf (formulaChildren f) (size f) 0))) (faultIf 44 (size f) (ltb (size f) (endOf (formulaChildren f) (size f) 0)))
+Inv-loop acts firsts f ends n end v₀ v =
+    refusal44 (namesNoTree acts) f
+    ≡ andThen (faultFrom 44 v (size f)
+    (λ j. badFormulaOperand (namesNoTree acts) f j || eqb j (endOf (formulaChildren f) (size f) 0)))
+    (faultIf 44 (size f) (ltb (size f) (endOf (formulaChildren f) (size f) 0)))
 
 abbrev μ-loop : tie.MeasureT-loop
 μ-loop acts firsts f ends n end v₀ v = n - v
@@ -44,7 +48,10 @@ cast-t13 c = search needs
 -- src/lib.rt:68:13
 returns : tie.Need-returns Inv-loop μ-loop
 returns c = let s = c .before .before .before .before .before .before .before .before in
-    sym (c .before .before .before .loop .inv ∙ then-fault _ (from-stop _ _ _ _ (omega arith) (bad-node (now (s .args .acts)) (now (s .args .f)) (c .before .before .before .loop .v) _ _ (c .before .bad-operand .ensures) (s .pre .1 .1 0 (omega arith)) (c .if1 .taken))))
+    sym (c .before .before .before .loop .inv
+    ∙ then-fault _ (from-stop _ _ _ _ (omega arith)
+    (bad-node (namesNoTree (now (s .args .acts))) (now (s .args .f)) (c .before .before .before .loop .v) _ _
+    (c .before .bad-operand .ensures) (s .pre .1 .1 0 (omega arith)) (c .if1 .taken))))
 
 -- src/lib.rt:71:37
 cast-t14 : tie.Need-cast-t14 Inv-loop μ-loop
@@ -53,7 +60,10 @@ cast-t14 c = search needs
 -- src/lib.rt:71:13
 returns-2 : tie.Need-returns-2 Inv-loop μ-loop
 returns-2 c = let s = c .before .before .before .before .before .before .before .before .before in
-    sym (c .before .before .before .before .loop .inv ∙ then-fault _ (from-stop _ _ _ _ (omega arith) (left-over (now (s .args .acts)) (now (s .args .f)) (c .before .before .before .before .loop .v) _ _ (c .before .before .bad-operand .ensures) (s .pre .1 .1 0 (omega arith)) (c .if2 .taken))))
+    sym (c .before .before .before .before .loop .inv
+    ∙ then-fault _ (from-stop _ _ _ _ (omega arith)
+    (left-over (namesNoTree (now (s .args .acts))) (now (s .args .f)) (c .before .before .before .before .loop .v) _
+    _ (c .before .before .bad-operand .ensures) (s .pre .1 .1 0 (omega arith)) (c .if2 .taken))))
 
 -- src/lib.rt:73:9
 add-v : tie.Need-add-v Inv-loop μ-loop
@@ -66,7 +76,11 @@ loop-less c = search needs
 -- src/lib.rt:66:5
 loop-again : tie.Need-loop-again Inv-loop μ-loop
 loop-again c = let s = c .before .before .before .before .before .before .before .before .before in
-    c .before .before .before .before .loop .inv ∙ then-same _ (from-next _ _ _ _ (good-node (now (s .args .acts)) (now (s .args .f)) (c .before .before .before .before .loop .v) _ _ (c .before .before .bad-operand .ensures) (s .pre .1 .1 0 (omega arith)) (c .before .if1 .left) (c .if2 .left)))
+    c .before .before .before .before .loop .inv
+    ∙ then-same _ (from-next _ _ _ _
+    (good-node (namesNoTree (now (s .args .acts))) (now (s .args .f)) (c .before .before .before .before .loop .v) _
+    _ (c .before .before .bad-operand .ensures) (s .pre .1 .1 0 (omega arith)) (c .before .if1 .left)
+    (c .if2 .left)))
 
 -- src/lib.rt:76:33
 cast-t16 : tie.Need-cast-t16 Inv-loop μ-loop

@@ -1,7 +1,7 @@
 use Prim.Native.Nat.{_-_}
 use native.Mathlib.Omega.{arith}
 use mathlib.Core.Path.{_≡_, sym, _∙_}
-use Rattle.rules.specs.Table.{size, formulaNode}
+use Rattle.rules.specs.Table.{size, formulaNode, referenceOf}
 use Rattle.rules.specs.Refusal.{faultFrom, wrongReference, refusal45}
 use Rattle.tables.proofs.Faults.{from-stop, from-next, from-done}
 use Rattle.formula_words.proofs.References.{references-45}
@@ -10,7 +10,7 @@ use Rattle.formula_words.proofs.check_references.Statement.{statement}
 use Rattle.formula_words.proofs.check_references.Tie as tie
 
 abbrev Inv-loop : tie.InvT-loop
-Inv-loop f ends n v₀ v = refusal45 f ≡ faultFrom 45 v (size f) (λ j. wrongReference f j (formulaNode f j))
+Inv-loop f ends n v₀ v = refusal45 f ≡ faultFrom 45 v (size f) (λ j. wrongReference f j (referenceOf (formulaNode f j)))
 
 abbrev μ-loop : tie.MeasureT-loop
 μ-loop f ends n v₀ v = n - v

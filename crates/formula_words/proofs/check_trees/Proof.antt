@@ -1,4 +1,6 @@
 use lib.ListN.{length-replicate}
+use denote.Ref.{now}
+use Rattle.rules.specs.Table.{actionChildren}
 use mathlib.Core.Path.{sym, _∙_}
 use mathlib.Core.Bool.{Bool, false}
 use Rattle.tables.proofs.Faults.{first-fault, first-next, first-one}
@@ -13,7 +15,10 @@ tree-ends-requires c κs = search needs
 
 -- src/lib.rt:131:5
 first-nodes-requires : tie.Need-first-nodes-requires
-first-nodes-requires c κs = ((c .before .before .before .before .before .before .pre .0, length-replicate {A = Bool} 1025 false), (c .before .before .tree-ends .ensures .0, λ v. blank 1025 v))
+first-nodes-requires c κs = let s = c .before .before .before .before .before .before in (
+  (s .pre .0, length-replicate {A = Bool} 1025 false),
+  ((actionChildren (now (s .args .acts)), c .before .before .tree-ends .ensures .0), λ v. blank 1025 v),
+)
 
 -- src/lib.rt:132:5
 tree-ends-requires-2 : tie.Need-tree-ends-requires-2
@@ -21,7 +26,11 @@ tree-ends-requires-2 c κs = search needs
 
 -- src/lib.rt:133:9
 check-operands-requires : tie.Need-check-operands-requires
-check-operands-requires c κs = search needs
+check-operands-requires c κs =
+    let s = c .before .before .before .before .before .before .before .before .before .before .before in
+    let known = c .before .before .before .before .before .before .before .tree-ends .ensures .0 in
+    let firsts = c .before .before .before .before .first-nodes .ensures (actionChildren (now (s .args .acts))) known in
+    ((s .pre .0, firsts), (s .pre .1, c .before .before .tree-ends2 .ensures .0))
 
 -- src/lib.rt:135:22
 enum-known-nodes : tie.Need-enum-known-nodes

@@ -1,22 +1,26 @@
-use mathlib.Core.Path.{refl, sym, ap, _∙_}
+use mathlib.Core.Path.{ap, _∙_}
+use Rattle.player.specs.Player.{playerIndex}
 use Rattle.rules.specs.Game.{stuckPriority}
 use borrow.Author.Needs.{needs}
 use Rattle.game_writer.proofs.stuck_priority.Statement.{statement}
 use Rattle.game_writer.proofs.stuck_priority.Tie as tie
+use Rattle.game_writer.proofs.stuck_priority.Reads as reads
+use Rattle.game_writer.proofs.stuck_priority.Lts as lts
+use Rattle.player.proofs.opponent.Reads as opponent-reads
+use Rattle.player.proofs.to_index.Reads as to-index-reads
 
-enum-told : tie.Need-enum-told
-enum-told c = search needs
+-- src/lib.rt:45:23
+opponent-requires : tie.Need-opponent-requires
+opponent-requires c κs = search needs
 
-enum-told-2 : tie.Need-enum-told-2
-enum-told-2 c = search needs
+-- src/lib.rt:45:14
+to-index-requires : tie.Need-to-index-requires
+to-index-requires c κs = search needs
 
+-- src/lib.rt:42:1
 returns : tie.Need-returns
 unfolding stuckPriority
-returns c = sym (ap stuckPriority (c .enum-told .given .1) ∙ refl)
-
-returns-2 : tie.Need-returns-2
-unfolding stuckPriority
-returns-2 c = sym (ap stuckPriority (c .enum-told2 .given .1) ∙ refl)
+returns c = c .to-index .ensures ∙ ap playerIndex (c .before .opponent .ensures)
 
 pub stuck-priority-spec : {M : Type 1} → statement M
-stuck-priority-spec = tie.close (tie.spec enum-told enum-told-2 returns returns-2)
+stuck-priority-spec = tie.close (tie.spec opponent-requires to-index-requires returns)

@@ -1,9 +1,8 @@
-use Prim.Native.Nat.{ℕ, _+_, _*_}
-use mathlib.Core.Path.{ap}
+use Prim.Native.Nat.{_+_, _-_, _*_}
 use denote.Ref.{now}
 use native.Mathlib.Omega.{arith}
-use mathlib.Core.Path.{sym, _∙_}
-use Rattle.game_writer.proofs.Vertices.{wrote-none, wrote-some}
+use Rattle.settling.proofs.Buffer.{degree-settled}
+use Rattle.game_writer.proofs.Vertices.{settled-read, waits-read, wrote-none, wrote-some}
 use borrow.Author.Needs.{needs}
 use Rattle.game_writer.proofs.write_edges.Statement.{statement}
 use Rattle.game_writer.proofs.write_edges.Tie as tie
@@ -11,17 +10,20 @@ use Rattle.game_writer.proofs.write_edges.Tie as tie
 region-word-requires : tie.Need-region-word-requires
 region-word-requires c κs = search needs
 
+returns : tie.Need-returns
+returns c = wrote-none _ _ _ _ _ (waits-read _ _ _ _ (c .before .region-word .ensures) (c .if1 .taken))
+
+region-word-requires-2 : tie.Need-region-word-requires-2
+region-word-requires-2 c κs = search needs
+
 cast-count : tie.Need-cast-count
 cast-count c = search needs
-
-returns : tie.Need-returns
-returns c = wrote-none _ _ _ _ _ (sym (c .before .region-word .ensures) ∙ c .if1 .taken)
 
 mul-first : tie.Need-mul-first
 mul-first c = search needs
 
-region-word-requires-2 : tie.Need-region-word-requires-2
-region-word-requires-2 c κs = search needs
+sub-first : tie.Need-sub-first
+sub-first c = search needs
 
 cast-first : tie.Need-cast-first
 cast-first c = search needs
@@ -34,8 +36,12 @@ add-copy c = search needs
 
 copy-requires : tie.Need-copy-requires
 copy-requires c κs =
-    let h = c .before .before .before .before .before .before .pre .1 (omega (arith, c .before .before .before .region-word .ensures, c .before .before .if1 .left)) in
-    (omega arith, omega (arith, h, c .before .before .before .region-word .ensures, c .before .region-word2 .ensures), omega (arith, c .before .before .before .before .before .before .pre .0 .2, c .before .before .before .region-word .ensures))
+    let s = c .before .before .before .before .before .before in
+    let d = settled-read _ _ _ _ (c .before .before .before .region-word .ensures) (c .before .before .if1 .left) in (
+      omega arith,
+      omega (arith, s .pre .1 d, c .before .before .before .region-word .ensures, c .before .region-word2 .ensures),
+      omega (arith, s .pre .0 .2, degree-settled _ _ _ d, c .before .region-word2 .ensures),
+    )
 
 same-length : tie.Need-same-length
 same-length c = search needs
@@ -43,19 +49,25 @@ same-length c = search needs
 returns-2 : tie.Need-returns-2
 returns-2 c =
     let s = c .before .before .before .before .before .before .before .before .before in
-    let h = s .pre .1 (omega (arith, c .before .before .before .before .before .before .region-word .ensures, c .before .before .before .before .before .if1 .left)) in
-    wrote-some (now (s .args .work)) (s .args .v) (s .args .u .0) (8 * s .args .v + c .before .before .before .before .region-word2 .result) (c .before .before .before .before .before .before .region-word .result)
-    (ap (λ (k : ℕ). 8 * s .args .v + k) (c .before .before .before .before .region-word2 .ensures)) (c .before .before .before .before .before .before .region-word .ensures) (omega (arith, h, c .before .before .before .before .before .before .region-word .ensures, c .before .before .before .before .region-word2 .ensures)) (c .before .before .copy .ensures)
+    let two = c .before .before .before .before in
+    let one = two .before .before in
+    let d = settled-read _ _ _ _ (one .region-word .ensures) (two .before .if1 .left) in
+    wrote-some (now (s .args .work)) (s .args .v) (s .args .u .0)
+    (8 * s .args .v + (one .region-word .result - 1)) (two .region-word2 .result) d
+    (omega (arith, one .region-word .ensures)) (two .region-word2 .ensures)
+    (omega (arith, s .pre .1 d, one .region-word .ensures, two .region-word2 .ensures))
+    (c .before .before .copy .ensures)
 
 pub write-edges-spec : {M : Type 1} → statement M
 write-edges-spec =
     tie.close
     (tie.spec
     region-word-requires
-    cast-count
     returns
-    mul-first
     region-word-requires-2
+    cast-count
+    mul-first
+    sub-first
     cast-first
     add-first
     add-copy

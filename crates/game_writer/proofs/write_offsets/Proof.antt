@@ -6,14 +6,16 @@ use mathlib.Core.List.{List, []}
 use lib.ListN.{length-set}
 use Rattle.rules.specs.Game.{offsets}
 use Rattle.words.proofs.Stretches.{Writing}
+use Rattle.settling.specs.Stand.{degreesIn}
 use Rattle.game_writer.specs.Shown.{shownVertices}
-use Rattle.game_writer.proofs.Edges.{below, below-none, below-more, below-most, later, offsets-start, offsets-room, offsets-put, offsets-done}
+use Rattle.game_writer.proofs.Edges.{below-none, below-more, below-most, later}
+use Rattle.game_writer.proofs.Edges.{offsets-start, offsets-room, offsets-put, offsets-done}
 use Rattle.game_writer.proofs.write_offsets.Statement.{statement}
 use Rattle.game_writer.proofs.write_offsets.Tie as tie
 
 abbrev Inv-loop : tie.InvT-loop
 Inv-loop work v known game₀ start u₀ e₀ p₀ game u e p =
-    (u ≤ known) × (e ≡ below work v u)
+    (u ≤ known) × (e ≡ degreesIn work v u)
     × ((kinds priorities : List ℕ) → Writing p (offsets e (later kinds priorities work v known u)) game start (offsets 0 (shownVertices kinds priorities work v known)) game₀)
 
 abbrev μ-loop : tie.MeasureT-loop
@@ -24,8 +26,10 @@ loop-holds c =
     let s = c .before .before in
     (omega arith, below-none (now (s .args .work)) (s .args .v), λ ks ps. offsets-start ks ps (now (s .args .work)) (s .args .v) (s .args .known) (s .pre .1 .0))
 
-region-word-requires : tie.Need-region-word-requires Inv-loop μ-loop
-region-word-requires c κs = record { whole = c .before .before .before .before .pre .0 .regions; region = omega arith; word = omega (arith, c .before .before .before .before .pre .0 .known, c .loop-test .taken) }
+degree-of-requires : tie.Need-degree-of-requires Inv-loop μ-loop
+degree-of-requires c κs =
+    let p = c .before .before .before .before .pre .0 in
+    (p .regions, omega (arith, p .known, c .loop-test .taken))
 
 mul-game : tie.Need-mul-game Inv-loop μ-loop
 mul-game c =
@@ -45,7 +49,9 @@ add-p c =
 add-e : tie.Need-add-e Inv-loop μ-loop
 add-e c =
     let s = c .before .before .before .before .before in
-    omega (arith, below-most [] [] (now (s .args .work)) (s .args .v) (s .args .known) (s .pre .1 .0) (c .before .before .loop .u) (c .before .loop-test .taken), c .before .before .loop .inv .1, c .region-word .ensures, s .pre .1 .1 .0)
+    let l = c .before .before .loop in
+    let most = below-most [] [] (now (s .args .work)) (s .args .v) (s .args .known) (s .pre .1 .0) (l .u) in
+    omega (arith, most (c .before .loop-test .taken), l .inv .1, c .degree-of .ensures, s .pre .1 .1 .0)
 
 add-u : tie.Need-add-u Inv-loop μ-loop
 add-u c = omega arith
@@ -59,8 +65,9 @@ loop-again c =
     let l = c .before .before .loop in
     let room = offsets-room [] [] (now (s .args .work)) (s .args .v) (s .args .known) (s .pre .1 .0) (l .e) (l .u) (l .inv .0) (s .pre .1 .1 .1) (l .inv .2 [] []) in (
       omega arith,
-      below-more (now (s .args .work)) (s .args .v) (l .u) (l .e) _ (l .inv .1) (c .region-word .ensures),
-      λ ks ps. offsets-put ks ps (now (s .args .work)) (s .args .v) (s .args .known) (s .pre .1 .0) (l .e) (l .u) _ (c .region-word .ensures) (c .before .loop-test .taken) room (l .inv .2 ks ps),
+      below-more (now (s .args .work)) (s .args .v) (l .u) (l .e) _ (l .inv .1) (c .degree-of .ensures),
+      λ ks ps. offsets-put ks ps (now (s .args .work)) (s .args .v) (s .args .known) (s .pre .1 .0) (l .e) (l .u) _
+          (c .degree-of .ensures) (c .before .loop-test .taken) room (l .inv .2 ks ps),
     )
 
 mul-game-2 : tie.Need-mul-game-2 Inv-loop μ-loop
@@ -95,7 +102,7 @@ write-offsets-spec =
     Inv-loop
     μ-loop
     loop-holds
-    region-word-requires
+    degree-of-requires
     mul-game
     slice-write-game
     add-p

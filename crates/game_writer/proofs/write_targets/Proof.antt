@@ -2,7 +2,7 @@ use denote.Ref.{now}
 use Prim.Native.Nat.{ℕ, _-_, _≤_}
 use native.Mathlib.Omega.{arith}
 use mathlib.Core.List.{List, []}
-use Rattle.rules.specs.Game.{edgeTargets}
+use Rattle.games.specs.Columns.{edgeColumnOf}
 use Rattle.words.proofs.Stretches.{Writing}
 use Rattle.game_writer.specs.Shown.{shownVertices}
 use Rattle.game_writer.proofs.Edges.{later, targets-start, targets-room, targets-put, targets-done}
@@ -12,7 +12,7 @@ use Rattle.game_writer.proofs.write_targets.Tie as tie
 abbrev Inv-loop : tie.InvT-loop
 Inv-loop work v known game₀ start u₀ p₀ game u p =
     (u ≤ known)
-    × ((kinds priorities : List ℕ) → Writing p (edgeTargets (later kinds priorities work v known u)) game start (edgeTargets (shownVertices kinds priorities work v known)) game₀)
+    × ((kinds priorities : List ℕ) → Writing p (edgeColumnOf 0 (later kinds priorities work v known u)) game start (edgeColumnOf 0 (shownVertices kinds priorities work v known)) game₀)
 
 abbrev μ-loop : tie.MeasureT-loop
 μ-loop work v known game₀ start u₀ p₀ game u p = known - u

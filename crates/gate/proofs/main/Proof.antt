@@ -1,6 +1,7 @@
 -- `main` meets its contract: it is safe and ends. What was printed stands in the array. Assumes nothing.
 use mathlib.Core.Path.{sym}
 use lib.Seq.{length-take-le}
+use Rattle.rules.specs.Program.{gateTextLength}
 use borrow.Author.Needs.{needs}
 use Rattle.gate.proofs.main.Statement.{statement}
 use Rattle.gate.proofs.main.Tie as tie
@@ -21,6 +22,7 @@ slice-aggregate-put-text-2 : tie.Need-slice-aggregate-put-text-2
 slice-aggregate-put-text-2 c = search needs
 
 put-text-requires : tie.Need-put-text-requires
+unfolding gateTextLength
 put-text-requires c κs = search needs
 
 array-share-prefix-text : tie.Need-array-share-prefix-text

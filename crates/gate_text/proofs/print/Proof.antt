@@ -1,9 +1,8 @@
 -- `print` meets its contract, by the cases of the answer. Assumes nothing.
 use native.Mathlib.Omega.{arith}
 use denote.Ref.{now}
-use Rattle.gate_text.proofs.Lines.{wrote-as}
-use Rattle.gate_text.proofs.Sizes.{line-fits}
-use Rattle.gate_text.proofs.Reports.{report-done, report-cut, report-refused, done-printed, cut-printed}
+use Rattle.text_writer.proofs.Lines.{wrote-as}
+use Rattle.gate_text.proofs.Reports.{report-done, report-cut, report-refused, done-printed, cut-printed, room}
 use borrow.Author.Needs.{needs}
 use Rattle.gate_text.proofs.print.Statement.{statement}
 use Rattle.gate_text.proofs.print.Tie as tie
@@ -18,7 +17,12 @@ slice-aggregate-put-game-2 : tie.Need-slice-aggregate-put-game-2
 slice-aggregate-put-game-2 c = search needs
 
 put-game-requires : tie.Need-put-game-requires
-put-game-requires c κs = (c .before .before .before .before .before .before .before .before .pre .1 (done-printed (c .before .before .before .before .before .before .before .before .args .answer) _ _ _ (c .before .before .before .before .answer .given .1)), (omega arith, omega arith, c .before .before .before .before .before .before .before .before .pre .0))
+put-game-requires c κs =
+    let s = c .before .before .before .before .before .before .before .before in
+    let e = c .before .before .before .before .answer .given .1 in (
+      s .pre .1 (done-printed (s .args .answer) _ _ _ e),
+      room (report-done (s .args .answer) (now (s .args .game)) _ _ _ e) (s .pre .0),
+    )
 
 enum-known-answer-2 : tie.Need-enum-known-answer-2
 enum-known-answer-2 c = search needs
@@ -30,7 +34,12 @@ slice-aggregate-put-game-4 : tie.Need-slice-aggregate-put-game-4
 slice-aggregate-put-game-4 c = search needs
 
 put-game-requires-2 : tie.Need-put-game-requires-2
-put-game-requires-2 c κs = (c .before .before .before .before .before .before .before .before .pre .1 (cut-printed (c .before .before .before .before .before .before .before .before .args .answer) _ _ _ (c .before .before .before .before .answer2 .given .1)), (omega arith, omega arith, c .before .before .before .before .before .before .before .before .pre .0))
+put-game-requires-2 c κs =
+    let s = c .before .before .before .before .before .before .before .before in
+    let e = c .before .before .before .before .answer2 .given .1 in (
+      s .pre .1 (cut-printed (s .args .answer) _ _ _ e),
+      room (report-cut (s .args .answer) (now (s .args .game)) _ _ _ e) (s .pre .0),
+    )
 
 enum-known-answer-3 : tie.Need-enum-known-answer-3
 enum-known-answer-3 c = search needs
@@ -42,7 +51,10 @@ slice-aggregate-put-line-2 : tie.Need-slice-aggregate-put-line-2
 slice-aggregate-put-line-2 c = search needs
 
 put-line-requires : tie.Need-put-line-requires
-put-line-requires c κs = line-fits _ _ _ (omega arith) (omega arith) (c .before .before .before .before .before .before .before .before .pre .0)
+put-line-requires c κs =
+    let s = c .before .before .before .before .before .before .before .before in
+    let e = c .before .before .before .before .answer3 .given .1 in
+    omega (arith, room (report-refused (s .args .answer) (now (s .args .game)) _ _ e) (s .pre .0))
 
 same-length : tie.Need-same-length
 same-length c = c .before .before .put-game .kept .0

@@ -2,16 +2,29 @@
 use mathlib.Core.Path.{_∙_}
 use native.Mathlib.Omega.{arith}
 use denote.Ref.{now}
-use Rattle.gate_text.proofs.Lines.{wrote-both}
-use Rattle.gate_text.proofs.Sizes.{line-length, game-length}
+use lib.ListN.{length-append}
+use Rattle.rules.specs.Game.{vertexCount}
+use Rattle.rules.specs.Texts.{line}
+use Rattle.rules.specs.Program.{vertexLines}
+use Rattle.text_writer.proofs.Lines.{wrote-both}
 use Rattle.gate_text.proofs.put_game.Statement.{statement}
 use Rattle.gate_text.proofs.put_game.Tie as tie
 
 put-line-requires : tie.Need-put-line-requires
-put-line-requires c κs = omega (arith, c .before .before .before .before .before .pre .1, line-length (now (c .before .before .before .before .before .args .name)) (now (c .before .before .before .before .before .args .numbers)))
+put-line-requires c κs =
+    let s = c .before .before .before .before .before in
+    let g = now (s .args .game) in
+    let first = line (now (s .args .name)) (now (s .args .numbers)) in
+    omega (arith, s .pre .1, length-append first (vertexLines g 0 (vertexCount g)))
 
 put-vertices-requires : tie.Need-put-vertices-requires
-put-vertices-requires c κs = (c .before .before .before .before .before .before .before .before .before .pre .0, omega (arith, c .before .before .before .before .before .before .before .before .before .pre .1, line-length (now (c .before .before .before .before .before .before .before .before .before .args .name)) (now (c .before .before .before .before .before .before .before .before .before .args .numbers)), game-length (now (c .before .before .before .before .before .before .before .before .before .args .game)) (c .before .before .before .before .before .before .before .before .before .pre .0), c .before .before .before .put-line .ensures .past, c .before .before .before .put-line .kept .0))
+put-vertices-requires c κs =
+    let s = c .before .before .before .before .before .before .before .before .before in
+    let g = now (s .args .game) in
+    let first = line (now (s .args .name)) (now (s .args .numbers)) in
+    let p = c .before .before .before .put-line in
+    let l = length-append first (vertexLines g 0 (vertexCount g)) in
+    (s .pre .0, omega (arith, s .pre .1, l, p .ensures .past, p .kept .0))
 
 same-length : tie.Need-same-length
 same-length c = c .before .before .put-vertices .kept .0 ∙ c .before .before .before .before .before .before .put-line .kept .0

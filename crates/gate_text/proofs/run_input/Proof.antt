@@ -1,9 +1,9 @@
 -- `run_input` meets its contract: the run's outcome is that of the rules, and its game can be printed. Assumes nothing.
 use denote.Ref.{now}
 use Rattle.rules.specs.Words.{inputOf, gameLength, workLength}
-use Rattle.rules.specs.Program.{gateRoom, gateRun}
-use Rattle.gate_text.proofs.Lines.{wrote-as}
-use Rattle.gate_text.proofs.Programs.{game-shown, run-printed}
+use Rattle.rules.specs.Program.{gateRoom, gateSteps, gateRun}
+use Rattle.text_writer.proofs.Lines.{wrote-as}
+use Rattle.gate_text.proofs.Programs.{game-shown, run-room, run-printed}
 use borrow.Author.Needs.{needs}
 use Rattle.gate_text.proofs.run_input.Statement.{statement}
 use Rattle.gate_text.proofs.run_input.Tie as tie
@@ -21,15 +21,24 @@ slice-aggregate-print : tie.Need-slice-aggregate-print
 slice-aggregate-print c = search needs
 
 print-requires : tie.Need-print-requires
-unfolding gateRun gateRoom gameLength workLength
-print-requires c κs = (c .before .before .before .before .before .before .before .before .before .before .before .before .pre, game-shown (inputOf (now (c .before .before .before .before .before .before .before .before .before .before .before .before .args .labels)) (now (c .before .before .before .before .before .before .before .before .before .before .before .before .args .system)) (now (c .before .before .before .before .before .before .before .before .before .before .before .before .args .actions)) (now (c .before .before .before .before .before .before .before .before .before .before .before .before .args .formula))) (c .before .before .before .before .translate .result) _ _ (c .before .before .before .before .translate .ensures .0))
+unfolding gateRun gateRoom gateSteps gameLength workLength
+print-requires c κs =
+    let s = c .before .before .before .before .before .before .before .before .before .before .before .before in
+    let x = inputOf (now (s .args .labels)) (now (s .args .system)) (now (s .args .actions)) (now (s .args .formula)) in
+    let t = c .before .before .before .before .translate in
+    (run-room x (t .result) _ _ (t .ensures .0) _ (s .pre), game-shown x (t .result) _ _ (t .ensures .0))
 
 same-length : tie.Need-same-length
 same-length c = search needs
 
 returns : tie.Need-returns
-unfolding gateRun gateRoom gameLength workLength
-returns c = wrote-as (run-printed (inputOf (now (c .before .before .before .before .before .before .before .before .before .before .before .before .before .before .before .args .labels)) (now (c .before .before .before .before .before .before .before .before .before .before .before .before .before .before .before .args .system)) (now (c .before .before .before .before .before .before .before .before .before .before .before .before .before .before .before .args .actions)) (now (c .before .before .before .before .before .before .before .before .before .before .before .before .before .before .before .args .formula))) (c .before .before .before .before .before .before .before .translate .result) _ _ (c .before .before .before .before .before .before .before .translate .ensures .0)) (c .before .before .print .ensures)
+unfolding gateRun gateRoom gateSteps gameLength workLength
+returns c =
+    let before = c .before .before .before .before .before .before .before in
+    let s = before .before .before .before .before .before .before .before .before in
+    let x = inputOf (now (s .args .labels)) (now (s .args .system)) (now (s .args .actions)) (now (s .args .formula)) in
+    let t = before .translate in
+    wrote-as (run-printed x (t .result) _ _ (t .ensures .0)) (c .before .before .print .ensures)
 
 pub run-input-spec : {M : Type 1} → statement M
 run-input-spec =

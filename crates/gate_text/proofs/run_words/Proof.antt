@@ -4,7 +4,7 @@ use native.Mathlib.Omega.{arith}
 use denote.Ref.{now}
 use Rattle.rules.specs.Words.{Input}
 use Rattle.rules.specs.Program.{gateRun, reported}
-use Rattle.gate_text.proofs.Lines.{wrote-as}
+use Rattle.text_writer.proofs.Lines.{wrote-as}
 use Rattle.gate_text.proofs.Programs.{four-words, all-words, parts-are}
 use borrow.Author.Needs.{needs}
 use Rattle.gate_text.proofs.run_words.Statement.{statement}

@@ -29,7 +29,10 @@ same-length-3 c = search needs
 
 -- src/lib.rt:58:1
 returns : tie.Need-returns
-returns c = restriction-carried _ _ _ _ _ _ _ _ _ (c .put-answer .ensures) (c .before .before .before .before .before .before .before .before .compute-reachable .ensures)
+returns c =
+    let reached = c .before .before .before .before .before .before .before .before in
+    restriction-carried _ _ _ _ _ _ _ _ (reached .compute-reachable .result) (c .put-answer .ensures)
+    (reached .compute-reachable .ensures)
 
 pub hingrezh-compute-reachable-spec : {M : Type 1} → statement M
 hingrezh-compute-reachable-spec =

@@ -3,7 +3,10 @@ use mathlib.Core.Path.{refl, _∙_}
 use native.Mathlib.Omega.{arith}
 use Rattle.rules.specs.Words.{inputOf}
 use Rattle.rules.specs.Table.{size}
-use Rattle.item_table.proofs.Filling.{listed-numbers, table-made}
+use Rattle.rules.specs.Depth.{byDepth}
+use Rattle.trees.proofs.Readings.{byDepth-words}
+use Rattle.modal_equation_system.specs.System.{formulaOnly}
+use Rattle.item_table.proofs.Filling.{listed-numbers, ranks-made, table-made}
 use borrow.Author.Needs.{needs}
 use Rattle.item_table.proofs.compile.Statement.{statement}
 use Rattle.item_table.proofs.compile.Tie as tie
@@ -85,8 +88,14 @@ returns c =
     let k = numbered .kept .1 .1 .1 .1 .1 .1 .1 .1 in
     let l = c .before .before .before .before .before .before .before .before .before .before .before .put-items .kept .1 .1 .1 .1 .1 .1 .1 .1 in
     let m = c .before .before .put-priorities .kept .1 .1 .1 in
-    let made = table-made (inputOf (s .args .labels .now) (s .args .system .now) (s .args .actions .now) (s .args .formula .now)) (s .pre .0) (listed .result) _ _ _ (numbered .last .1 .1 .1 .1 .1 .1 .1 .1 .0) _ _ (listed .ensures .0) (omega (arith, rooms .0, k .1 .0, l .0)) (omega (arith, rooms .1, k .1 .1 .0, l .1 .0)) (omega (arith, rooms .2, k .1 .1 .1 .0, l .1 .1 .0)) (omega (arith, rooms .3, k .0, m .0)) (c .before .before .before .before .before .before .before .before .before .before .before .put-items .ensures) refl (c .before .before .put-priorities .ensures) in
-    (numbered .ensures .0, (made, numbered .ensures .1 .1))
+    let x = inputOf (s .args .labels .now) (s .args .system .now) (s .args .actions .now) (s .args .formula .now) in
+    let made =
+    table-made x (s .pre .0) _ _ _ (omega (arith, rooms .0, k .1 .0, l .0)) (omega (arith, rooms .1, k .1 .1 .0, l .1 .0)) (omega (arith, rooms .2, k .1 .1 .1 .0, l .1 .1 .0))
+    (c .before .before .before .before .before .before .before .before .before .before .before .put-items .ensures) in
+    let ranks =
+    ranks-made x (s .pre .0) byDepth (λ i. byDepth-words (formulaOnly (x .formula)) x i refl) (listed .result) (numbered .last .1 .1 .1 .1 .1 .1 .1 .1 .0) _
+    (listed .ensures .0) (omega (arith, rooms .3, k .0, m .0)) (c .before .before .put-priorities .ensures) in
+    (numbered .ensures .0, (made, (ranks, numbered .ensures .1 .1)))
 
 pub compile-spec : {M : Type 1} → statement M
 compile-spec =

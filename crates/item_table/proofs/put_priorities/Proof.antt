@@ -1,5 +1,6 @@
 -- `put_priorities` meets its contract, by what the two calls ensure. Assumes nothing.
 use native.Mathlib.Omega.{arith}
+use Rattle.rules.specs.Depth.{byDepth}
 use Rattle.trees.proofs.Equations.{count-limit}
 use Rattle.item_table.proofs.Filling.{ranked-from}
 use borrow.Author.Needs.{needs}
@@ -24,7 +25,7 @@ same-length c = search needs
 
 -- src/lib.rt:259:1
 returns : tie.Need-returns
-returns c = let s = c .before .before .before .before .before .before .before .before .before .before in ranked-from (s .args .formula .now) (s .args .count) _ _ _ (c .before .before .before .before .before .before .clear .ensures) (c .before .before .list-priorities .ensures)
+returns c = let s = c .before .before .before .before .before .before .before .before .before .before in ranked-from byDepth (s .args .formula .now) (s .args .count) _ _ _ (c .before .before .before .before .before .before .clear .ensures) (c .before .before .list-priorities .ensures)
 
 pub put-priorities-spec : {M : Type 1} → statement M
 put-priorities-spec =

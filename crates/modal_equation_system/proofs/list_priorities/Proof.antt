@@ -3,7 +3,8 @@ use mathlib.Core.Path.{_≡_, refl, subst}
 use Prim.Native.Nat.{ℕ, _-_, _≤_}
 use native.Mathlib.Omega.{arith}
 use lib.ListN.{length}
-use Rattle.modal_equation_system.specs.System.{Ranked}
+use Rattle.rules.specs.Depth.{byDepth}
+use Rattle.modal_equation_system.specs.System.{RankedBy}
 use Rattle.modal_equation_system.proofs.Ranking.{ranked-first, ranked-next}
 use borrow.Author.Needs.{needs}
 use Rattle.modal_equation_system.proofs.list_priorities.Statement.{statement}
@@ -13,14 +14,14 @@ use Rattle.modal_equation_system.proofs.list_priorities.Lts as lts
 use Rattle.modal_equation_system.proofs.priority_of.Reads as priority-of-reads
 
 abbrev Inv-loop : tie.InvT-loop
-Inv-loop formula table count priorities₀ i₀ priorities i = (i ≤ count) × (length priorities ≡ length priorities₀) × Ranked formula i priorities₀ priorities
+Inv-loop formula table count priorities₀ i₀ priorities i = (i ≤ count) × (length priorities ≡ length priorities₀) × RankedBy byDepth formula i priorities₀ priorities
 
 abbrev μ-loop : tie.MeasureT-loop
 μ-loop formula table count priorities₀ i₀ priorities i = count - i
 
 -- src/lib.rt:214:5
 loop-holds : tie.Need-loop-holds Inv-loop μ-loop
-loop-holds c = (omega arith, refl, ranked-first (c .before .before .args .formula .now) (c .before .before .args .priorities .now))
+loop-holds c = (omega arith, refl, ranked-first byDepth (c .before .before .args .formula .now) (c .before .before .args .priorities .now))
 
 -- src/lib.rt:215:13
 priority-of-requires : tie.Need-priority-of-requires Inv-loop μ-loop
@@ -47,7 +48,7 @@ loop-again : tie.Need-loop-again Inv-loop μ-loop
 loop-again c =
     let s = c .before .before .before .before .before in
     let l = c .before .before .loop in
-    let next = ranked-next (s .args .formula .now) (l .i) (s .args .priorities .now) (l .priorities) (c .priority-of .result .0) (omega (arith, l .inv .1, s .pre .1)) (c .priority-of .ensures) (l .inv .2) in
+    let next = ranked-next byDepth (s .args .formula .now) (l .i) (s .args .priorities .now) (l .priorities) (c .priority-of .result .0) (omega (arith, l .inv .1, s .pre .1)) (c .priority-of .ensures) (l .inv .2) in
     (omega arith, next .sized, next)
 
 -- src/lib.rt:201:1
@@ -60,7 +61,7 @@ returns c =
     let s = c .before .before .before .before in
     let l = c .before .loop in
     let e : l .i ≡ s .args .count = omega arith in
-    subst (λ (n : ℕ). Ranked (s .args .formula .now) n (s .args .priorities .now) (l .priorities)) e (l .inv .2)
+    subst (λ (n : ℕ). RankedBy byDepth (s .args .formula .now) n (s .args .priorities .now) (l .priorities)) e (l .inv .2)
 
 pub list-priorities-spec : {M : Type 1} → statement M
 list-priorities-spec =

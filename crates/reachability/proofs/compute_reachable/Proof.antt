@@ -43,7 +43,13 @@ same-length-3 c = search needs
 
 -- src/lib.rt:238:1
 returns-2 : tie.Need-returns-2
-returns-2 c = restricted _ _ (now (c .before .before .before .before .before .before .before .before .before .before .before .before .before .before .before .before .before .args .map)) _ _ (sym (c .before .before .before .before .before .before .before .before .before .before .before .before .check-lent .ensures) ∙ c .before .before .before .before .before .before .before .before .before .before .enum-told .given .1) (c .before .before .before .before .before .before .restrict .ensures)
+returns-2 c =
+    let made = c .before .before .before .before .before .before in
+    let told = made .before .before .before .before in
+    let checked = told .before .before in
+    let start = checked .before .before .before .before .before in
+    restricted _ _ (now (start .args .map)) _ _
+    (sym (checked .check-lent .ensures) ∙ told .enum-told .given .1) (made .restrict .ensures)
 
 pub compute-reachable-spec : {M : Type 1} → statement M
 compute-reachable-spec =

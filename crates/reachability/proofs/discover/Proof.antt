@@ -15,16 +15,16 @@ slice-read-if1 : tie.Need-slice-read-if1
 slice-read-if1 c = search needs
 
 -- src/lib.rt:52:22
-cast-numbers : tie.Need-cast-numbers
-cast-numbers c = search needs
+cast-mapping : tie.Need-cast-mapping
+cast-mapping c = search needs
 
 -- src/lib.rt:52:9
-mul-numbers : tie.Need-mul-numbers
-mul-numbers c = search needs
+mul-mapping : tie.Need-mul-mapping
+mul-mapping c = search needs
 
 -- src/lib.rt:52:9
-slice-write-numbers : tie.Need-slice-write-numbers
-slice-write-numbers c = search needs
+slice-write-mapping : tie.Need-slice-write-mapping
+slice-write-mapping c = search needs
 
 -- src/lib.rt:53:23
 cast-work : tie.Need-cast-work
@@ -64,9 +64,9 @@ discover-spec =
     (tie.spec
     mul-if1
     slice-read-if1
-    cast-numbers
-    mul-numbers
-    slice-write-numbers
+    cast-mapping
+    mul-mapping
+    slice-write-mapping
     cast-work
     mul-work
     slice-write-work

@@ -16,10 +16,10 @@ use Rattle.reachability.proofs.discover.Reads as discover-reads
 use Rattle.words.proofs.at.Reads as at-reads
 
 abbrev Inv-loop : tie.InvT-loop
-Inv-loop game from end numbers₀ work₀ known count₀ p₀ numbers work count p = (from ≤ p) × Knows count numbers work × (length numbers ≡ length numbers₀) × (insertAll eqb (take known work₀) (slice from end game) ≡ insertAll eqb (take count work) (slice p end game))
+Inv-loop game from end numbers₀ work₀ known count₀ p₀ mapping work count p = (from ≤ p) × Knows count mapping work × (length mapping ≡ length numbers₀) × (insertAll eqb (take known work₀) (slice from end game) ≡ insertAll eqb (take count work) (slice p end game))
 
 abbrev μ-loop : tie.MeasureT-loop
-μ-loop game from end numbers₀ work₀ known count₀ p₀ numbers work count p = end - p
+μ-loop game from end numbers₀ work₀ known count₀ p₀ mapping work count p = end - p
 
 -- src/lib.rt:77:5
 loop-holds : tie.Need-loop-holds Inv-loop μ-loop

@@ -1,104 +1,95 @@
-use mathlib.Core.List.{map}
 use denote.Ref.{now}
-use Prim.Native.Nat.{_+_}
-use mathlib.Core.Path.{sym, _∙_}
+use mathlib.Core.Path.{sym}
 use native.Mathlib.Omega.{arith}
 use lib.ListN.{take}
 use lib.Seq.{length-take-le}
-use Rattle.rules.specs.Lists.{word}
 use Rattle.rules.specs.Game.{gameOf}
 use Rattle.rules.specs.Restrict.{keptVertices}
-use Rattle.words.proofs.Stretches.{Writing, turn, called, done, carry-take}
-use Rattle.games.proofs.Reading.{length-offsets, length-targets}
+use Rattle.words.proofs.Stretches.{Writing, turn, called, done}
 use Rattle.parity_game.proofs.Stretches.{game-padded}
-use Rattle.restrictions.proofs.Kept.{kept-length}
+use Rattle.reachability.proofs.Stretches.{columns-end, offsets-end, targets-end}
 use Rattle.reachability.proofs.Written.{kept-stretches}
+use borrow.Author.Needs.{needs}
 use Rattle.reachability.proofs.write_game.Statement.{statement}
 use Rattle.reachability.proofs.write_game.Tie as tie
 use Rattle.reachability.proofs.write_game.Reads as reads
 use Rattle.reachability.proofs.write_game.Lts as lts
 use Rattle.parity_game.proofs.write_header.Reads as write-header-reads
 use Rattle.reachability.proofs.count_edges.Reads as count-edges-reads
+use Rattle.reachability.proofs.write_columns.Reads as write-columns-reads
 use Rattle.reachability.proofs.write_offsets.Reads as write-offsets-reads
 use Rattle.reachability.proofs.write_targets.Reads as write-targets-reads
-use Rattle.words.proofs.at.Reads as at-reads
-use Rattle.words.proofs.carry.Reads as carry-reads
 use Rattle.words.proofs.fill.Reads as fill-reads
 
--- src/lib.rt:215:9
-at-requires : tie.Need-at-requires
-at-requires c κs = omega (arith, c .before .before .before .before .pre .0 .good .sized)
-
--- src/lib.rt:216:9
+-- src/lib.rt:225:9
 count-edges-requires : tie.Need-count-edges-requires
-count-edges-requires c κs = c .before .before .before .before .before .pre .0
+count-edges-requires c κs = search needs
 
--- src/lib.rt:217:44
+-- src/lib.rt:226:44
 cast-write-header : tie.Need-cast-write-header
-cast-write-header c = omega (arith, c .before .before .before .before .before .before .pre .0 .few, c .before .before .before .before .before .before .pre .0 .good .few)
+cast-write-header c = search needs
 
--- src/lib.rt:217:58
+-- src/lib.rt:226:58
 cast-write-header-2 : tie.Need-cast-write-header-2
-cast-write-header-2 c = omega (arith, c .count-edges .ensures, c .before .before .before .before .before .before .pre .0 .fit, c .before .before .before .before .before .before .pre .0 .good .light)
+cast-write-header-2 c = search needs
 
--- src/lib.rt:217:9
+-- src/lib.rt:226:9
 write-header-requires : tie.Need-write-header-requires
-write-header-requires c κs = omega (arith, c .before .before .before .before .before .before .before .pre .1 .1, c .before .before .before .before .before .before .before .pre .0 .good .sized)
+write-header-requires c κs = search needs
 
--- src/lib.rt:218:9
-carry-requires : tie.Need-carry-requires
-carry-requires c κs = ((c .before .before .before .before .before .before .before .before .before .before .before .pre .0 .within, omega (arith, c .before .before .before .write-header .ensures .past, c .before .before .before .write-header .kept .1 .1 .0, c .before .before .before .before .before .before .before .before .before .before .before .pre .0 .few, c .before .before .before .before .before .before .before .before .before .before .before .pre .1 .1, c .before .before .before .before .before .before .before .before .before .before .before .pre .0 .good .sized)), λ i h. omega (arith, c .before .before .before .before .before .before .before .before .before .before .before .pre .0 .inside i h, c .before .before .before .before .before .before .before .before .before .before .before .pre .0 .good .sized))
+-- src/lib.rt:227:9
+write-columns-requires : tie.Need-write-columns-requires
+write-columns-requires c κs = let s = c .before .before .before .before .before .before .before .before .before .before in
+    (s .pre .0, omega (arith, c .before .before .before .write-header .ensures .past, c .before .before .before .write-header .kept .1 .1 .0, s .pre .0 .few, s .pre .1 .1 .1, s .pre .0 .good .sized))
 
--- src/lib.rt:219:41
-add-carry : tie.Need-add-carry
-add-carry c = omega (arith, c .before .before .before .before .before .before .before .before .before .at .ensures .0, c .before .before .before .before .before .before .before .before .before .before .before .before .before .before .pre .0 .good .few)
-
--- src/lib.rt:219:9
-carry-requires-2 : tie.Need-carry-requires-2
-carry-requires-2 c κs = ((c .before .before .before .before .before .before .before .before .before .before .before .before .before .before .before .pre .0 .within, omega (arith, c .before .before .before .before .before .before .before .write-header .ensures .past, c .before .before .before .before .before .before .before .write-header .kept .1 .1 .0, c .before .before .before .carry .ensures .past, carry-take (λ v. word (now (c .before .before .before .before .before .before .before .before .before .before .before .before .before .before .before .args .game)) (3 + v)) (now (c .before .before .before .before .before .before .before .before .before .before .before .before .before .before .before .args .work)) 0 (c .before .before .before .before .before .before .before .before .before .before .before .before .before .before .before .args .count) (c .before .before .before .before .before .before .before .before .before .before .before .before .before .before .before .pre .0 .within), c .before .before .before .carry .kept .1 .1 .1 .1 .0, c .before .before .before .before .before .before .before .before .before .before .before .before .before .before .before .pre .0 .few, c .before .before .before .before .before .before .before .before .before .before .before .before .before .before .before .pre .1 .1, c .before .before .before .before .before .before .before .before .before .before .before .before .before .before .before .pre .0 .good .sized)), λ i h. omega (arith, c .before .before .before .before .before .before .before .before .before .before .before .before .before .before .before .pre .0 .inside i h, c .before .before .before .before .before .before .before .before .before .before .before .before .before .before .before .pre .0 .good .sized, c .before .before .before .before .before .before .before .before .before .before .at .ensures .0))
-
--- src/lib.rt:220:9
+-- src/lib.rt:228:9
 write-offsets-requires : tie.Need-write-offsets-requires
-write-offsets-requires c κs = (c .before .before .before .before .before .before .before .before .before .before .before .before .before .before .before .before .before .before .before .pre .0, omega (arith, c .before .before .before .before .before .before .before .before .before .before .before .write-header .ensures .past, c .before .before .before .before .before .before .before .before .before .before .before .write-header .kept .1 .1 .0, c .before .before .before .before .before .before .before .carry .ensures .past, carry-take (λ v. word (now (c .before .before .before .before .before .before .before .before .before .before .before .before .before .before .before .before .before .before .before .args .game)) (3 + v)) (now (c .before .before .before .before .before .before .before .before .before .before .before .before .before .before .before .before .before .before .before .args .work)) 0 (c .before .before .before .before .before .before .before .before .before .before .before .before .before .before .before .before .before .before .before .args .count) (c .before .before .before .before .before .before .before .before .before .before .before .before .before .before .before .before .before .before .before .pre .0 .within), c .before .before .before .before .before .before .before .carry .kept .1 .1 .1 .1 .0, c .before .before .before .carry2 .ensures .past, carry-take (λ v. word (now (c .before .before .before .before .before .before .before .before .before .before .before .before .before .before .before .before .before .before .before .args .game)) (3 + c .before .before .before .before .before .before .before .before .before .before .before .before .before .before .at .result + v)) (now (c .before .before .before .before .before .before .before .before .before .before .before .before .before .before .before .before .before .before .before .args .work)) 0 (c .before .before .before .before .before .before .before .before .before .before .before .before .before .before .before .before .before .before .before .args .count) (c .before .before .before .before .before .before .before .before .before .before .before .before .before .before .before .before .before .before .before .pre .0 .within), c .before .before .before .carry2 .kept .1 .1 .1 .1 .0, c .before .before .before .before .before .before .before .before .before .before .before .before .before .before .before .before .before .before .before .pre .0 .few, c .before .before .before .before .before .before .before .before .before .before .before .before .before .before .before .before .before .before .before .pre .1 .1, c .before .before .before .before .before .before .before .before .before .before .before .before .before .before .before .before .before .before .before .pre .0 .good .sized))
+write-offsets-requires c κs = let s = c .before .before .before .before .before .before .before .before .before .before .before .before .before .before in
+    let p1 = columns-end _ _ _ (s .pre .0) (c .before .before .before .write-columns .ensures) in
+    (s .pre .0, omega (arith, p1, c .before .before .before .before .before .before .before .write-header .ensures .past, c .before .before .before .before .before .before .before .write-header .kept .1 .1 .0, c .before .before .before .write-columns .kept .1 .1 .1 .0, s .pre .0 .few, s .pre .1 .1 .1, s .pre .0 .good .sized))
 
--- src/lib.rt:221:9
+-- src/lib.rt:229:9
 write-targets-requires : tie.Need-write-targets-requires
-write-targets-requires c κs = (c .before .before .before .before .before .before .before .before .before .before .before .before .before .before .before .before .before .before .before .before .before .before .before .pre .0, (c .before .before .before .before .before .before .before .before .before .before .before .before .before .before .before .before .before .before .before .before .before .before .before .pre .1 .0, (c .before .before .before .before .before .before .before .before .before .before .before .before .before .before .before .before .before .before .before .before .before .before .before .pre .1 .1 .0, omega (arith, c .before .before .before .before .before .before .before .before .before .before .before .before .before .before .before .write-header .ensures .past, c .before .before .before .before .before .before .before .before .before .before .before .before .before .before .before .write-header .kept .1 .1 .0, c .before .before .before .before .before .before .before .before .before .before .before .carry .ensures .past, carry-take (λ v. word (now (c .before .before .before .before .before .before .before .before .before .before .before .before .before .before .before .before .before .before .before .before .before .before .before .args .game)) (3 + v)) (now (c .before .before .before .before .before .before .before .before .before .before .before .before .before .before .before .before .before .before .before .before .before .before .before .args .work)) 0 (c .before .before .before .before .before .before .before .before .before .before .before .before .before .before .before .before .before .before .before .before .before .before .before .args .count) (c .before .before .before .before .before .before .before .before .before .before .before .before .before .before .before .before .before .before .before .before .before .before .before .pre .0 .within), c .before .before .before .before .before .before .before .before .before .before .before .carry .kept .1 .1 .1 .1 .0, c .before .before .before .before .before .before .before .carry2 .ensures .past, carry-take (λ v. word (now (c .before .before .before .before .before .before .before .before .before .before .before .before .before .before .before .before .before .before .before .before .before .before .before .args .game)) (3 + c .before .before .before .before .before .before .before .before .before .before .before .before .before .before .before .before .before .before .at .result + v)) (now (c .before .before .before .before .before .before .before .before .before .before .before .before .before .before .before .before .before .before .before .before .before .before .before .args .work)) 0 (c .before .before .before .before .before .before .before .before .before .before .before .before .before .before .before .before .before .before .before .before .before .before .before .args .count) (c .before .before .before .before .before .before .before .before .before .before .before .before .before .before .before .before .before .before .before .before .before .before .before .pre .0 .within), c .before .before .before .before .before .before .before .carry2 .kept .1 .1 .1 .1 .0, c .before .before .before .write-offsets .ensures .past, length-offsets 0 (keptVertices (now (c .before .before .before .before .before .before .before .before .before .before .before .before .before .before .before .before .before .before .before .before .before .before .before .args .game)) (take (c .before .before .before .before .before .before .before .before .before .before .before .before .before .before .before .before .before .before .before .before .before .before .before .args .count) (now (c .before .before .before .before .before .before .before .before .before .before .before .before .before .before .before .before .before .before .before .before .before .before .before .args .work)))), kept-length (now (c .before .before .before .before .before .before .before .before .before .before .before .before .before .before .before .before .before .before .before .before .before .before .before .args .game)) (take (c .before .before .before .before .before .before .before .before .before .before .before .before .before .before .before .before .before .before .before .before .before .before .before .args .count) (now (c .before .before .before .before .before .before .before .before .before .before .before .before .before .before .before .before .before .before .before .before .before .before .before .args .work))), length-take-le (c .before .before .before .before .before .before .before .before .before .before .before .before .before .before .before .before .before .before .before .before .before .before .before .args .count) (now (c .before .before .before .before .before .before .before .before .before .before .before .before .before .before .before .before .before .before .before .before .before .before .before .args .work)) (c .before .before .before .before .before .before .before .before .before .before .before .before .before .before .before .before .before .before .before .before .before .before .before .pre .0 .within), c .before .before .before .write-offsets .kept .1 .1 .1 .0, c .before .before .before .before .before .before .before .before .before .before .before .before .before .before .before .before .before .before .before .before .before .before .before .pre .0 .fit, c .before .before .before .before .before .before .before .before .before .before .before .before .before .before .before .before .before .before .before .before .before .before .before .pre .0 .few, c .before .before .before .before .before .before .before .before .before .before .before .before .before .before .before .before .before .before .before .before .before .before .before .pre .1 .1, c .before .before .before .before .before .before .before .before .before .before .before .before .before .before .before .before .before .before .before .before .before .before .before .pre .0 .good .sized))))
+write-targets-requires c κs = let s = c .before .before .before .before .before .before .before .before .before .before .before .before .before .before .before .before .before .before in
+    let p1 = columns-end _ _ _ (s .pre .0) (c .before .before .before .before .before .before .before .write-columns .ensures) in
+    let p2 = offsets-end _ _ _ (s .pre .0) (c .before .before .before .write-offsets .ensures) in
+    (s .pre .0, (s .pre .1 .0, (s .pre .1 .1 .0, omega (arith, p1, p2, c .before .before .before .before .before .before .before .before .before .before .before .write-header .ensures .past, c .before .before .before .before .before .before .before .before .before .before .before .write-header .kept .1 .1 .0, c .before .before .before .before .before .before .before .write-columns .kept .1 .1 .1 .0, c .before .before .before .write-offsets .kept .1 .1 .1 .0, s .pre .0 .few, s .pre .0 .fit, s .pre .1 .1 .1, s .pre .0 .good .sized))))
 
--- src/lib.rt:222:5
+-- src/lib.rt:230:5
 fill-requires : tie.Need-fill-requires
-fill-requires c κs = omega (arith, c .before .before .before .before .before .before .before .before .before .before .before .before .before .before .before .before .before .before .before .write-header .ensures .past, c .before .before .before .before .before .before .before .before .before .before .before .before .before .before .before .before .before .before .before .write-header .kept .1 .1 .0, c .before .before .before .before .before .before .before .before .before .before .before .before .before .before .before .carry .ensures .past, carry-take (λ v. word (now (c .before .before .before .before .before .before .before .before .before .before .before .before .before .before .before .before .before .before .before .before .before .before .before .before .before .before .before .args .game)) (3 + v)) (now (c .before .before .before .before .before .before .before .before .before .before .before .before .before .before .before .before .before .before .before .before .before .before .before .before .before .before .before .args .work)) 0 (c .before .before .before .before .before .before .before .before .before .before .before .before .before .before .before .before .before .before .before .before .before .before .before .before .before .before .before .args .count) (c .before .before .before .before .before .before .before .before .before .before .before .before .before .before .before .before .before .before .before .before .before .before .before .before .before .before .before .pre .0 .within), c .before .before .before .before .before .before .before .before .before .before .before .before .before .before .before .carry .kept .1 .1 .1 .1 .0, c .before .before .before .before .before .before .before .before .before .before .before .carry2 .ensures .past, carry-take (λ v. word (now (c .before .before .before .before .before .before .before .before .before .before .before .before .before .before .before .before .before .before .before .before .before .before .before .before .before .before .before .args .game)) (3 + c .before .before .before .before .before .before .before .before .before .before .before .before .before .before .before .before .before .before .before .before .before .before .at .result + v)) (now (c .before .before .before .before .before .before .before .before .before .before .before .before .before .before .before .before .before .before .before .before .before .before .before .before .before .before .before .args .work)) 0 (c .before .before .before .before .before .before .before .before .before .before .before .before .before .before .before .before .before .before .before .before .before .before .before .before .before .before .before .args .count) (c .before .before .before .before .before .before .before .before .before .before .before .before .before .before .before .before .before .before .before .before .before .before .before .before .before .before .before .pre .0 .within), c .before .before .before .before .before .before .before .before .before .before .before .carry2 .kept .1 .1 .1 .1 .0, c .before .before .before .before .before .before .before .write-offsets .ensures .past, length-offsets 0 (keptVertices (now (c .before .before .before .before .before .before .before .before .before .before .before .before .before .before .before .before .before .before .before .before .before .before .before .before .before .before .before .args .game)) (take (c .before .before .before .before .before .before .before .before .before .before .before .before .before .before .before .before .before .before .before .before .before .before .before .before .before .before .before .args .count) (now (c .before .before .before .before .before .before .before .before .before .before .before .before .before .before .before .before .before .before .before .before .before .before .before .before .before .before .before .args .work)))), kept-length (now (c .before .before .before .before .before .before .before .before .before .before .before .before .before .before .before .before .before .before .before .before .before .before .before .before .before .before .before .args .game)) (take (c .before .before .before .before .before .before .before .before .before .before .before .before .before .before .before .before .before .before .before .before .before .before .before .before .before .before .before .args .count) (now (c .before .before .before .before .before .before .before .before .before .before .before .before .before .before .before .before .before .before .before .before .before .before .before .before .before .before .before .args .work))), length-take-le (c .before .before .before .before .before .before .before .before .before .before .before .before .before .before .before .before .before .before .before .before .before .before .before .before .before .before .before .args .count) (now (c .before .before .before .before .before .before .before .before .before .before .before .before .before .before .before .before .before .before .before .before .before .before .before .before .before .before .before .args .work)) (c .before .before .before .before .before .before .before .before .before .before .before .before .before .before .before .before .before .before .before .before .before .before .before .before .before .before .before .pre .0 .within), c .before .before .before .before .before .before .before .write-offsets .kept .1 .1 .1 .0, c .before .before .before .before .before .before .before .before .before .before .before .before .before .before .before .before .before .before .before .before .before .before .before .before .before .before .before .pre .0 .fit, c .before .before .before .write-targets .ensures .past, length-targets (keptVertices (now (c .before .before .before .before .before .before .before .before .before .before .before .before .before .before .before .before .before .before .before .before .before .before .before .before .before .before .before .args .game)) (take (c .before .before .before .before .before .before .before .before .before .before .before .before .before .before .before .before .before .before .before .before .before .before .before .before .before .before .before .args .count) (now (c .before .before .before .before .before .before .before .before .before .before .before .before .before .before .before .before .before .before .before .before .before .before .before .before .before .before .before .args .work)))), c .before .before .before .write-targets .kept .1 .1 .1 .1 .0, c .before .before .before .before .before .before .before .before .before .before .before .before .before .before .before .before .before .before .before .before .before .before .before .before .before .before .before .pre .0 .few, c .before .before .before .before .before .before .before .before .before .before .before .before .before .before .before .before .before .before .before .before .before .before .before .before .before .before .before .pre .1 .1, c .before .before .before .before .before .before .before .before .before .before .before .before .before .before .before .before .before .before .before .before .before .before .before .before .before .before .before .pre .0 .good .sized)
+fill-requires c κs = let s = c .before .before .before .before .before .before .before .before .before .before .before .before .before .before .before .before .before .before .before .before .before .before in
+    let p1 = columns-end _ _ _ (s .pre .0) (c .before .before .before .before .before .before .before .before .before .before .before .write-columns .ensures) in
+    let p2 = offsets-end _ _ _ (s .pre .0) (c .before .before .before .before .before .before .before .write-offsets .ensures) in
+    let p3 = targets-end _ _ _ (s .pre .0) (c .before .before .before .write-targets .ensures) in
+    omega (arith, p1, p2, p3, c .before .before .before .before .before .before .before .before .before .before .before .before .before .before .before .write-header .ensures .past, c .before .before .before .before .before .before .before .before .before .before .before .before .before .before .before .write-header .kept .1 .1 .0, c .before .before .before .before .before .before .before .before .before .before .before .write-columns .kept .1 .1 .1 .0, c .before .before .before .before .before .before .before .write-offsets .kept .1 .1 .1 .0, c .before .before .before .write-targets .kept .1 .1 .1 .1 .0, s .pre .0 .few, s .pre .0 .fit, s .pre .1 .1 .1, s .pre .0 .good .sized)
 
--- src/lib.rt:208:1
+-- src/lib.rt:218:1
 same-length : tie.Need-same-length
-same-length c = c .before .before .fill .kept .0 ∙ c .before .before .before .before .before .before .write-targets .kept .1 .1 .1 .1 .0 ∙ c .before .before .before .before .before .before .before .before .before .before .write-offsets .kept .1 .1 .1 .0 ∙ c .before .before .before .before .before .before .before .before .before .before .before .before .before .before .carry2 .kept .1 .1 .1 .1 .0 ∙ c .before .before .before .before .before .before .before .before .before .before .before .before .before .before .before .before .before .before .carry .kept .1 .1 .1 .1 .0 ∙ c .before .before .before .before .before .before .before .before .before .before .before .before .before .before .before .before .before .before .before .before .before .before .write-header .kept .1 .1 .0
+same-length c = search needs
 
--- src/lib.rt:208:1
+-- src/lib.rt:218:1
 returns : tie.Need-returns
-returns c = let g = now (c .before .before .before .before .before .before .before .before .before .before .before .before .before .before .before .before .before .before .before .before .before .before .before .before .before .before .before .before .before .before .args .game) in
-    let k = take (c .before .before .before .before .before .before .before .before .before .before .before .before .before .before .before .before .before .before .before .before .before .before .before .before .before .before .before .before .before .before .args .count) (now (c .before .before .before .before .before .before .before .before .before .before .before .before .before .before .before .before .before .before .before .before .before .before .before .before .before .before .before .before .before .before .args .work)) in
-    let o = now (c .before .before .before .before .before .before .before .before .before .before .before .before .before .before .before .before .before .before .before .before .before .before .before .before .before .before .before .before .before .before .args .out) in
-    let stretches = kept-stretches g k (c .before .before .before .before .before .before .before .before .before .before .before .before .before .before .before .before .before .before .before .before .before .before .before .before .before .at .result) (c .before .before .before .before .before .before .before .before .before .before .before .before .before .before .before .before .before .before .before .before .before .before .before .before .before .before .before .before .before .before .args .count) (c .before .before .before .before .before .before .before .before .before .before .before .before .before .before .before .before .before .before .before .before .before .before .before .before .count-edges .result) (c .before .before .before .before .before .before .before .before .before .before .before .before .before .before .before .before .before .before .before .before .before .before .before .before .before .at .ensures .0) (sym (length-take-le (c .before .before .before .before .before .before .before .before .before .before .before .before .before .before .before .before .before .before .before .before .before .before .before .before .before .before .before .before .before .before .args .count) (now (c .before .before .before .before .before .before .before .before .before .before .before .before .before .before .before .before .before .before .before .before .before .before .before .before .before .before .before .before .before .before .args .work)) (c .before .before .before .before .before .before .before .before .before .before .before .before .before .before .before .before .before .before .before .before .before .before .before .before .before .before .before .before .before .before .pre .0 .within))) (c .before .before .before .before .before .before .before .before .before .before .before .before .before .before .before .before .before .before .before .before .before .before .before .before .count-edges .ensures) in
-    let w0 : Writing 0 (gameOf (keptVertices g k)) o 0 (gameOf (keptVertices g k)) o = Rattle.words.proofs.Stretches.start in
-    let w1 = called (c .before .before .before .before .before .before .before .before .before .before .before .before .before .before .before .before .before .before .before .before .before .before .write-header .kept .1 .1 .0) (c .before .before .before .before .before .before .before .before .before .before .before .before .before .before .before .before .before .before .before .before .before .before .write-header .ensures) (turn stretches w0) in
-    let w2 = called {s = map (λ v. word g (3 + v)) k} (c .before .before .before .before .before .before .before .before .before .before .before .before .before .before .before .before .before .before .carry .kept .1 .1 .1 .1 .0) (c .before .before .before .before .before .before .before .before .before .before .before .before .before .before .before .before .before .before .carry .ensures) w1 in
-    let w3 = called {s = map (λ v. word g (3 + c .before .before .before .before .before .before .before .before .before .before .before .before .before .before .before .before .before .before .before .before .before .before .before .before .before .at .result + v)) k} (c .before .before .before .before .before .before .before .before .before .before .before .before .before .before .carry2 .kept .1 .1 .1 .1 .0) (c .before .before .before .before .before .before .before .before .before .before .before .before .before .before .carry2 .ensures) w2 in
-    let w4 = called (c .before .before .before .before .before .before .before .before .before .before .write-offsets .kept .1 .1 .1 .0) (c .before .before .before .before .before .before .before .before .before .before .write-offsets .ensures) w3 in
-    let w5 = called (c .before .before .before .before .before .before .write-targets .kept .1 .1 .1 .1 .0) (c .before .before .before .before .before .before .write-targets .ensures) w4 in
-    (c .before .before .before .before .before .before .before .before .before .before .before .before .before .before .before .before .before .before .before .before .before .before .before .before .count-edges .ensures, game-padded _ _ _ _ _ (done w5) (w5 .long) (c .before .before .fill .ensures))
+returns c = let s = c .before .before .before .before .before .before .before .before .before .before .before .before .before .before .before .before .before .before .before .before .before .before .before .before .before in
+    let g = now (s .args .game) in
+    let k = take (s .args .count) (now (s .args .work)) in
+    let o = now (s .args .out) in
+    let stretches = kept-stretches g k (s .args .count) (c .before .before .before .before .before .before .before .before .before .before .before .before .before .before .before .before .before .before .before .before .count-edges .result) (sym (length-take-le (s .args .count) (now (s .args .work)) (s .pre .0 .within))) (c .before .before .before .before .before .before .before .before .before .before .before .before .before .before .before .before .before .before .before .before .count-edges .ensures) in
+    let w0 : Writing 0 (gameOf 0 (keptVertices g k)) o 0 (gameOf 0 (keptVertices g k)) o = Rattle.words.proofs.Stretches.start in
+    let w1 = called (c .before .before .before .before .before .before .before .before .before .before .before .before .before .before .before .before .before .before .write-header .kept .1 .1 .0) (c .before .before .before .before .before .before .before .before .before .before .before .before .before .before .before .before .before .before .write-header .ensures) (turn stretches w0) in
+    let w2 = called (c .before .before .before .before .before .before .before .before .before .before .before .before .before .before .write-columns .kept .1 .1 .1 .0) (c .before .before .before .before .before .before .before .before .before .before .before .before .before .before .write-columns .ensures) w1 in
+    let w3 = called (c .before .before .before .before .before .before .before .before .before .before .write-offsets .kept .1 .1 .1 .0) (c .before .before .before .before .before .before .before .before .before .before .write-offsets .ensures) w2 in
+    let w4 = called (c .before .before .before .before .before .before .write-targets .kept .1 .1 .1 .1 .0) (c .before .before .before .before .before .before .write-targets .ensures) w3 in
+    (c .before .before .before .before .before .before .before .before .before .before .before .before .before .before .before .before .before .before .before .before .count-edges .ensures, game-padded _ _ _ _ _ (done w4) (w4 .long) (c .before .before .fill .ensures))
 
 pub write-game-spec : {M : Type 1} → statement M
 write-game-spec =
     tie.close
     (tie.spec
-    at-requires
     count-edges-requires
     cast-write-header
     cast-write-header-2
     write-header-requires
-    carry-requires
-    add-carry
-    carry-requires-2
+    write-columns-requires
     write-offsets-requires
     write-targets-requires
     fill-requires

@@ -21,7 +21,7 @@ entry-requires c κs = search needs
 
 -- src/lib.rt:87:9
 returns : tie.Need-returns
-returns c = rw (kind-none _ _ _ _ _ _ _ _ _ (c .before .before .before .before .before .before .before .before .before .before .before .before .pre .0) (c .before .before .before .before .before .before .before .before .before .before .before .before .args .state) _ (c .before .before .before .before .before .before .before .before .before .before .before .before .pre .1 .1) _ (c .before .entry .ensures) (c .if1 .taken)) (made-none _ _ _ _ (c .before .before .before .before .before .before .before .before .before .before .before .before .pre .1 .0 .0))
+returns c = rw (kind-none _ _ _ _ _ _ _ _ (c .before .before .before .before .before .before .before .before .before .before .before .pre .0) (c .before .before .before .before .before .before .before .before .before .before .before .args .state) _ (c .before .before .before .before .before .before .before .before .before .before .before .pre .1 .1) _ (c .before .entry .ensures) (c .if1 .taken)) (made-none _ _ _ _ (c .before .before .before .before .before .before .before .before .before .before .before .pre .1 .0 .0))
 
 -- src/lib.rt:89:9
 entry-requires-2 : tie.Need-entry-requires-2
@@ -38,7 +38,7 @@ is-modality-requires c κs = search needs
 -- src/lib.rt:92:9
 settle-modality-requires : tie.Need-settle-modality-requires
 settle-modality-requires c κs =
-    let s = c .before .before .before .before .before .before .before .before .before .before .before .before .before .before .before .before .before in
+    let s = c .before .before .before .before .before .before .before .before .before .before .before .before .before .before .before .before in
     let t = s .pre .0 in
     let m = eqb-true (c .before .before .before .before .before .before .entry .result / 2) 2 (sym (c .before .before .is-modality .ensures) ∙ c .before .if2 .taken) in (
       t .bytes,
@@ -52,8 +52,8 @@ settle-modality-requires c κs =
               s .pre .1 .0,
               (
                 s .pre .1 .1 .0,
-                action-there _ _ _ _ _ _ _ _ _ t _ _ (s .pre .1 .1) _ (c .before .before .before .before .before .before .entry .ensures) _ (c .before .before .before .before .entry2 .ensures) _ (c .before .before .before .entry3 .ensures) (omega (arith, m)) (omega (arith, m)),
-                left-small _ _ _ _ _ _ _ _ _ t _ _ (s .pre .1 .1) _ (c .before .before .before .before .before .before .entry .ensures) _ (c .before .before .before .before .entry2 .ensures) (omega (arith, c .before .before .before .before .before .if1 .left)),
+                action-there _ _ _ _ _ _ _ _ t _ _ (s .pre .1 .1) _ (c .before .before .before .before .before .before .entry .ensures) _ (c .before .before .before .before .entry2 .ensures) _ (c .before .before .before .entry3 .ensures) (omega (arith, m)) (omega (arith, m)),
+                left-small _ _ _ _ _ _ _ _ t _ _ (s .pre .1 .1) _ (c .before .before .before .before .before .before .entry .ensures) _ (c .before .before .before .before .entry2 .ensures) (omega (arith, c .before .before .before .before .before .if1 .left)),
               ),
             ),
           ),
@@ -68,9 +68,9 @@ same-length c = search needs
 -- src/lib.rt:92:9
 returns-2 : tie.Need-returns-2
 returns-2 c =
-    let s = c .before .before .before .before .before .before .before .before .before .before .before .before .before .before .before .before .before .before .before .before in
+    let s = c .before .before .before .before .before .before .before .before .before .before .before .before .before .before .before .before .before .before .before in
     let m = eqb-true (c .before .before .before .before .before .before .before .before .before .entry .result / 2) 2 (sym (c .before .before .before .before .before .is-modality .ensures) ∙ c .before .before .before .before .if2 .taken) in
-    rw (kind-modal _ _ _ _ _ _ _ _ _ (s .pre .0) (s .args .state) _ (s .pre .1 .1) _ (c .before .before .before .before .before .before .before .before .before .entry .ensures) _ (c .before .before .before .before .before .before .before .entry2 .ensures) _ (c .before .before .before .before .before .before .entry3 .ensures) (omega (arith, m)) (omega (arith, m))) (c .before .before .settle-modality .ensures)
+    rw (kind-modal _ _ _ _ _ _ _ _ (s .pre .0) (s .args .state) _ (s .pre .1 .1) _ (c .before .before .before .before .before .before .before .before .before .entry .ensures) _ (c .before .before .before .before .before .before .before .entry2 .ensures) _ (c .before .before .before .before .before .before .entry3 .ensures) (omega (arith, m)) (omega (arith, m))) (c .before .before .settle-modality .ensures)
 
 -- src/lib.rt:110:9
 operand-count-requires : tie.Need-operand-count-requires
@@ -79,17 +79,17 @@ operand-count-requires c κs = search needs
 -- src/lib.rt:111:5
 settle-operands-requires : tie.Need-settle-operands-requires
 settle-operands-requires c κs =
-    let s = c .before .before .before .before .before .before .before .before .before .before .before .before .before .before .before .before .before .before in
+    let s = c .before .before .before .before .before .before .before .before .before .before .before .before .before .before .before .before .before in
     let m = eqb-false (c .before .before .before .before .before .before .before .entry .result / 2) 2 (sym (c .before .before .before .is-modality .ensures) ∙ c .before .before .if2 .left) in
     let o = c .before .operand-count .ensures in (
       s .pre .0 .bytes,
       (
         (
           s .pre .1 .0 .0,
-          left-fits _ _ _ _ _ _ _ _ _ (s .pre .0) _ _ (s .pre .1 .1) _ (c .before .before .before .before .before .before .before .entry .ensures) _ (c .before .before .before .before .before .entry2 .ensures) (omega (arith, c .before .before .before .before .before .before .if1 .left)),
-          operands-few _ _ _ _ _ _ _ _ _ (s .pre .0) (s .args .state) _ (s .pre .1 .1) _ (c .before .before .before .before .before .before .before .entry .ensures) _ (c .before .before .before .before .before .entry2 .ensures) _ (c .before .before .before .before .entry3 .ensures) _ (o .0) (o .1) (omega (arith, c .before .before .before .before .before .before .if1 .left)) (λ h. omega (arith, m)),
+          left-fits _ _ _ _ _ _ _ _ (s .pre .0) _ _ (s .pre .1 .1) _ (c .before .before .before .before .before .before .before .entry .ensures) _ (c .before .before .before .before .before .entry2 .ensures) (omega (arith, c .before .before .before .before .before .before .if1 .left)),
+          operands-few _ _ _ _ _ _ _ _ (s .pre .0) (s .args .state) _ (s .pre .1 .1) _ (c .before .before .before .before .before .before .before .entry .ensures) _ (c .before .before .before .before .before .entry2 .ensures) _ (c .before .before .before .before .entry3 .ensures) _ (o .0) (o .1) (omega (arith, c .before .before .before .before .before .before .if1 .left)) (λ h. omega (arith, m)),
         ),
-        second-fits _ _ _ _ _ _ _ _ _ (s .pre .0) _ _ (s .pre .1 .1) _ (c .before .before .before .before .before .before .before .entry .ensures) _ (c .before .before .before .before .before .entry2 .ensures) _ (c .before .before .before .before .entry3 .ensures) _ (o .0) (o .1) (omega (arith, c .before .before .before .before .before .before .if1 .left)) (λ h. omega (arith, m)),
+        second-fits _ _ _ _ _ _ _ _ (s .pre .0) _ _ (s .pre .1 .1) _ (c .before .before .before .before .before .before .before .entry .ensures) _ (c .before .before .before .before .before .entry2 .ensures) _ (c .before .before .before .before .entry3 .ensures) _ (o .0) (o .1) (omega (arith, c .before .before .before .before .before .before .if1 .left)) (λ h. omega (arith, m)),
       ),
     )
 
@@ -100,10 +100,10 @@ same-length-2 c = search needs
 -- src/lib.rt:59:1
 returns-3 : tie.Need-returns-3
 returns-3 c =
-    let s = c .before .before .before .before .before .before .before .before .before .before .before .before .before .before .before .before .before .before .before .before .before in
+    let s = c .before .before .before .before .before .before .before .before .before .before .before .before .before .before .before .before .before .before .before .before in
     let m = eqb-false (c .before .before .before .before .before .before .before .before .before .before .entry .result / 2) 2 (sym (c .before .before .before .before .before .before .is-modality .ensures) ∙ c .before .before .before .before .before .if2 .left) in
     let o = c .before .before .before .before .operand-count .ensures in
-    rw (kind-operands _ _ _ _ _ _ _ _ _ (s .pre .0) (s .args .state) _ (s .pre .1 .1) _ (c .before .before .before .before .before .before .before .before .before .before .entry .ensures) _ (c .before .before .before .before .before .before .before .before .entry2 .ensures) _ (c .before .before .before .before .before .before .before .entry3 .ensures) _ (o .0) (o .1) (omega (arith, c .before .before .before .before .before .before .before .before .before .if1 .left)) (λ h. omega (arith, m))) (c .before .before .settle-operands .ensures)
+    rw (kind-operands _ _ _ _ _ _ _ _ (s .pre .0) (s .args .state) _ (s .pre .1 .1) _ (c .before .before .before .before .before .before .before .before .before .before .entry .ensures) _ (c .before .before .before .before .before .before .before .before .entry2 .ensures) _ (c .before .before .before .before .before .before .before .entry3 .ensures) _ (o .0) (o .1) (omega (arith, c .before .before .before .before .before .before .before .before .before .if1 .left)) (λ h. omega (arith, m))) (c .before .before .settle-operands .ensures)
 
 pub settle-spec : {M : Type 1} → statement M
 settle-spec =

@@ -15,7 +15,7 @@ use Rattle.words.proofs.region_word.Reads as region-word-reads
 
 -- src/lib.rt:158:9
 returns : tie.Need-returns
-returns c = step-none _ _ _ _ _ _ (c .before .before .before .before .before .before .before .before .before .before .before .pre .1) (c .if1 .taken)
+returns c = step-none _ _ _ _ _ _ (c .before .before .before .before .before .before .before .before .before .before .pre .1) (c .if1 .taken)
 
 -- src/lib.rt:161:15
 sub-top : tie.Need-sub-top
@@ -28,25 +28,31 @@ region-word-requires c κs = search needs
 -- src/lib.rt:163:9
 state-of-requires : tie.Need-state-of-requires
 state-of-requires c κs =
-    let g = c .before .before .before .before .before .before .before .before .before .before .before .before .before .before .pre .1 in
+    let g = c .before .before .before .before .before .before .before .before .before .before .before .before .before .pre .1 in
     (omega (arith, g .ready .whole), top-below _ _ _ _ _ _ g (c .before .before .before .if1 .left) _ (c .before .region-word .ensures))
 
 -- src/lib.rt:164:9
 item-of-requires : tie.Need-item-of-requires
 item-of-requires c κs =
-    let g = c .before .before .before .before .before .before .before .before .before .before .before .before .before .before .before .before .pre .1 in
+    let g = c .before .before .before .before .before .before .before .before .before .before .before .before .before .before .before .pre .1 in
     (omega (arith, g .ready .whole), top-below _ _ _ _ _ _ g (c .before .before .before .before .before .if1 .left) _ (c .before .before .before .region-word .ensures))
+
+add-put-word : tie.Need-add-put-word
+add-put-word c =
+    let one = c .before .before .before .before .before .before .before .before .before in
+    let g = one .before .before .before .before .before .before .before .before .pre .1 in
+    omega (arith, g .ready .buffer, g .ready .most-edges)
 
 -- src/lib.rt:165:5
 put-word-requires : tie.Need-put-word-requires
 put-word-requires c κs =
-    let g = c .before .before .before .before .before .before .before .before .before .before .before .before .before .before .before .before .before .before .pre .1 in
+    let g = c .before .before .before .before .before .before .before .before .before .before .before .before .before .before .before .before .before .pre .1 in
     record { whole = omega (arith, g .ready .whole); region = omega arith; word = top-below _ _ _ _ _ _ g (c .before .before .before .before .before .before .before .if1 .left) _ (c .before .before .before .before .before .region-word .ensures) }
 
 -- src/lib.rt:172:11
 settle-requires : tie.Need-settle-requires
 settle-requires c κs =
-    let s = c .before .before .before .before .before .before .before .before .before .before .before .before .before .before .before .before .before .before .before .before .before .before in
+    let s = c .before .before .before .before .before .before .before .before .before .before .before .before .before .before .before .before .before .before .before .before .before in
     let g = s .pre .1 in (
       s .pre .0,
       (
@@ -66,7 +72,7 @@ enum-known-made c = search needs
 -- src/lib.rt:191:32
 close-requires : tie.Need-close-requires
 close-requires c κs =
-    let s = c .before .before .before .before .before .before .before .before .before .before .before .before .before .before .before .before .before .before .before .before .before .before .before .before .before .before .before .before .before in
+    let s = c .before .before .before .before .before .before .before .before .before .before .before .before .before .before .before .before .before .before .before .before .before .before .before .before .before .before .before .before in
     let m = subst (Answer _ _ _ _ _ _) (c .before .before .made .given .1) (c .before .before .before .before .before .before .settle .ensures) in
     pop-close _ (s .pre .0 .input) _ _ _ _ (s .pre .1) (c .before .before .before .before .before .before .before .before .before .before .before .before .before .before .before .before .before .before .if1 .left) _ (c .before .before .before .before .before .before .before .before .before .before .before .before .before .before .before .before .region-word .ensures) _ _ (c .before .before .before .before .before .before .before .before .before .before .before .before .before .before .state-of .ensures) (c .before .before .before .before .before .before .before .before .before .before .before .before .item-of .ensures) _ (c .before .before .before .before .before .before .before .before .before .before .put-word .ensures) _ _ m
 
@@ -81,7 +87,7 @@ same-length c = search needs
 -- src/lib.rt:134:1
 returns-2 : tie.Need-returns-2
 returns-2 c =
-    let s = c .before .before .before .before .before .before .before .before .before .before .before .before .before .before .before .before .before .before .before .before .before .before .before .before .before .before .before .before .before .before .before .before in
+    let s = c .before .before .before .before .before .before .before .before .before .before .before .before .before .before .before .before .before .before .before .before .before .before .before .before .before .before .before .before .before .before .before in
     let m = subst (Answer _ _ _ _ _ _) (c .before .before .before .before .before .made .given .1) (c .before .before .before .before .before .before .before .before .before .settle .ensures) in
     pop-answer _ (s .pre .0 .input) _ _ _ _ (s .pre .1) (c .before .before .before .before .before .before .before .before .before .before .before .before .before .before .before .before .before .before .before .before .before .if1 .left) _ (c .before .before .before .before .before .before .before .before .before .before .before .before .before .before .before .before .before .before .before .region-word .ensures) _ _ (c .before .before .before .before .before .before .before .before .before .before .before .before .before .before .before .before .before .state-of .ensures) (c .before .before .before .before .before .before .before .before .before .before .before .before .before .before .before .item-of .ensures) _ (c .before .before .before .before .before .before .before .before .before .before .before .before .before .put-word .ensures) _ _ m (c .before .before .close .last .1 .0) (c .before .before .close .result) (c .before .before .close .ensures)
 
@@ -92,7 +98,7 @@ same-length-2 c = search needs
 -- src/lib.rt:134:1
 returns-3 : tie.Need-returns-3
 returns-3 c =
-    let s = c .before .before .before .before .before .before .before .before .before .before .before .before .before .before .before .before .before .before .before .before .before .before .before .before .before .before .before in
+    let s = c .before .before .before .before .before .before .before .before .before .before .before .before .before .before .before .before .before .before .before .before .before .before .before .before .before .before in
     let m = subst (Answer _ _ _ _ _ _) (c .enum-told .given .1) (c .before .before .before .before .settle .ensures) in
     pop-full _ (s .pre .0 .input) _ _ _ _ (s .pre .1) (c .before .before .before .before .before .before .before .before .before .before .before .before .before .before .before .before .if1 .left) _ (c .before .before .before .before .before .before .before .before .before .before .before .before .before .before .region-word .ensures) _ _ (c .before .before .before .before .before .before .before .before .before .before .before .before .state-of .ensures) (c .before .before .before .before .before .before .before .before .before .before .item-of .ensures) _ (c .before .before .before .before .before .before .before .before .put-word .ensures) m
 
@@ -105,6 +111,7 @@ step-spec =
     region-word-requires
     state-of-requires
     item-of-requires
+    add-put-word
     put-word-requires
     settle-requires
     enum-known-made

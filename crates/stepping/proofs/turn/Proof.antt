@@ -12,7 +12,7 @@ use Rattle.stepping.proofs.step.Reads as step-reads
 
 -- src/lib.rt:193:9
 returns : tie.Need-returns
-returns c = inl (c .if1 .taken, step-none _ _ _ _ _ _ (c .before .before .before .before .before .before .before .before .before .before .before .before .pre .1) (c .if1 .taken))
+returns c = inl (c .if1 .taken, step-none _ _ _ _ _ _ (c .before .before .before .before .before .before .before .before .before .before .before .pre .1) (c .if1 .taken))
 
 -- src/lib.rt:198:11
 step-requires : tie.Need-step-requires

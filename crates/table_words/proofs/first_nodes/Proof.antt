@@ -1,21 +1,22 @@
-use Prim.Native.Nat.{_+_, _≤_, _-_}
+use Prim.Native.Nat.{ℕ, _+_, _≤_, _-_}
 use native.Mathlib.Omega.{arith}
 use mathlib.Core.Path.{_≡_}
 use denote.Ref.{now}
 use lib.ListN.{length, length-set}
 use Rattle.rules.specs.Table.{size}
 use Rattle.tables.proofs.Ends.{end-number-past, end-number-most}
-use Rattle.table_words.specs.Tables.{childrenOf}
+use Rattle.table_words.specs.Tables.{Ends}
 use Rattle.table_words.proofs.Row.{FirstsTo, firsts-start, firsts-more, firsts-all}
 use borrow.Author.Needs.{needs}
 use Rattle.table_words.proofs.first_nodes.Statement.{statement}
 use Rattle.table_words.proofs.first_nodes.Tie as tie
 
 abbrev Inv-loop : tie.InvT-loop
-Inv-loop ws formula ends firsts₀ m v₀ firsts v = (v ≤ size ws + 1) × (length firsts ≡ 1025) × FirstsTo (childrenOf formula ws) (size ws) v firsts
+Inv-loop ws ends firsts₀ m v₀ firsts v =
+    (v ≤ size ws + 1) × (length firsts ≡ 1025) × ((c : ℕ → ℕ) → Ends c (size ws) ends → FirstsTo c (size ws) v firsts)
 
 abbrev μ-loop : tie.MeasureT-loop
-μ-loop ws formula ends firsts₀ m v₀ firsts v = size ws + 1 - v
+μ-loop ws ends firsts₀ m v₀ firsts v = size ws + 1 - v
 
 -- src/lib.rt:101:9
 at-requires : tie.Need-at-requires Inv-loop μ-loop
@@ -23,8 +24,12 @@ at-requires c κs = search needs
 
 -- src/lib.rt:103:5
 loop-holds : tie.Need-loop-holds Inv-loop μ-loop
-loop-holds c = let s = c .before .before in
-    (omega arith, s .pre .0 .1, firsts-start (childrenOf (s .args .formula) (now (s .args .ws))) (size (now (s .args .ws))) (now (s .args .firsts)) (s .pre .1 .1))
+loop-holds c = let s = c .before .before in (
+  omega arith,
+  s .pre .0 .1,
+  λ children known. firsts-start children (size (now (s .args .ws)))
+      (now (s .args .firsts)) (s .pre .1 .1),
+)
 
 -- src/lib.rt:104:9
 element-write-firsts : tie.Need-element-write-firsts Inv-loop μ-loop
@@ -43,25 +48,28 @@ loop-less : tie.Need-loop-less Inv-loop μ-loop
 loop-less c = let s = c .before .before .before .before .before in
     let l = c .before .before .loop in
     let n = size (now (s .args .ws)) in
-    let k = s .pre .1 .0 (l .v) (omega arith) in
-    omega (arith, end-number-past (childrenOf (s .args .formula) (now (s .args .ws))) n (l .v) (omega arith))
+    let k = s .pre .1 .0 .1 (l .v) (omega arith) in
+    omega (arith, end-number-past (s .pre .1 .0 .0) n (l .v) (omega arith))
 
 -- src/lib.rt:103:5
 loop-again : tie.Need-loop-again Inv-loop μ-loop
 loop-again c = let s = c .before .before .before .before .before in
     let l = c .before .before .loop in
     let n = size (now (s .args .ws)) in
-    let k = s .pre .1 .0 (l .v) (omega arith) in (
-      omega (arith, end-number-most (childrenOf (s .args .formula) (now (s .args .ws))) n (l .v)),
+    let k = s .pre .1 .0 .1 (l .v) (omega arith) in (
+      omega (arith, end-number-most (s .pre .1 .0 .0) n (l .v)),
       simp length-set (l .inv .1),
-      firsts-more (childrenOf (s .args .formula) (now (s .args .ws))) n (l .v) _ (l .firsts) k (omega arith) (omega arith) (l .inv .2),
+      λ children known.
+          firsts-more children n (l .v) _ (l .firsts) (known (l .v) (omega arith)) (omega arith) (omega arith)
+          (l .inv .2 children known),
     )
 
 -- src/lib.rt:95:1
 returns : tie.Need-returns Inv-loop μ-loop
 returns c = let s = c .before .before .before .before in
     let l = c .before .loop in
-    firsts-all (childrenOf (s .args .formula) (now (s .args .ws))) (size (now (s .args .ws))) (l .v) (l .firsts) (omega arith) (l .inv .2)
+    λ children known.
+    firsts-all children (size (now (s .args .ws))) (l .v) (l .firsts) (omega arith) (l .inv .2 children known)
 
 pub first-nodes-spec : {M : Type 1} → statement M
 first-nodes-spec =

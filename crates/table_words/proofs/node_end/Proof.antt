@@ -44,23 +44,37 @@ returns-2 c = let s = c .before .before .before .before .before in
 mul-result : tie.Need-mul-result
 mul-result c = let s = c .before .before .before .before .before in
     let k = s .pre .1 (s .args .v + 1) (omega arith) (omega arith) in
-    omega (arith, end-number-most (childrenOf (s .args .formula) (now (s .args .ws))) (size (now (s .args .ws))) (s .args .v + 1))
+    omega (
+      arith,
+      end-number-most (childrenOf (s .args .table) (now (s .args .ws))) (size (now (s .args .ws)))
+          (s .args .v + 1),
+    )
 
 -- src/lib.rt:75:5
 element-copy-out-result : tie.Need-element-copy-out-result
 element-copy-out-result c = let s = c .before .before .before .before .before in
     let k = s .pre .1 (s .args .v + 1) (omega arith) (omega arith) in
-    omega (arith, end-number-most (childrenOf (s .args .formula) (now (s .args .ws))) (size (now (s .args .ws))) (s .args .v + 1))
+    omega (
+      arith,
+      end-number-most (childrenOf (s .args .table) (now (s .args .ws))) (size (now (s .args .ws)))
+          (s .args .v + 1),
+    )
 
 -- src/lib.rt:62:1
 returns-3 : tie.Need-returns-3
 returns-3 c = let s = c .before .before .before .before .before .before in
-    let c₁ = childrenOf (s .args .formula) (now (s .args .ws)) in
+    let c₁ = childrenOf (s .args .table) (now (s .args .ws)) in
     let n = size (now (s .args .ws)) in
     let k = s .pre .1 (s .args .v + 1) (omega arith) (omega arith) in
     let most = end-number-most c₁ n (s .args .v + 1) in
     let past = end-number-past c₁ n (s .args .v + 1) (omega arith) in
-    let two : childrenOf (s .args .formula) (now (s .args .ws)) (s .args .v) ≡ 2 = omega (arith, children-most (s .args .formula) (now (s .args .ws)) (s .args .v), c .before .before .before .before .children-at .ensures) in
+    let two : childrenOf (s .args .table) (now (s .args .ws)) (s .args .v)
+    ≡ 2 = omega (
+      arith,
+      children-most (s .args .table) (now (s .args .ws)) (s .args .v) (s .pre .0 .1),
+      c .before
+          .before .before .before .children-at .ensures,
+    ) in
     s .pre .1 _ (omega arith) (omega arith) ∙ ap (endOf c₁ n) k ∙ sym (end-number-two c₁ n _ (s .pre .0 .1) two)
 
 pub node-end-spec : {M : Type 1} → statement M

@@ -12,10 +12,12 @@ use Rattle.table_words.proofs.tree_ends.Statement.{statement}
 use Rattle.table_words.proofs.tree_ends.Tie as tie
 
 abbrev Inv-loop : tie.InvT-loop
-Inv-loop ws formula ends₀ m v₀ ends v = (v ≤ size ws) × (length ends ≡ 1026) × ((j : ℕ) → v ≤ j → j ≤ size ws + 1 → getD ends j 0 ≡ endOf (childrenOf formula ws) (size ws) j)
+Inv-loop ws table ends₀ m v₀ ends v =
+    (v ≤ size ws) × (length ends ≡ 1026)
+    × ((j : ℕ) → v ≤ j → j ≤ size ws + 1 → getD ends j 0 ≡ endOf (childrenOf table ws) (size ws) j)
 
 abbrev μ-loop : tie.MeasureT-loop
-μ-loop ws formula ends₀ m v₀ ends v = v
+μ-loop ws table ends₀ m v₀ ends v = v
 
 -- src/lib.rt:83:9
 at-requires : tie.Need-at-requires Inv-loop μ-loop
@@ -54,8 +56,8 @@ loop-holds : tie.Need-loop-holds Inv-loop μ-loop
 loop-holds c = let s = c .before .before in
     let es = now (s .args .ends) in
     let m = c .at .result in
-    let f = endOf (childrenOf (s .args .formula) (now (s .args .ws))) (size (now (s .args .ws))) in
-    let out = end-number-out (childrenOf (s .args .formula) (now (s .args .ws))) (size (now (s .args .ws))) in
+    let f = endOf (childrenOf (s .args .table) (now (s .args .ws))) (size (now (s .args .ws))) in
+    let out = end-number-out (childrenOf (s .args .table) (now (s .args .ws))) (size (now (s .args .ws))) in
     let top = size (now (s .args .ws)) + 1 in (
       omega arith,
       simp length-set (s .pre .1),
@@ -89,7 +91,8 @@ loop-again c = let s = c .before .before .before .before .before .before in
     let l = c .before .before .before .loop in (
       omega arith,
       simp length-set (l .inv .1),
-      set-down (endOf (childrenOf (s .args .formula) (now (s .args .ws))) (size (now (s .args .ws)))) (l .ends) (l .v - 1) (size (now (s .args .ws)) + 1) (c .node-end .result) (omega arith) (c .node-end .ensures)
+      set-down (endOf (childrenOf (s .args .table) (now (s .args .ws))) (size (now (s .args .ws)))) (l .ends) (l .v - 1)
+          (size (now (s .args .ws)) + 1) (c .node-end .result) (omega arith) (c .node-end .ensures)
           (λ j h k. l .inv .2 j (omega arith) k),
     )
 

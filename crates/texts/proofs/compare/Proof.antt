@@ -6,15 +6,14 @@ use Rattle.texts.proofs.compare.Statement.{statement}
 use Rattle.texts.proofs.compare.Tie as tie
 use Rattle.texts.proofs.compare.Reads as reads
 use Rattle.texts.proofs.compare.Lts as lts
-use Rattle.texts.proofs.hashes.Reads as hashes-reads
 use Rattle.texts.proofs.read_and_judge.Reads as read-and-judge-reads
 use Rattle.texts.proofs.zeros.Reads as zeros-reads
 
 zeros-requires : tie.Need-zeros-requires
 zeros-requires c κs = search needs
 
-hashes-requires : tie.Need-hashes-requires
-hashes-requires c κs = search needs
+zeros-requires-2 : tie.Need-zeros-requires-2
+zeros-requires-2 c κs = search needs
 
 array-borrow-prefix-input : tie.Need-array-borrow-prefix-input
 array-borrow-prefix-input c = search needs
@@ -36,7 +35,7 @@ compare-spec =
     tie.close
     (tie.spec
     zeros-requires
-    hashes-requires
+    zeros-requires-2
     array-borrow-prefix-input
     slice-aggregate-read-and-judge
     slice-aggregate-read-and-judge-2

@@ -10,11 +10,11 @@ use Rattle.translate.proofs.write_out.Reads as write-out-reads
 
 -- src/lib.rt:139:9
 explore-requires : tie.Need-explore-requires
-explore-requires c κs = (c .before .before .before .before .before .before .before .before .before .before .before .before .pre .0, sized _ _ _ 0 (c .before .before .before .before .before .before .before .before .before .before .before .before .args .game .now) _ (c .before .before .before .before .before .before .before .before .before .before .before .before .pre .1))
+explore-requires c κs = (c .before .before .before .before .before .before .before .before .before .before .before .before .pre .0, sized _ _ _ 0 (c .before .before .before .before .before .before .before .before .before .before .before .before .args .game .now) _ (c .before .before .before .before .before .before .before .before .before .before .before .before .pre .1 .1))
 
 -- src/lib.rt:156:5
 write-out-requires : tie.Need-write-out-requires
-write-out-requires c κs = (c .before .before .before .before .before .before .before .before .before .before .before .before .before .before .before .before .before .pre .0 .items, (walked-passed _ _ _ _ _ (c .before .before .before .before .explore .kept .1 .0) (c .before .before .before .before .before .before .before .before .before .before .before .before .before .before .before .before .before .pre .1), c .before .before .before .before .explore .ensures))
+write-out-requires c κs = (c .before .before .before .before .before .before .before .before .before .before .before .before .before .before .before .before .before .pre .0 .items, (c .before .before .before .before .before .before .before .before .before .before .before .before .before .before .before .before .before .pre .1 .0, (walked-passed _ _ _ _ _ (c .before .before .before .before .explore .kept .1 .0) (c .before .before .before .before .before .before .before .before .before .before .before .before .before .before .before .before .before .pre .1 .1), c .before .before .before .before .explore .ensures)))
 
 -- src/lib.rt:116:1
 same-length : tie.Need-same-length
@@ -26,7 +26,7 @@ same-length-2 c = search needs
 
 -- src/lib.rt:116:1
 returns : tie.Need-returns
-returns c = c .before .before .before .before .write-out .ensures ∙ run-any-work _ _ _ _ _ _ (sym (c .before .before .before .before .before .before .before .before .before .explore .kept .1 .0)) (walked-passed _ _ _ _ _ (c .before .before .before .before .before .before .before .before .before .explore .kept .1 .0) (c .before .before .before .before .before .before .before .before .before .before .before .before .before .before .before .before .before .before .before .before .before .before .pre .1))
+returns c = λ rank ranks. c .before .before .before .before .write-out .ensures rank ranks ∙ run-any-work rank _ _ _ _ _ _ (sym (c .before .before .before .before .before .before .before .before .before .explore .kept .1 .0)) (walked-passed _ _ _ _ _ (c .before .before .before .before .before .before .before .before .before .explore .kept .1 .0) (c .before .before .before .before .before .before .before .before .before .before .before .before .before .before .before .before .before .before .before .before .before .before .pre .1 .1))
 
 pub build-game-spec : {M : Type 1} → statement M
 build-game-spec =

@@ -1,4 +1,5 @@
 use native.Mathlib.Omega.{arith}
+use Rattle.rules.specs.Depth.{byDepth}
 use Rattle.tables.proofs.Accepted.{accepted-words}
 use borrow.Author.Needs.{needs}
 use Rattle.translate.proofs.build_items.Statement.{statement}
@@ -54,7 +55,7 @@ build-walk-requires c κs =
     let s = c .before .before .before .before .before .before .before .before .before .before .before .before .before .before .before .before .before .before .before .before .before .before .before .before in
     let made = c .before .before .before .before .before .before .before .before .before .before .before .compile .ensures in
     let table = made .1 .0 in
-    (s .pre .0, (table, ((omega (arith, made .0, table .kinds-room), omega (arith, made .0, table .rights-room)), s .pre .1)))
+    (s .pre .0, (table, ((omega (arith, made .0, table .kinds-room), omega (arith, made .0, table .rights-room), made .1 .1 .0 .room), s .pre .1)))
 
 -- src/lib.rt:219:1
 same-length : tie.Need-same-length
@@ -66,7 +67,7 @@ same-length-2 c = search needs
 
 -- src/lib.rt:219:1
 returns : tie.Need-returns
-returns c = search needs
+returns c = c .before .before .before .before .build-walk .ensures byDepth (c .before .before .before .before .before .before .before .before .before .before .before .before .before .before .before .before .compile .ensures .1 .1 .0)
 
 pub build-items-spec : {M : Type 1} → statement M
 build-items-spec =

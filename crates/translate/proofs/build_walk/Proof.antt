@@ -25,7 +25,7 @@ make-match-table-requires : tie.Need-make-match-table-requires
 make-match-table-requires c κs =
     let s = c .before .before .before .before .before .before .before .before .before .before .before .before .before .before .before in
     let x = accepted-words _ _ _ _ (s .pre .1 .1 .1) in
-    ((x .labels, x .actions, s .pre .0), (s .pre .1 .1 .0, zeros-no-rows _ refl))
+    ((x .labels, x .actions, s .pre .0), ((s .pre .1 .1 .0 .0, s .pre .1 .1 .0 .1), zeros-no-rows _ refl))
 
 -- src/lib.rt:206:5
 build-game-requires : tie.Need-build-game-requires
@@ -39,7 +39,7 @@ build-game-requires c κs =
         answers = c .before .before .before .before .before .make-match-table .ensures;
         items = s .pre .1 .0;
       },
-      s .pre .1 .1 .1,
+      (s .pre .1 .1 .0 .2, s .pre .1 .1 .1),
     )
 
 -- src/lib.rt:173:1

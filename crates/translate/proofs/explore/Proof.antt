@@ -20,7 +20,7 @@ enum-known-c c = search needs
 
 -- src/lib.rt:49:29
 walk-requires : tie.Need-walk-requires
-walk-requires c κs = (c .before .before .before .before .before .before .before .before .before .before .before .before .before .before .before .before .before .before .pre .0, subst (WalkAnswer _ _ _ _ _ _) (c .before .before .c .given .1) (c .before .before .before .before .before .before .begin .ensures))
+walk-requires c κs = (c .before .before .before .before .before .before .before .before .before .before .before .before .before .before .before .before .before .pre .0, subst (WalkAnswer _ _ _ _ _ _) (c .before .before .c .given .1) (c .before .before .before .before .before .before .begin .ensures))
 
 -- src/lib.rt:67:26
 enum-told : tie.Need-enum-told

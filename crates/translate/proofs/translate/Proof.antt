@@ -1,4 +1,5 @@
 use mathlib.Core.Path.{_∙_, sym}
+use Rattle.rules.specs.Depth.{byDepth}
 use Rattle.translate.proofs.Outcomes.{refused-run, whole-run}
 use borrow.Author.Needs.{needs}
 use Rattle.translate.proofs.translate.Statement.{statement}
@@ -26,7 +27,7 @@ build-requires c κs = sym (c .before .before .before .before .check .ensures) �
 
 -- src/lib.rt:262:1
 returns : tie.Need-returns
-returns c = whole-run _ _ _ _ _ _ _ _ (refused-run _ _ _ _ _ _ _ (sym (c .before .before .before .check .ensures) ∙ c .before .number .given .1))
+returns c = whole-run byDepth _ _ _ _ _ _ _ _ (refused-run byDepth _ _ _ _ _ _ _ (sym (c .before .before .before .check .ensures) ∙ c .before .number .given .1))
 
 -- src/lib.rt:262:1
 same-length : tie.Need-same-length
@@ -38,7 +39,7 @@ same-length-2 c = search needs
 
 -- src/lib.rt:262:1
 returns-2 : tie.Need-returns-2
-returns-2 c = whole-run _ _ _ _ _ _ _ _ (c .before .before .before .before .build .ensures)
+returns-2 c = whole-run byDepth _ _ _ _ _ _ _ _ (c .before .before .before .before .build .ensures)
 
 pub translate-spec : {M : Type 1} → statement M
 translate-spec =

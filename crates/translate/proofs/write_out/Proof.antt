@@ -15,7 +15,7 @@ enum-known-walked c = search needs
 
 -- src/lib.rt:98:13
 write-game-requires : tie.Need-write-game-requires
-write-game-requires c κs = showable _ _ _ _ (c .before .before .before .before .before .before .before .before .before .before .before .before .before .before .before .args .game .now) _ (c .before .before .before .before .before .before .before .before .before .before .before .before .before .before .before .pre .1 .0) _ _ _ _ (c .before .before .before .before .before .before .before .before .before .before .before .before .before .before .before .pre .0) _ (subst (WalkAnswer _ _ _ _ _ _) (c .before .before .before .walked .given .1) (c .before .before .before .before .before .before .before .before .before .before .before .before .before .before .before .pre .1 .1))
+write-game-requires c κs = showable _ _ _ _ (c .before .before .before .before .before .before .before .before .before .before .before .before .before .before .before .args .game .now) _ (c .before .before .before .before .before .before .before .before .before .before .before .before .before .before .before .pre .1 .1 .0) _ _ _ _ (c .before .before .before .before .before .before .before .before .before .before .before .before .before .before .before .pre .0) (c .before .before .before .before .before .before .before .before .before .before .before .before .before .before .before .pre .1 .0) _ (subst (WalkAnswer _ _ _ _ _ _) (c .before .before .before .walked .given .1) (c .before .before .before .before .before .before .before .before .before .before .before .before .before .before .before .pre .1 .1 .1))
 
 -- src/lib.rt:99:13
 clear-requires : tie.Need-clear-requires
@@ -31,7 +31,7 @@ same-length-2 c = search needs
 
 -- src/lib.rt:101:17
 returns : tie.Need-returns
-returns c = done-run _ _ _ _ _ _ (c .before .before .before .before .before .before .before .before .before .before .before .before .before .before .before .before .before .before .before .before .before .before .before .before .pre .1 .0) _ _ _ _ (c .before .before .before .before .before .before .before .before .before .before .before .before .before .before .before .before .before .before .before .before .before .before .before .before .pre .0) _ (subst (WalkAnswer _ _ _ _ _ _) (c .before .before .before .before .before .before .before .before .before .before .before .before .walked .given .1) (c .before .before .before .before .before .before .before .before .before .before .before .before .before .before .before .before .before .before .before .before .before .before .before .before .pre .1 .1)) _ _ (c .if1 .taken) (c .before .before .before .before .before .before .before .before .write-game .ensures) (c .before .before .before .before .clear .ensures)
+returns c = λ rank ranks. done-run _ _ _ _ _ _ (c .before .before .before .before .before .before .before .before .before .before .before .before .before .before .before .before .before .before .before .before .before .before .before .before .pre .1 .1 .0) rank _ _ _ _ (c .before .before .before .before .before .before .before .before .before .before .before .before .before .before .before .before .before .before .before .before .before .before .before .before .pre .0) ranks _ (subst (WalkAnswer _ _ _ _ _ _) (c .before .before .before .before .before .before .before .before .before .before .before .before .walked .given .1) (c .before .before .before .before .before .before .before .before .before .before .before .before .before .before .before .before .before .before .before .before .before .before .before .before .pre .1 .1 .1)) _ _ (c .if1 .taken) (c .before .before .before .before .before .before .before .before .write-game .ensures) (c .before .before .before .before .clear .ensures)
 
 -- src/lib.rt:106:26
 enum-told : tie.Need-enum-told
@@ -55,7 +55,7 @@ same-length-4 c = search needs
 
 -- src/lib.rt:72:1
 returns-2 : tie.Need-returns-2
-returns-2 c = cut-run _ _ _ _ _ _ (c .before .before .before .before .before .before .before .before .before .before .before .before .before .before .before .before .before .before .before .before .before .before .before .before .pre .1 .0) _ _ _ _ (c .before .before .before .before .before .before .before .before .before .before .before .before .before .before .before .before .before .before .before .before .before .before .before .before .pre .0) _ (subst (WalkAnswer _ _ _ _ _ _) (c .before .before .before .before .before .before .before .before .before .before .before .before .walked .given .1) (c .before .before .before .before .before .before .before .before .before .before .before .before .before .before .before .before .before .before .before .before .before .before .before .before .pre .1 .1)) _ _ (c .if1 .left) (c .before .before .before .before .before .before .before .before .write-game .ensures) (c .before .before .before .before .clear .ensures)
+returns-2 c = λ rank ranks. cut-run _ _ _ _ _ _ (c .before .before .before .before .before .before .before .before .before .before .before .before .before .before .before .before .before .before .before .before .before .before .before .before .pre .1 .1 .0) rank _ _ _ _ (c .before .before .before .before .before .before .before .before .before .before .before .before .before .before .before .before .before .before .before .before .before .before .before .before .pre .0) ranks _ (subst (WalkAnswer _ _ _ _ _ _) (c .before .before .before .before .before .before .before .before .before .before .before .before .walked .given .1) (c .before .before .before .before .before .before .before .before .before .before .before .before .before .before .before .before .before .before .before .before .before .before .before .before .pre .1 .1 .1)) _ _ (c .if1 .left) (c .before .before .before .before .before .before .before .before .write-game .ensures) (c .before .before .before .before .clear .ensures)
 
 -- src/lib.rt:72:1
 same-length-5 : tie.Need-same-length-5
@@ -67,7 +67,7 @@ same-length-6 c = search needs
 
 -- src/lib.rt:72:1
 returns-3 : tie.Need-returns-3
-returns-3 c = full-run _ _ _ _ _ _ (c .before .before .before .before .before .before .before .before .before .before .before .before .before .before .before .before .before .before .before .before .pre .1 .0) _ _ (subst (WalkAnswer _ _ _ _ _ _) (c .before .before .before .before .before .before .before .before .enum-told .given .1) (c .before .before .before .before .before .before .before .before .before .before .before .before .before .before .before .before .before .before .before .before .pre .1 .1)) (c .before .before .before .before .before .before .clear2 .ensures) (c .before .before .clear3 .ensures)
+returns-3 c = λ rank ranks. full-run _ _ _ _ _ _ (c .before .before .before .before .before .before .before .before .before .before .before .before .before .before .before .before .before .before .before .before .pre .1 .1 .0) rank _ _ (subst (WalkAnswer _ _ _ _ _ _) (c .before .before .before .before .before .before .before .before .enum-told .given .1) (c .before .before .before .before .before .before .before .before .before .before .before .before .before .before .before .before .before .before .before .before .pre .1 .1 .1)) (c .before .before .before .before .before .before .clear2 .ensures) (c .before .before .clear3 .ensures)
 
 pub write-out-spec : {M : Type 1} → statement M
 write-out-spec =

@@ -1,0 +1,77 @@
+use denote.Ref.{now}
+use Prim.Native.Nat.{_-_}
+use native.Mathlib.Omega.{arith}
+use mathlib.Core.List.{List}
+use lib.ListN.{drop}
+use Rattle.rules.specs.Game.{Vertex, vertexColumns, columns}
+use Rattle.words.proofs.Stretches.{Writing}
+use Rattle.parity_game.proofs.Stretches.{columns-put, columns-done}
+use Rattle.game_writer.specs.Shown.{shownVertices}
+use Rattle.game_writer.proofs.Whole.{column-shown, column-room}
+use Rattle.game_writer.proofs.write_columns.Statement.{statement}
+use Rattle.game_writer.proofs.write_columns.Tie as tie
+use Rattle.game_writer.proofs.write_columns.Reads as reads
+use Rattle.game_writer.proofs.write_columns.Lts as lts
+use Rattle.game_writer.proofs.write_column.Reads as write-column-reads
+use Rattle.parity_game.proofs.vertex_columns.Reads as vertex-columns-reads
+
+abbrev Inv-loop : tie.InvT-loop
+Inv-loop work kinds priorities v known game₀ start all column₀ p₀ game column p =
+    Writing p (columns (drop column vertexColumns) (shownVertices kinds priorities work v known)) game start (columns vertexColumns (shownVertices kinds priorities work v known)) game₀
+
+abbrev μ-loop : tie.MeasureT-loop
+μ-loop work kinds priorities v known game₀ start all column₀ p₀ game column p = all - column
+
+-- src/lib.rt:164:9
+vertex-columns-requires : tie.Need-vertex-columns-requires Inv-loop μ-loop
+vertex-columns-requires c κs = tt
+
+-- src/lib.rt:167:5
+loop-holds : tie.Need-loop-holds Inv-loop μ-loop
+loop-holds c = Rattle.words.proofs.Stretches.start
+
+-- src/lib.rt:168:9
+write-column-requires : tie.Need-write-column-requires Inv-loop μ-loop
+write-column-requires c κs = let s = c .before .before .before .before .before .before .before .before in
+    let h = column-room (now (s .args .kinds)) (now (s .args .priorities)) (now (s .args .work)) (s .args .v) (s .args .known) (c .before .before .loop .column) (omega (arith, c .before .loop-test .taken, c .before .before .before .vertex-columns .ensures)) (s .pre .1) (c .before .before .loop .inv) in
+    (s .pre .0, (omega (arith, c .before .loop-test .taken, c .before .before .before .vertex-columns .ensures), h))
+
+-- src/lib.rt:169:9
+add-column : tie.Need-add-column Inv-loop μ-loop
+add-column c = omega arith
+
+-- src/lib.rt:167:5
+loop-less : tie.Need-loop-less Inv-loop μ-loop
+loop-less c = omega arith
+
+-- src/lib.rt:167:5
+loop-again : tie.Need-loop-again Inv-loop μ-loop
+loop-again c = let s = c .before .before .before .before .before .before .before .before .before .before .before in
+    let vs : List Vertex = shownVertices (now (s .args .kinds)) (now (s .args .priorities)) (now (s .args .work)) (s .args .v) (s .args .known) in
+    columns-put vertexColumns vs (c .before .before .before .before .before .loop .column) (omega (arith, c .before .before .before .before .loop-test .taken, c .before .before .before .before .before .before .vertex-columns .ensures))
+    (column-shown (now (s .args .kinds)) (now (s .args .priorities)) (now (s .args .work)) (s .args .v) (c .before .before .before .before .before .loop .column) (s .args .known))
+    (c .before .before .write-column .kept .1 .1 .1 .1 .1 .1 .0) (c .before .before .write-column .ensures) (c .before .before .before .before .before .loop .inv)
+
+-- src/lib.rt:151:1
+same-length : tie.Need-same-length Inv-loop μ-loop
+same-length c = c .before .loop .inv .long
+
+-- src/lib.rt:151:1
+returns : tie.Need-returns Inv-loop μ-loop
+returns c = let s = c .before .before .before .before .before .before .before in
+    columns-done vertexColumns (shownVertices (now (s .args .kinds)) (now (s .args .priorities)) (now (s .args .work)) (s .args .v) (s .args .known)) (c .before .loop .column) (omega (arith, c .loop-test .left, c .before .before .vertex-columns .ensures)) (c .before .loop .inv)
+
+pub write-columns-spec : {M : Type 1} → statement M
+write-columns-spec =
+    tie.close
+    (tie.spec
+    Inv-loop
+    μ-loop
+    vertex-columns-requires
+    loop-holds
+    write-column-requires
+    add-column
+    loop-less
+    loop-again
+    same-length
+    returns)

@@ -1,0 +1,58 @@
+-- `finish` meets its contract: from the text's end on, every byte becomes 0. Assumes nothing.
+use mathlib.Core.Path.{ap}
+use Prim.Native.Nat.{ℕ, _-_}
+use native.Mathlib.Omega.{arith}
+use lib.ListN.{length, replicate}
+use Rattle.rules.specs.declared.Answer.the-variants.{Done}
+use Rattle.words.proofs.Stretches.{Writing, start, fill-more, fill-done}
+use Rattle.text_writer.proofs.Lines.{padded-to}
+use Rattle.text_writer.proofs.finish.Statement.{statement}
+use Rattle.text_writer.proofs.finish.Tie as tie
+
+abbrev Inv-loop : tie.InvT-loop
+Inv-loop text₀ n p₀ text p = Writing p (replicate (length text₀ - p) 0) text n (replicate (length text₀ - n) 0) text₀
+
+abbrev μ-loop : tie.MeasureT-loop
+μ-loop text₀ n p₀ text p = length text₀ - p
+
+loop-holds : tie.Need-loop-holds Inv-loop μ-loop
+loop-holds c = start
+
+slice-write-text : tie.Need-slice-write-text Inv-loop μ-loop
+slice-write-text c = omega arith
+
+add-p : tie.Need-add-p Inv-loop μ-loop
+add-p c = omega arith
+
+loop-less : tie.Need-loop-less Inv-loop μ-loop
+loop-less c = omega (arith, c .before .loop .inv .long)
+
+loop-again : tie.Need-loop-again Inv-loop μ-loop
+loop-again c = fill-more 0 (c .loop-test .taken) (c .before .loop .inv)
+
+word-requires : tie.Need-word-requires Inv-loop μ-loop
+word-requires c κs = c .before .before .before .pre .1
+
+same-length : tie.Need-same-length Inv-loop μ-loop
+same-length c = c .before .before .loop .inv .long
+
+returns : tie.Need-returns Inv-loop μ-loop
+returns c =
+    let s = c .before .before .before .before in
+    let filled = fill-done 0 (c .before .loop-test .left) (c .before .before .loop .inv) in
+    (ap (λ (n : ℕ). Done n 0 0) (c .word .ensures), padded-to (s .args .text .now) (s .args .n) _ (s .pre .0) filled)
+
+pub finish-spec : {M : Type 1} → statement M
+finish-spec =
+    tie.close
+    (tie.spec
+    Inv-loop
+    μ-loop
+    loop-holds
+    slice-write-text
+    add-p
+    loop-less
+    loop-again
+    word-requires
+    same-length
+    returns)

@@ -1,0 +1,55 @@
+-- `put_numbers` meets its contract: what is written and what is left are the numbers, a space before each. Assumes nothing.
+use Prim.Native.Nat.{_-_, _≤_}
+use native.Mathlib.Omega.{arith}
+use denote.Ref.{now}
+use lib.Seq.{slice}
+use Rattle.rules.specs.Texts.{spaced}
+use Rattle.words.proofs.Stretches.{Writing, turn, done}
+use Rattle.text_writer.proofs.Lines.{numbers-room, numbers-more, spaced-none}
+use Rattle.text_writer.proofs.put_numbers.Statement.{statement}
+use Rattle.text_writer.proofs.put_numbers.Tie as tie
+
+abbrev Inv-loop : tie.InvT-loop
+Inv-loop text₀ start ws from end q₀ p₀ text q p = (q ≤ end) × Writing p (spaced (slice q end ws)) text start (spaced (slice from end ws)) text₀
+
+abbrev μ-loop : tie.MeasureT-loop
+μ-loop text₀ start ws from end q₀ p₀ text q p = end - q
+
+loop-holds : tie.Need-loop-holds Inv-loop μ-loop
+loop-holds c = (omega arith, Rattle.words.proofs.Stretches.start)
+
+at-requires : tie.Need-at-requires Inv-loop μ-loop
+at-requires c κs = omega arith
+
+put-number-requires : tie.Need-put-number-requires Inv-loop μ-loop
+put-number-requires c κs = numbers-room (now (c .before .before .before .before .before .before .args .ws)) (c .before .before .before .loop .q) (c .before .before .before .before .before .before .args .end) (c .at .result) (c .at .ensures .0) (c .before .before .loop-test .taken) (c .before .before .before .before .before .before .pre .0 .1) (c .before .before .before .before .before .before .pre .1) (c .before .before .before .loop .inv .1)
+
+add-q : tie.Need-add-q Inv-loop μ-loop
+add-q c = omega arith
+
+loop-less : tie.Need-loop-less Inv-loop μ-loop
+loop-less c = omega arith
+
+loop-again : tie.Need-loop-again Inv-loop μ-loop
+loop-again c = (omega arith, numbers-more (now (c .before .before .before .before .before .before .before .before .before .args .ws)) (c .before .before .before .before .before .before .loop .q) (c .before .before .before .before .before .before .before .before .before .args .end) (c .before .before .before .at .result) (c .before .before .before .at .ensures .0) (c .before .before .before .before .before .loop-test .taken) (c .before .before .before .before .before .before .before .before .before .pre .0 .1) (c .before .before .put-number .kept .0) (c .before .before .put-number .ensures) (c .before .before .before .before .before .before .loop .inv .1))
+
+same-length : tie.Need-same-length Inv-loop μ-loop
+same-length c = c .before .loop .inv .1 .long
+
+returns : tie.Need-returns Inv-loop μ-loop
+returns c = done (turn (spaced-none (now (c .before .before .before .before .args .ws)) (c .before .loop .q) (c .before .before .before .before .args .end) (c .loop-test .left)) (c .before .loop .inv .1))
+
+pub put-numbers-spec : {M : Type 1} → statement M
+put-numbers-spec =
+    tie.close
+    (tie.spec
+    Inv-loop
+    μ-loop
+    loop-holds
+    at-requires
+    put-number-requires
+    add-q
+    loop-less
+    loop-again
+    same-length
+    returns)
