@@ -1,17 +1,20 @@
-//! Tells the linker where the proved library stands: HINGREZH_LIB names the archive, otherwise it is
-//! target/staticlib/libhingrezh.a at the repository's root.
+//! Tells the linker where the proved library stands: HINGREZH_LIB names the archive (a relative path begins in this
+//! folder), otherwise it is target/staticlib/libhingrezh.a at the repository's root.
 use std::path::PathBuf;
+
+const BESIDE: &str = concat!(env!("CARGO_MANIFEST_DIR"), "/../target/staticlib/libhingrezh.a");
 
 fn main() {
     println!("cargo::rerun-if-env-changed=HINGREZH_LIB");
-    let beside = concat!(env!("CARGO_MANIFEST_DIR"), "/../target/staticlib/libhingrezh.a");
-    let archive = PathBuf::from(std::env::var("HINGREZH_LIB").unwrap_or_else(|_| beside.to_string()));
+    let named = std::env::var_os("HINGREZH_LIB").filter(|name| !name.is_empty());
+    let remedy = match named {
+        Some(_) => "HINGREZH_LIB names it",
+        None => "run `make host`, or name an archive in HINGREZH_LIB",
+    };
+    let archive = named.map_or_else(|| PathBuf::from(BESIDE), PathBuf::from);
     println!("cargo::rerun-if-changed={}", archive.display());
-    let Ok(archive) = archive.canonicalize() else {
-        println!(
-            "cargo::error=there is no {}: run `rt staticlib hingrezh` first, or set HINGREZH_LIB",
-            archive.display()
-        );
+    let Some(archive) = archive.canonicalize().ok().filter(|path| path.is_file()) else {
+        println!("cargo::error=there is no archive {}: {remedy}", archive.display());
         return;
     };
     let (Some(folder), Some(name)) = (archive.parent(), archive.file_name()) else {

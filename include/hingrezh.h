@@ -1,10 +1,18 @@
 /* Hingrezh: parity games from a labelled transition system and a modal formula, by a proved library.
  *
- * Link with target/staticlib/libhingrezh.a, which `rt staticlib hingrezh` makes. A slice is passed as a pointer to
- * 32-bit words and its length in words. No function has a precondition on contents or lengths: whatever the slices
- * hold is answered, at worst by a refusal. The pointers must be valid for their lengths, and no slice lent for
- * writing may overlap another one. Nothing is kept after a call, nothing is allocated, and calls on different slices
- * may run at the same time.
+ * Link with libhingrezh.a, which `rt staticlib hingrezh` makes; `make install` puts it beside a pkg-config file. The
+ * archive has no variables, and of the C library it needs memset (a later one may need memcpy, memmove or memcmp too).
+ *
+ * How a game is won: the largest priority that is seen for ever decides; if it is even, Even wins. The formula holds in
+ * the initial state exactly if Even wins vertex 0, up to false alarms of the ranking: Odd may win although the formula
+ * holds (docs/VERDICTS.md). A solver that goes by the smallest priority gives false passes. A cut game has no verdict.
+ *
+ * A slice is passed as a pointer to 32-bit words and its length in words. No function has a precondition on contents
+ * or lengths: whatever the slices hold is answered, at worst by a refusal. The pointers must be valid for their
+ * lengths; a slice of length 0 may be NULL, `answer` may not. No slice lent for writing may overlap another one.
+ * Slices that are only read may overlap each other, and may be shared by calls in several threads at the same time, as
+ * long as nobody writes them meanwhile; each call needs slices of its own to write to. Nothing is kept after a call
+ * and nothing is allocated.
  *
  * ---------------------------------------------------------------------------------------------------------------
  * The answer, four words
@@ -28,7 +36,9 @@
  *   Operands that are not named are 0.
  *
  * A game: vertices n, edges m, initial vertex; n owners (0 Even, 1 Odd); n priorities; n + 1 offsets; m targets:
- * 4 + 3n + m words. A cut game shows a waiting vertex with owner 2, priority 0 and no edges.
+ * 4 + 3n + m words. So vertex v has its owner in word 3 + v, its priority in word 3 + n + v, and the targets of its
+ * edges in the words from 4 + 3n + a to before 4 + 3n + b, where a and b are the words 3 + 2n + v and the next. A cut
+ * game shows a waiting vertex with owner 2, priority 0 and no edges.
  *
  * ---------------------------------------------------------------------------------------------------------------
  * Refusals: what, where, who can mend it
@@ -72,8 +82,10 @@
  * hingrezh_compute_reachable in the order 51, 52, 53, 2; of faults with one number the one with the smallest place.
  * In 34 and 44 a right-child operand isn't judged if its left tree is unfinished.
  *
- * Stack: the deepest inputs (1,023 nested negations in an action formula) have run in 184 KB as a whole process; give the
- * calling thread at least 256 KB.
+ * hingrezh_refusal_text gives the middle column for a number.
+ *
+ * Stack: the deepest inputs (1,023 nested negations in an action formula) have run in 184 KB as a whole process; give
+ * the calling thread at least 256 KB.
  */
 #ifndef HINGREZH_H
 #define HINGREZH_H
@@ -85,22 +97,47 @@
 extern "C" {
 #endif
 
+/* The version of header, library and command. */
+#define HINGREZH_VERSION_MAJOR 0
+#define HINGREZH_VERSION_MINOR 1
+#define HINGREZH_VERSION_PATCH 0
+#define HINGREZH_VERSION "0.1.0"
+
 enum { HINGREZH_DONE = 0, HINGREZH_CUT = 1, HINGREZH_REFUSED = 2 };
 
 /* Stands in the map of a restriction for a vertex that is not reached. */
 #define HINGREZH_NOT_REACHED UINT32_C(4294967295)
 
+/* The largest sizes that are accepted. */
+#define HINGREZH_MOST_LABELS UINT32_C(4096)
+#define HINGREZH_MOST_ACTIONS UINT32_C(16384)
+#define HINGREZH_MOST_STATES UINT32_C(65535)
+#define HINGREZH_MOST_TRANSITIONS UINT32_C(262144)
+#define HINGREZH_MOST_NODES UINT32_C(1024)
+#define HINGREZH_MOST_VERTICES UINT32_C(1048576)
+#define HINGREZH_MOST_EDGES UINT32_C(4194304)
+
+/* How many words the slices have: the four that are read, by their sizes; `game` and `work`, by the room for vertices
+ * and edges; a finished game, by its vertices and edges; an answer. */
+#define HINGREZH_LABEL_WORDS(actions) ((size_t)2 + (size_t)2 * (size_t)(actions))
+#define HINGREZH_SYSTEM_WORDS(states, transitions) ((size_t)3 + (size_t)(states) + (size_t)2 * (size_t)(transitions))
+#define HINGREZH_NODE_WORDS(nodes) ((size_t)1 + (size_t)2 * (size_t)(nodes))
+#define HINGREZH_GAME_WORDS(vertices, edges) ((size_t)4 + (size_t)3 * (size_t)(vertices) + (size_t)(edges))
+#define HINGREZH_WORK_WORDS(vertices, edges) ((size_t)8 * (size_t)(vertices) + (size_t)2 * (size_t)(edges))
+#define HINGREZH_ANSWER_WORDS 4
+
 /* Builds the parity game of a formula on a system, in at most `limit` steps; vertex 0 stands for the initial state
  * and the first equation.
  *
- * V = vertices and E = edges are the room. `game` must have exactly 4 + 3V + E words and `work` exactly 8V + 2E; what
- * they hold before doesn't matter. `labels`, `system`, `actions` and `formula` are only read.
+ * V = vertices and E = edges are the room. `game` must have exactly HINGREZH_GAME_WORDS(V, E) words and `work` exactly
+ * HINGREZH_WORK_WORDS(V, E). What they hold before doesn't matter: memory from malloc need not be set first, and slices
+ * can be lent again as they are. `labels`, `system`, `actions` and `formula` are only read.
  *
  * Afterwards, by the case of `answer`:
  *   done       `game` begins with the whole game, and every word past its end is 0; `work` is all 0
  *   cut        the same with the game as known after `limit` steps
  *   refused 60 `game` and `work` are all 0
- *   refused, any other number: `game` and `work` are as they were
+ *   refused, any other number: `game` and `work` are as they were; what malloc left there is still left there
  * `answer` is written in every case. */
 void hingrezh_translate(const uint32_t *labels, size_t labels_len,
                         const uint32_t *system, size_t system_len,
@@ -114,8 +151,9 @@ void hingrezh_translate(const uint32_t *labels, size_t labels_len,
 /* Restricts a game to the vertices that its initial vertex reaches, numbered breadth first with targets in order, so
  * that the new game begins at 0. Owners, priorities and the order of edges stay.
  *
- * `game` is only read, and must be a game without words past its end. For n vertices `out` must have as many words as
- * `game`, and `map` and `work` exactly n each; what they hold before doesn't matter.
+ * `game` is only read, and must be a game without words past its end: of a finished run's slice the first
+ * HINGREZH_GAME_WORDS(vertices, edges) words, by its answer. For n vertices `out` must have as many words as `game`,
+ * and `map` and `work` exactly n each; what they hold before doesn't matter.
  *
  * Afterwards, by the case of `answer`:
  *   done     steps and vertices are the number of vertices reached, edges the number of their edges; `out` begins with
@@ -128,6 +166,38 @@ void hingrezh_compute_reachable(const uint32_t *game, size_t game_len,
                                 uint32_t *map, size_t map_len,
                                 uint32_t *work, size_t work_len,
                                 uint32_t answer[4]);
+
+/* What a refusal is about; NULL for a number that is none. */
+static inline const char *hingrezh_refusal_text(uint32_t number)
+{
+    switch (number) {
+    case 1: return "the room is out of range: 1 to 1,048,576 vertices and 1 to 4,194,304 edges";
+    case 2: return "a lent slice has the wrong length";
+    case 11: return "the label words are fewer than 2, or not 2 + 2A";
+    case 12: return "more than 4,096 labels or more than 16,384 actions";
+    case 13: return "a label number is not below L, or smaller than the one before it";
+    case 21: return "the system words are fewer than 3, or not 3 + S + 2T";
+    case 22: return "the states are not 1 to 65,535, or the transitions more than 262,144";
+    case 23: return "the initial state is not below S";
+    case 24: return "the out-degrees don't sum to T";
+    case 25: return "a transition's label is not below L";
+    case 26: return "a transition's target is not below S";
+    case 31: return "there are no action words, or they are not 1 + 2m";
+    case 32: return "more than 1,024 action nodes";
+    case 33: return "the kind of an action node is above 5";
+    case 34: return "the operand of an action node is wrong, or the last action tree is unfinished";
+    case 41: return "there are no formula words, or they are not 1 + 2n";
+    case 42: return "the formula's nodes are not 1 to 1,024";
+    case 43: return "the kind of a formula node is above 8";
+    case 44: return "the operand of a formula node is wrong, the tree is unfinished, or nodes are left over";
+    case 45: return "a reference doesn't name an enclosing fixpoint";
+    case 51: return "the words are no game: fewer than 3, not 4 + 3n + m, no vertex, or a size above the room limits";
+    case 52: return "the offsets don't begin at 0, fall, or don't end at the number of edges";
+    case 53: return "an owner is above 1, or a target or the initial vertex is not below n";
+    case 60: return "the game needs more vertices or edges than there is room for";
+    default: return NULL;
+    }
+}
 
 #ifdef __cplusplus
 }

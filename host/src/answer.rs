@@ -139,3 +139,5 @@ impl fmt::Display for Refusal {
         write!(f, "; to be mended by {}", self.who())
     }
 }
+
+impl std::error::Error for Refusal {}

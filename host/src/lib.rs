@@ -1,23 +1,27 @@
-//! Parity games from models and formulas: a safe wrapper of the proved library, and what the comparisons and the
-//! benchmark need beside it.
+//! Parity games from models and formulas: a safe wrapper of the proved library. What the comparisons and the benchmark
+//! need beside it is built with the feature `testing` only.
 //!
 //! A [`Model`] holds the four groups of words. [`Model::build`] lends the library slices of the right lengths and
-//! gives the game's words with an [`Answer`]; [`restrict`] does the same for the reachable part of a game.
-//! [`library`] has the calls themselves, on slices of the caller's.
+//! gives the game's words with an [`Answer`]; [`restrict`] does the same for the reachable part of a game. A [`Game`]
+//! has a game's words by vertex, [`Slices`] lends the same slices to many runs, a [`Source`] reads files within
+//! bounds. [`library`] has the calls themselves, on slices of the caller's; [`command`] is the program `hingrezh`.
 mod answer;
+#[cfg(feature = "testing")]
 pub mod check;
+pub mod command;
+mod explain;
+mod files;
+mod game;
 pub mod library;
 mod lines;
 mod model;
+mod nodes;
+#[cfg(feature = "testing")]
 pub mod plain;
 
 pub use answer::{Answer, Party, Refusal};
+pub use files::{ReadError, Source};
+pub use game::{Game, Player};
 pub use lines::{game_lines, map_line};
-pub use model::{Built, FileFault, Model, Restricted, Room, bytes_of, restrict, words_of};
-
-/// A call that builds a game: labels, system, actions, formula; room for vertices and edges, step limit; game,
-/// work, answer.
-pub type Translate = fn(&[u32], &[u32], &[u32], &[u32], u32, u32, u32, &mut [u32], &mut [u32], &mut [u32; 4]);
-
-/// A call that restricts a game: game; output, map, work, answer.
-pub type ComputeReachable = fn(&[u32], &mut [u32], &mut [u32], &mut [u32], &mut [u32; 4]);
+pub use model::{Built, FileFault, Group, Model, NoMemory, Restricted, Room, Slices};
+pub use model::{bytes_of, restrict, try_restrict, words_of};

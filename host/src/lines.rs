@@ -1,4 +1,4 @@
-//! Games as the gate's lines.
+//! Games as the thin program's lines.
 use crate::Answer;
 use std::io::{Result, Write};
 

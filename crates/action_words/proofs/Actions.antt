@@ -1,49 +1,40 @@
--- The refusals 31 to 34 of the action formulas, one law for each answer of the code, and what words that passed have. Assumes nothing.
+-- The refusals 31 to 34 of the action formulas, one law for each answer of the code, and what words that passed have.
+-- Assumes nothing.
 use Prim.Native.Nat.{ℕ, _+_, _*_, _<_, _≤_}
 use native.Mathlib.Omega.{arith}
 use native.Mathlib.Numerals.{add-one}
 use mathlib.Core.Path.{_≡_, refl, sym, ap, _∙_}
 use mathlib.Core.Bool.{Bool, true, false, not}
-use mathlib.Core.List.{List, [], _∷_}
+use mathlib.Core.List.{List, [], _∷_, _++_}
 use lib.ListN.{length, getD}
 use lib.Dec.{eqb, ltb, leb}
-use borrow.Author.Tests.{lt-ltb, le-ltb, eq-eqb, ne-eqb, ltb-false}
+use borrow.Author.Tests.{le-ltb, ltb-false}
+use Rattle.rules.specs.declared.Check.{Check}
 use Rattle.rules.specs.declared.Check.the-variants.{Passed, Fault}
 use Rattle.rules.specs.Answers.{faultIf, firstFault}
 use Rattle.rules.specs.Words.{mostNodes}
 use Rattle.rules.specs.Labels.{labelCount}
 use Rattle.rules.specs.Table.{size, kind, operand, actionChildren, treeEnd, isNotEnd, onRow}
-use Rattle.rules.specs.Refusal.{faultFrom, differ, badActionOperand, refusal31, refusal32, refusal33, refusal34}
-use Rattle.tables.proofs.Faults.{if-true, if-false, if-passed, first-passed}
-use Rattle.tables.proofs.Operands.{action-zero, action-label, action-right, action-negated, action-other}
-use Rattle.lists.proofs.Tests.{or-left, or-right, or-none, or-false}
-use Rattle.tables.proofs.Choices.{differ-yes, differ-no, differ-false}
-use Rattle.table_words.specs.Tables.{Sized, Firsts}
+use Rattle.rules.specs.Refusal.{outside, differ, badActionOperand, refusal31, refusal32, refusal33, refusal34}
+use Rattle.tables.proofs.Faults.{if-true, if-false, if-passed, first-passed, first-fault-of, first-next-of}
+use Rattle.lists.proofs.Tests.{or-false}
+use Rattle.tables.proofs.Choices.{differ-false}
+use Rattle.table_words.specs.declared.Table.the-variants.{Actions}
+use Rattle.table_words.specs.Tables.{Sized, Firsts, badIn, tableChecks}
 
 module _ (acts : List ℕ) where
-  pub no-words : length acts < 1 → refusal31 acts ≡ Fault 31 0
-  unfolding refusal31
-  no-words h = if-true _ _ (or-left _ (eq-eqb (length acts) 0 (omega arith)))
+  -- the first three checks are those of a table, which may be empty
+  table-checks : tableChecks 31 0 5 acts ≡ refusal31 acts ∷ refusal32 acts ∷ refusal33 acts ∷ []
+  unfolding refusal31 refusal32 refusal33 outside
+  table-checks = rw (le-ltb (size acts) 0 (omega arith))
 
-  pub other-length : (length acts ≡ 1 + 2 * size acts → ⊥) → refusal31 acts ≡ Fault 31 0
-  unfolding refusal31
-  other-length h = if-true _ _ (or-right (eqb (length acts) 0) (differ-yes h))
+  pub table-fault : (rest : List Check) {c : Check} {n p : ℕ} → c ≡ firstFault (tableChecks 31 0 5 acts) → c ≡ Fault n p
+      → Fault n p ≡ firstFault (refusal31 acts ∷ refusal32 acts ∷ refusal33 acts ∷ rest)
+  table-fault rest e q = sym (ap (λ cs. firstFault (cs ++ rest)) (sym table-checks) ∙ first-fault-of _ rest (sym e ∙ q))
 
-  pub right-length : length acts ≡ 1 + 2 * size acts → refusal31 acts ≡ Passed
-  unfolding refusal31
-  right-length e = if-false _ _ (or-none (ne-eqb (length acts) 0 (omega arith)) (differ-no e))
-
-  pub many-nodes : 1024 < size acts → refusal32 acts ≡ Fault 32 0
-  unfolding refusal32 mostNodes
-  many-nodes h = if-true _ _ (lt-ltb 1024 _ h)
-
-  pub few-nodes : size acts ≤ 1024 → refusal32 acts ≡ Passed
-  unfolding refusal32 mostNodes
-  few-nodes h = if-false _ _ (le-ltb 1024 _ h)
-
-  pub kinds-33 : refusal33 acts ≡ faultFrom 33 0 (size acts) (λ v. ltb 5 (kind acts v))
-  unfolding refusal33
-  kinds-33 = refl
+  pub table-next : (rest : List Check) {c : Check} → c ≡ firstFault (tableChecks 31 0 5 acts) → c ≡ Passed
+      → firstFault rest ≡ firstFault (refusal31 acts ∷ refusal32 acts ∷ refusal33 acts ∷ rest)
+  table-next rest e q = sym (ap (λ cs. firstFault (cs ++ rest)) (sym table-checks) ∙ first-next-of _ rest (sym e ∙ q))
 
   -- words that passed are those of a table
   pub actions-passed : (ls : List ℕ) → firstFault (refusal31 acts ∷ refusal32 acts ∷ refusal33 acts ∷ refusal34 ls acts ∷ []) ≡ Passed → Sized acts
@@ -60,21 +51,7 @@ module _ (acts : List ℕ) where
     pub row-broken : getD fs m false ≡ false → faultIf 34 (size acts) (not (onRow (actionChildren acts) (size acts) (size acts))) ≡ Fault 34 m
     row-broken h = if-true _ _ (ap not (sym (ap (λ x. getD fs x false) e ∙ firsts (size acts) (omega arith)) ∙ h)) ∙ ap (Fault 34) (sym e)
 
--- the operand o of a node of kind k, as the code has read them
-module _ (ls acts : List ℕ) (v k o : ℕ) (h : v < size acts) (q : k ≡ kind acts v) (e : o ≡ operand acts v) where
-  pub constant-operand : k < 2 → not (eqb o 0) ≡ badActionOperand ls acts v
-  unfolding differ
-  constant-operand l = rw e (sym (action-zero ls acts v h (omega arith)))
-
-  pub label-operand : (l : ℕ) → l ≡ labelCount ls → 2 ≤ k → k < 3 → leb l o ≡ badActionOperand ls acts v
-  label-operand l i a b = rw (i, e) (sym (action-label ls acts v h (omega arith)))
-
-  pub right-operand : 3 ≤ k → k < 5 → isNotEnd o (treeEnd (actionChildren acts) (size acts) (v + 1)) ≡ badActionOperand ls acts v
-  right-operand a b = rw (e, add-one) (sym (action-right ls acts v h (omega arith) (omega arith)))
-
-  pub negation-operand : 5 ≤ k → k < 6 → not (eqb o 0) ≡ badActionOperand ls acts v
-  unfolding differ
-  negation-operand a b = rw e (sym (action-negated ls acts v h (omega arith)))
-
-  pub unknown-operand : 6 ≤ k → false ≡ badActionOperand ls acts v
-  unknown-operand a = sym (action-other ls acts v h (omega arith))
+-- the operand of a node is judged as in any table, where a name is a label
+pub action-operand : (ls acts : List ℕ) (v : ℕ) → badIn Actions (leb (labelCount ls)) acts v ≡ badActionOperand ls acts v
+unfolding badActionOperand
+action-operand ls acts v = refl

@@ -1,5 +1,5 @@
--- One node more, from the last node to the first: if trees are equal exactly where the words that show them are, its number is the last node that has its tree.
--- Assumes nothing.
+-- One node more, from the last node to the first: if trees are equal exactly where the words that show them are, its
+-- number is the last node that has its tree. Assumes nothing.
 use mathlib.Core.Path.{_≡_, refl, sym, ap, subst, _∙_}
 use mathlib.Core.Bool.{Bool, true, false, cond, _&&_, true≢false}
 use mathlib.Core.List.{List}

@@ -1,24 +1,48 @@
-// Numbers for the nodes of the action formulas and of the formula: nodes with equal trees have one number. The nodes are gone through from the last to the
-// first, so that a node's children have their numbers already and two nodes are compared by three words each.
+// Numbers for the nodes of the action formulas and of the formula: nodes with equal trees have one number. The nodes
+// are gone through from the last to the first, so that a node's children have their numbers already and two nodes are
+// compared by three words each.
 use words::at;
 ghost use mathlib.Core.Path.{_≡_};
 ghost use Prim.Native.Nat.{_+_, _-_, _≤_, _<_};
 ghost use lib.ListN.{length, set};
 ghost use Rattle.rules.specs.Lists.{seek};
-ghost use Rattle.rules.specs.Words.{inputOf};
+ghost use Rattle.rules.specs.Words.{Input, inputOf};
 ghost use Rattle.rules.specs.Labels.{labelCount};
 ghost use Rattle.rules.specs.Table.{size};
 ghost use Rattle.rules.specs.Actions.{actionTree};
-ghost use Rattle.rules.specs.Formula.{formulaTree};
 ghost use Rattle.tables.specs.Good.{GoodActions, GoodInput};
 ghost use Rattle.labels.specs.Classes.{Classes};
-ghost use Rattle.alike_nodes.specs.Nodes.{Last, Numbered, Later, EquationNumbers, ActionShown, FormulaShown, shownBy, numberOf};
+ghost use Rattle.alike_nodes.specs.Nodes.{Numbered, ActionNumbers, FormulaNumbers, EquationNumbers};
+ghost use Rattle.alike_nodes.specs.Nodes.{ActionNodeShown, NodeShown, shapeWords, shownIn, numberIn, ShapePut};
 
 // What a node is: its kind and its two operands.
 pub struct Shape {
     pub kind: u32,
     pub left: u32,
     pub right: u32,
+}
+
+// The shapes of the nodes stand in one array of three columns: only the functions below index it.
+const KINDS: usize = 0;
+
+const LEFTS: usize = 1024;
+
+const RIGHTS: usize = 2048;
+
+pub const SHAPES: usize = 3072;
+
+pub type Shapes = [u32; SHAPES];
+
+// The kind of a reference, which an inner fixpoint is too.
+const REFERENCE: u32 = 8;
+
+// ---- the shape of a node
+
+// The shape of these words.
+fn shaped(kind: u32, left: u32, right: u32) -> Shape
+    ensures { λ r. ⌜ r ≡ record { kind = kind; left = left; right = right } ⌝ }
+{
+    Shape { kind, left, right }
 }
 
 // The shape of a node of the action formulas, where `numbers` has the later nodes.
@@ -29,44 +53,28 @@ fn action_shape(
     numbers: &[u32],
     node: usize,
 ) -> Shape
-    requires { ⌜ GoodActions (labelCount (now labels)) (now actions) ⌝ }
-    requires { ⌜ Classes (now labels) (now classes) ⌝ }
+    requires { ⌜ GoodActions (labelCount (now labels)) (now actions) × Classes (now labels) (now classes) ⌝ }
     requires { ⌜ node < size (now actions) ⌝ }
     requires { ⌜ Numbered (actionTree (now labels) (now actions)) (size (now actions)) (node + 1) (now numbers) ⌝ }
-    ensures { λ r. ⌜ ActionShown (Last (actionTree (now (labels .entry)) (now (actions .entry))) (size (now (actions .entry)))) (actionTree (now (labels .entry)) (now (actions .entry)) node) (r .kind) (r .left) (r .right) ⌝ }
+    ensures { λ r. ⌜ ActionNodeShown (now (labels .entry)) (now (actions .entry)) node r ⌝ }
 {
-    let k = words::kind_at(actions, node) as u32;
-    if k <= 1 {
-        return Shape {
-            kind: k,
-            left: 0,
-            right: 0,
-        };
+    let kind = words::kind_at(actions, node) as u32;
+    if kind <= 1 {
+        return shaped(kind, 0, 0);
     }
-    let o = words::operand_at(actions, node);
-    if k == 2 {
-        return Shape {
-            kind: k,
-            left: classes[o],
-            right: 0,
-        };
+    let operand = words::operand_at(actions, node);
+    if kind == 2 {
+        return shaped(kind, classes[operand], 0);
     }
     let left = numbers[node + 1];
-    if k == 5 {
-        return Shape {
-            kind: k,
-            left: left,
-            right: 0,
-        };
+    if kind == 5 {
+        return shaped(kind, left, 0);
     }
-    Shape {
-        kind: k,
-        left: left,
-        right: numbers[o],
-    }
+    shaped(kind, left, numbers[operand])
 }
 
-// The shape of a node of the formula as it stands in a body. Its operands are shown by their numbers, its action formula by the number in `acts`.
+// The shape of a node of the formula as it stands in a body. Its operands are shown by their numbers, its action
+// formula by the number in `acts`.
 pub fn formula_shape(
     labels: &[u32],
     system: &[u32],
@@ -77,165 +85,113 @@ pub fn formula_shape(
     numbers: &[u32],
     node: usize,
 ) -> Shape
-    requires { ⌜ GoodInput (inputOf (now labels) (now system) (now actions) (now formula)) ⌝ }
-    requires { ⌜ Numbered (actionTree (now labels) (now actions)) (size (now actions)) 0 (now acts) ⌝ }
-    requires { ⌜ EquationNumbers (now formula) (now equations) ⌝ }
-    requires { ⌜ (node < size (now formula)) × (size (now formula) ≤ length (now numbers)) ⌝ }
-    ensures { λ r. ⌜ FormulaShown (Later (formulaTree (inputOf (now (labels .entry)) (now (system .entry)) (now (actions .entry)) (now (formula .entry)))) (size (now (formula .entry))) node (now (numbers .entry))) (Last (actionTree (now (labels .entry)) (now (actions .entry))) (size (now (actions .entry)))) (formulaTree (inputOf (now (labels .entry)) (now (system .entry)) (now (actions .entry)) (now (formula .entry))) node) (r .kind) (r .left) (r .right) ⌝ }
+    ghost { Input }
+    requires { λ x. ⌜ inputOf (now labels) (now system) (now actions) (now formula) ≡ x ⌝ }
+    requires { λ x. ⌜ GoodInput x × (node < size (x .formula)) × (size (x .formula) ≤ length (now numbers)) ⌝ }
+    requires { λ x. ⌜ ActionNumbers x (now acts) × EquationNumbers (x .formula) (now equations) ⌝ }
+    ensures { λ x r. ⌜ NodeShown x (now (numbers .entry)) node r ⌝ }
 {
-    let k = formula_reader::kind_at(formula, node) as u32;
-    if k <= 1 {
-        return Shape {
-            kind: k,
-            left: 0,
-            right: 0,
-        };
+    let kind = words::kind_at(formula, node) as u32;
+    if kind <= 1 {
+        return shaped(kind, 0, 0);
     }
-    if 6 <= k {
-        if k <= 7 {
-            return Shape {
-                kind: 8,
-                left: equations[node],
-                right: 0,
-            };
+    if 6 <= kind {
+        if kind <= 7 {
+            return shaped(REFERENCE, equations[node], 0);
         }
-        let fixpoint = formula_reader::operand_at(formula, node);
-        return Shape {
-            kind: 8,
-            left: equations[fixpoint],
-            right: 0,
-        };
+        let fixpoint = words::operand_at(formula, node);
+        return shaped(REFERENCE, equations[fixpoint], 0);
     }
     let left = numbers[node + 1];
-    let o = formula_reader::operand_at(formula, node);
-    if k <= 3 {
-        return Shape {
-            kind: k,
-            left: left,
-            right: numbers[o],
-        };
+    let operand = words::operand_at(formula, node);
+    if kind <= 3 {
+        return shaped(kind, left, numbers[operand]);
     }
-    Shape {
-        kind: k,
-        left: left,
-        right: acts[o],
-    }
+    shaped(kind, left, acts[operand])
 }
 
-// Is node u shown by these words?
-fn is_shown(kinds: &[u32], lefts: &[u32], rights: &[u32], k: u32, l: u32, r: u32, u: usize) -> bool
-    requires { ⌜ (u < length (now kinds)) × (u < length (now lefts)) × (u < length (now rights)) ⌝ }
-    ensures { λ b. ⌜ b ≡ shownBy (now (kinds .entry)) (now (lefts .entry)) (now (rights .entry)) k l r u ⌝ }
+// ---- the number of a node
+
+// Is this the shape of a node?
+fn is_shown(shapes: &Shapes, shape: Shape, node: usize) -> bool
+    requires { ⌜ node < 1024 ⌝ }
+    ensures { λ r. ⌜ r ≡ shownIn (now (shapes .entry)) shape node ⌝ }
 {
-    if kinds[u] != k {
+    if shapes[KINDS + node] != shape.kind {
         return false;
     }
-    if lefts[u] != l {
+    if shapes[LEFTS + node] != shape.left {
         return false;
     }
-    rights[u] == r
+    shapes[RIGHTS + node] == shape.right
 }
 
-// The first node from `from` up to `to` that is shown by these words, or `to`.
-fn first_shown(
-    kinds: &[u32],
-    lefts: &[u32],
-    rights: &[u32],
-    k: u32,
-    l: u32,
-    r: u32,
-    from: usize,
-    to: usize,
-) -> usize
-    requires { ⌜ (to ≤ length (now kinds)) × (to ≤ length (now lefts)) × (to ≤ length (now rights)) ⌝ }
-    requires { ⌜ from ≤ to ⌝ }
-    ensures { λ u. ⌜ u ≡ seek (shownBy (now (kinds .entry)) (now (lefts .entry)) (now (rights .entry)) k l r) from (to - from) ⌝ }
+// The first node from `from` up to `to` that has the shape, or `to`.
+fn first_shown(shapes: &Shapes, shape: Shape, from: usize, to: usize) -> usize
+    requires { ⌜ (from ≤ to) × (to ≤ 1024) ⌝ }
+    ensures { λ r. ⌜ r ≡ seek (shownIn (now (shapes .entry)) shape) from (to - from) ⌝ }
 {
-    let mut u = from;
-    while u < to {
-        if is_shown(kinds, lefts, rights, k, l, r, u) {
-            return u;
+    let mut node = from;
+    while node < to {
+        if is_shown(shapes, shape, node) {
+            return node;
         }
-        u += 1;
+        node += 1;
     }
-    u
+    node
 }
 
-// The number of node v of n, shown by these words, where the tables have the later nodes.
-fn number_of(
-    kinds: &[u32],
-    lefts: &[u32],
-    rights: &[u32],
-    numbers: &[u32],
-    n: usize,
-    v: usize,
-    k: u32,
-    l: u32,
-    r: u32,
-) -> u32
-    requires { ⌜ (n ≤ length (now kinds)) × (n ≤ length (now lefts)) × (n ≤ length (now rights)) × (n ≤ length (now numbers)) ⌝ }
-    requires { ⌜ (v < n) × (n ≤ 1024) ⌝ }
-    ensures { λ a. ⌜ a ≡ numberOf (now (kinds .entry)) (now (lefts .entry)) (now (rights .entry)) (now (numbers .entry)) n v k l r ⌝ }
+// The number of a node of this shape, where the tables have the later ones of the `count` nodes.
+fn number_of(shapes: &Shapes, numbers: &[u32], count: usize, node: usize, shape: Shape) -> u32
+    requires { ⌜ (node < count) × (count ≤ 1024) × (count ≤ length (now numbers)) ⌝ }
+    ensures { λ r. ⌜ r ≡ numberIn (now (shapes .entry)) (now (numbers .entry)) count node shape ⌝ }
 {
-    let u = first_shown(kinds, lefts, rights, k, l, r, v + 1, n);
-    if u < n {
-        return numbers[u];
+    let later = first_shown(shapes, shape, node + 1, count);
+    if later < count {
+        return numbers[later];
     }
-    v as u32
+    node as u32
 }
 
-// Node v of n is shown by these words.
-fn place_node(
-    kinds: &mut [u32],
-    lefts: &mut [u32],
-    rights: &mut [u32],
-    numbers: &mut [u32],
-    n: usize,
-    v: usize,
-    k: u32,
-    l: u32,
-    r: u32,
-)
-    requires { ⌜ (n ≤ length (now kinds)) × (n ≤ length (now lefts)) × (n ≤ length (now rights)) × (n ≤ length (now numbers)) ⌝ }
-    requires { ⌜ (v < n) × (n ≤ 1024) ⌝ }
-    ensures { λ _. ⌜ now (kinds .exit) ≡ set (now (kinds .entry)) v k ⌝ }
-    ensures { λ _. ⌜ now (lefts .exit) ≡ set (now (lefts .entry)) v l ⌝ }
-    ensures { λ _. ⌜ now (rights .exit) ≡ set (now (rights .entry)) v r ⌝ }
-    ensures { λ _. ⌜ now (numbers .exit) ≡ set (now (numbers .entry)) v (numberOf (now (kinds .entry)) (now (lefts .entry)) (now (rights .entry)) (now (numbers .entry)) n v k l r) ⌝ }
+// Writes the shape and the number of a node, where the tables have the later ones of the `count` nodes.
+fn place_node(shapes: &mut Shapes, numbers: &mut [u32], count: usize, node: usize, shape: Shape)
+    requires { ⌜ (node < count) × (count ≤ 1024) × (count ≤ length (now numbers)) ⌝ }
+    ensures { λ _. ⌜ ShapePut (now (shapes .entry)) (now (shapes .exit)) node shape ⌝ }
+    ensures { λ _. ⌜ now (numbers .exit) ≡
+        set (now (numbers .entry)) node (numberIn (now (shapes .entry)) (now (numbers .entry)) count node shape) ⌝ }
 {
-    let number = number_of(kinds, lefts, rights, numbers, n, v, k, l, r);
-    kinds[v] = k;
-    lefts[v] = l;
-    rights[v] = r;
-    numbers[v] = number;
+    let number = number_of(shapes, numbers, count, node, shape);
+    shapes[KINDS + node] = shape.kind;
+    shapes[LEFTS + node] = shape.left;
+    shapes[RIGHTS + node] = shape.right;
+    numbers[node] = number;
 }
 
-// Numbers the nodes of the action formulas, with `kinds`, `lefts` and `rights` to work in.
+// Numbers the nodes of the action formulas, with `shapes` to work in.
 pub fn number_actions(
     labels: &[u32],
     classes: &[u32],
     actions: &[u32],
-    kinds: &mut [u32],
-    lefts: &mut [u32],
-    rights: &mut [u32],
+    shapes: &mut Shapes,
     numbers: &mut [u32],
 )
-    requires { ⌜ GoodActions (labelCount (now labels)) (now actions) ⌝ }
-    requires { ⌜ Classes (now labels) (now classes) ⌝ }
-    requires { ⌜ (1024 ≤ length (now kinds)) × (1024 ≤ length (now lefts)) × (1024 ≤ length (now rights)) × (1024 ≤ length (now numbers)) ⌝ }
-    ensures { λ _. ⌜ Numbered (actionTree (now (labels .entry)) (now (actions .entry))) (size (now (actions .entry))) 0 (now (numbers .exit)) ⌝ }
+    requires { ⌜ GoodActions (labelCount (now labels)) (now actions) × Classes (now labels) (now classes) ⌝ }
+    requires { ⌜ (length (now shapes) ≡ shapeWords) × (1024 ≤ length (now numbers)) ⌝ }
+    ensures { λ _. ⌜ Numbered (actionTree (now (labels .entry)) (now (actions .entry)))
+        (size (now (actions .entry))) 0 (now (numbers .exit)) ⌝ }
+    ensures { λ _. ⌜ length (now (shapes .exit)) ≡ shapeWords ⌝ }
 {
-    let n = at(actions, 0);
-    let mut i = n;
+    let count = at(actions, 0);
+    let mut i = count;
     while 0 < i {
-        let v = i - 1;
-        let s = action_shape(labels, classes, actions, numbers, v);
-        place_node(kinds, lefts, rights, numbers, n, v, s.kind, s.left, s.right);
-        i = v;
+        let node = i - 1;
+        let shape = action_shape(labels, classes, actions, numbers, node);
+        place_node(shapes, numbers, count, node, shape);
+        i = node;
     }
 }
 
-// Numbers the nodes of the formula, with `kinds`, `lefts` and `rights` to work in.
+// Numbers the nodes of the formula, with `shapes` to work in.
 pub fn number_formula(
     labels: &[u32],
     system: &[u32],
@@ -243,22 +199,20 @@ pub fn number_formula(
     formula: &[u32],
     acts: &[u32],
     equations: &[u32],
-    kinds: &mut [u32],
-    lefts: &mut [u32],
-    rights: &mut [u32],
+    shapes: &mut Shapes,
     numbers: &mut [u32],
 )
-    requires { ⌜ GoodInput (inputOf (now labels) (now system) (now actions) (now formula)) ⌝ }
-    requires { ⌜ Numbered (actionTree (now labels) (now actions)) (size (now actions)) 0 (now acts) ⌝ }
-    requires { ⌜ EquationNumbers (now formula) (now equations) ⌝ }
-    requires { ⌜ (1024 ≤ length (now kinds)) × (1024 ≤ length (now lefts)) × (1024 ≤ length (now rights)) × (1024 ≤ length (now numbers)) ⌝ }
-    ensures { λ _. ⌜ Numbered (formulaTree (inputOf (now (labels .entry)) (now (system .entry)) (now (actions .entry)) (now (formula .entry)))) (size (now (formula .entry))) 0 (now (numbers .exit)) ⌝ }
+    ghost { Input }
+    requires { λ x. ⌜ inputOf (now labels) (now system) (now actions) (now formula) ≡ x ⌝ }
+    requires { λ x. ⌜ GoodInput x × ActionNumbers x (now acts) × EquationNumbers (x .formula) (now equations) ⌝ }
+    requires { λ x. ⌜ (length (now shapes) ≡ shapeWords) × (1024 ≤ length (now numbers)) ⌝ }
+    ensures { λ x _. ⌜ FormulaNumbers x (now (numbers .exit)) ⌝ }
 {
-    let n = at(formula, 0);
-    let mut i = n;
+    let count = at(formula, 0);
+    let mut i = count;
     while 0 < i {
-        let v = i - 1;
-        let s = formula_shape(
+        let node = i - 1;
+        let shape = formula_shape(
             labels,
             system,
             actions,
@@ -266,9 +220,9 @@ pub fn number_formula(
             acts,
             equations,
             numbers,
-            v,
+            node,
         );
-        place_node(kinds, lefts, rights, numbers, n, v, s.kind, s.left, s.right);
-        i = v;
+        place_node(shapes, numbers, count, node, shape);
+        i = node;
     }
 }

@@ -1,7 +1,6 @@
--- Item numbers: a body subformula has a number past the equations', two have one number exactly if they are equal, every number is carried by a body node, and there are
--- at most two items for each node. Assumes nothing.
-use mathlib.Core.Path.{_≡_, refl, sym, ap, ap₂, subst, _∙_}
-use mathlib.Core.Logic.{_↔_}
+-- Item numbers: a body subformula has a number past the equations', two have one number exactly if they are equal,
+-- every number is carried by a body node, and there are at most two items for each node. Assumes nothing.
+use mathlib.Core.Path.{_≡_, sym, ap, ap₂, subst, _∙_}
 use mathlib.Core.Bool.{Bool, true, false}
 use mathlib.Core.List.{List, _++_, map}
 use Prim.Native.Nat.{ℕ, _+_, _*_, _-_, _≤_, _<_}
@@ -113,10 +112,6 @@ module _ (x : Input) where
       sym (position-at alike-equality s (subformulas x) truth (carried-listed s c))
       ∙ ap (λ (i : ℕ). getD (subformulas x) i truth) p
       ∙ position-at alike-equality t (subformulas x) truth (carried-listed t d)
-
-  pub same-item : (u v : ℕ) → BodyNode (x .formula) u → BodyNode (x .formula) v
-      → (itemNumber x (formulaTree x u) ≡ itemNumber x (formulaTree x v)) ↔ (formulaTree x u ≡ formulaTree x v)
-  same-item u v b c = (λ e. item-equal (formulaTree x u) (formulaTree x v) (u, b, refl) (v, c, refl) e, λ e. ap (itemNumber x) e)
 
   -- every item past the equations is carried by a body node
   pub item-carried : (q : ℕ) → equationCount (x .formula) ≤ q → q < length (items x)

@@ -5,7 +5,6 @@ pub mod Parts
 pub mod Inside
 pub mod SelfTargets
 pub mod Priorities
-pub mod ByKind
 pub mod SameTrees
 pub mod SameRefusals
 pub mod Multisets

@@ -1,5 +1,5 @@
--- Multisets: permuting a label's actions or naming an equal label changes no tree, no item, no target and no word of a run; renaming actions changes no tree, item or target
--- of a state. Assumes nothing.
+-- Multisets: permuting a label's actions or naming an equal label changes no tree, no item, no target and no word of a
+-- run; renaming actions changes no tree, item or target of a state. Assumes nothing.
 use mathlib.Core.Path.{_≡_, refl, sym, _∙_}
 use mathlib.Core.Logic.{_⊎_, inl, inr, _↔_}
 use mathlib.Core.Bool.{true, _&&_}
@@ -11,7 +11,8 @@ use lib.Dec.{eqb}
 use lib.ListN.{length}
 use borrow.Author.Tests.{eqb-true}
 use Rattle.rules.specs.Lists.{tally}
-use Rattle.rules.specs.Words.{Input, Room}
+use Rattle.rules.specs.declared.Room.{Room}
+use Rattle.rules.specs.Words.{Input}
 use Rattle.rules.specs.Labels.{labelCount, actionCount, labelAt, actionAt, times, sameLabel, multiset}
 use Rattle.rules.specs.System.{stateCount, transitionLabel}
 use Rattle.rules.specs.Table.{operand}
@@ -133,8 +134,9 @@ pub permuted-run-by-depth : (x : Input) → GoodInput x → (ls′ : List ℕ) �
 permuted-run-by-depth x good ls′ good′ same =
     permuted-run x good ls′ good′ same byDepth (relabelled-ranks x good ls′ (counts-multisets (x .labels) ls′ same))
 
--- ---- other action formulas: multi-actions that name an equal label (by `multiset-same`: one in which every action occurs as often)
+-- ---- other action formulas: multi-actions that name an equal label
 
+-- by `multiset-same` a label is equal if every action occurs in it as often
 module _ (x : Input) (acts′ : List ℕ) (same : SameActions (x .labels) (x .labels) (x .actions) acts′) where
   pub renamed-actions : (v : ℕ) → actionTree (x .labels) acts′ v ≡ actionTree (x .labels) (x .actions) v
   renamed-actions = same-actions (x .labels) (x .labels) (x .actions) acts′ same

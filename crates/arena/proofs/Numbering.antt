@@ -1,4 +1,5 @@
--- Numbering the body nodes in order: a node whose tree an earlier body node has gets that one's number, any other the next number. Assumes nothing.
+-- Numbering the body nodes in order: a node whose tree an earlier body node has gets that one's number, any other the
+-- next number. Assumes nothing.
 use mathlib.Core.Path.{_≡_, refl, sym, ap, subst, _∙_}
 use mathlib.Core.List.{List, [], _∷_, _++_, map}
 use Prim.Native.Nat.{ℕ, suc, _+_, _-_, _≤_, _<_}

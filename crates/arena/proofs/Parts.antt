@@ -1,4 +1,5 @@
--- The operands of a body subformula are body subformulas, its references are to equations, and an equation's body is a body subformula. Assumes nothing.
+-- The operands of a body subformula are body subformulas, its references are to equations, and an equation's body is a
+-- body subformula. Assumes nothing.
 use mathlib.Core.Path.{_≡_, refl, sym, ap, subst, _∙_}
 use mathlib.Core.Logic.{_⊎_, inl, inr}
 use mathlib.Core.Bool.{true, false}

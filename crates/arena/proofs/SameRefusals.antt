@@ -1,4 +1,5 @@
--- Good labels, or action formulas that name equal labels, are refused as the others are: the other words decide. Assumes nothing.
+-- Good labels, or action formulas that name equal labels, are refused as the others are: the other words decide.
+-- Assumes nothing.
 use mathlib.Core.Path.{_≡_, sym, ap, ap₂, _∙_}
 use mathlib.Core.Bool.{false, not, _&&_, _||_}
 use mathlib.Core.List.{List, [], _∷_}
@@ -10,7 +11,8 @@ use lib.ListN.{length}
 use borrow.Author.Tests.{ne-eqb, le-ltb, lt-leb}
 use Rattle.rules.specs.declared.Check.the-variants.{Passed}
 use Rattle.rules.specs.Lists.{word}
-use Rattle.rules.specs.Words.{Input, Room, mostLabels, mostActions, mostNodes}
+use Rattle.rules.specs.declared.Room.{Room}
+use Rattle.rules.specs.Words.{Input, mostLabels, mostActions, mostNodes}
 use Rattle.rules.specs.Answers.{faultIf, firstFault}
 use Rattle.rules.specs.Labels.{labelCount, actionCount, labelAt}
 use Rattle.rules.specs.System.{stateCount, transitionCount}

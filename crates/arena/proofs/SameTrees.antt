@@ -11,9 +11,10 @@ use lib.Dec.{eqb, ltb}
 use lib.ListN.{getD, length}
 use Rattle.rules.specs.declared.Check.{Check}
 use Rattle.rules.specs.Lists.{In, largest, position, once}
-use Rattle.rules.specs.Words.{Input, Room}
+use Rattle.rules.specs.declared.Room.{Room}
+use Rattle.rules.specs.Words.{Input}
 use Rattle.rules.specs.Labels.{multiset}
-use Rattle.rules.specs.System.{stateCount, transitionLabel, transitionTarget, transitions}
+use Rattle.rules.specs.System.{transitionLabel, transitionTarget, transitions}
 use Rattle.rules.specs.Table.{size, kind, operand, decodeAction, actionNode}
 use Rattle.rules.specs.Table.{FormulaNode, truthNode, falsityNode, andNode, orNode, boxNode, diamondNode, leastNode, greatestNode, referenceNode, noFormulaNode, formulaNode}
 use Rattle.rules.specs.Actions.{Action, multiAction, union, intersection, negation, actionOf, actionTo, actionTree, matches}
@@ -24,7 +25,6 @@ use Rattle.rules.specs.Items.{alike, Item, equation, subformula, subformulas, i
 use Rattle.rules.specs.Pairs.{Pair, samePair, initialPair, itemAt, itemOwner, owner, priority, matchingTransitions}
 use Rattle.rules.specs.Pairs.{successors, formulaTargets, itemTargets, targets}
 use Rattle.rules.specs.Walk.{Stand, walk}
-use Rattle.rules.specs.Reach.{reachedIn, reachablePairs, N}
 use Rattle.rules.specs.Game.{Vertex, vertices}
 use Rattle.rules.specs.Refusal.{refusal}
 use Rattle.rules.specs.Run.{Outcome, walkOf, verticesOf, walkOutcome, refusedOr, run}
@@ -181,15 +181,6 @@ module _ (x : Input) (ls′ acts′ : List ℕ) (trees : (v : ℕ) → actionTre
     pub same-walk : (k : ℕ) → walkOf (reworded x ls′ acts′) k ≡ walkOf x k
     unfolding walkOf
     same-walk k = ap (λ (next : Pair → List Pair). walk samePair next (initialPair x) k) all-targets
-
-    pub same-reachable : reachablePairs (reworded x ls′ acts′) ≡ reachablePairs x
-    unfolding reachablePairs
-    same-reachable =
-        ap₂ (λ (next : Pair → List Pair) (n : ℕ). reachedIn samePair next (initialPair x) (stateCount (x .system) * n)) all-targets (ap length same-items)
-
-    pub same-N : N (reworded x ls′ acts′) ≡ N x
-    unfolding N
-    same-N = ap length same-reachable
 
     module _ (rank : Ranking) (ranks : SameRanks rank x (reworded x ls′ acts′)) where
       pub same-vertices : (st : Stand Pair) → verticesOf rank (reworded x ls′ acts′) st ≡ verticesOf rank x st

@@ -1,5 +1,6 @@
--- No pair is its own target: an operand is a smaller tree, hence another item; an equation's target is a subformula, a reference's an equation. So a settled vertex has
--- an edge to itself exactly if its pair has no targets. Assumes nothing.
+-- No pair is its own target: an operand is a smaller tree, hence another item; an equation's target is a subformula, a
+-- reference's an equation. So a settled vertex has an edge to itself exactly if its pair has no targets. Assumes
+-- nothing.
 use mathlib.Core.Path.{_≡_, refl, ap, _∙_}
 use mathlib.Core.Logic.{inl, inr}
 use mathlib.Core.List.{List, [], _∷_, map}

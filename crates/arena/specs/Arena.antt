@@ -1,4 +1,5 @@
--- What the laws of items and pairs speak of besides the rules: the subformulas that the first nodes carry, and all pairs. Assumes nothing: these are definitions.
+-- What the laws of items and pairs speak of besides the rules: the subformulas that the first nodes carry, and all
+-- pairs. Assumes nothing: these are definitions.
 use Prim.Native.Nat.{ℕ, zero, suc, _-_, _≤_, _<_}
 use mathlib.Core.Path.{_≡_}
 use mathlib.Core.List.{List, [], _++_, map}

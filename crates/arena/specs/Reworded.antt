@@ -1,4 +1,5 @@
--- Other words for the same labels and action formulas: when two tables say the same. Assumes nothing: these are statements.
+-- Other words for the same labels and action formulas: when two tables say the same. Assumes nothing: these are
+-- statements.
 use mathlib.Core.Path.{_≡_}
 use mathlib.Core.List.{List}
 use mathlib.Core.Logic.{_↔_}

@@ -1,2 +1,3 @@
+pub mod Owned
 pub mod Through
-pub mod AtNode
+pub mod Held

@@ -1,8 +1,11 @@
--- A function that takes a `FormulaReader` apart and passes its words and its node to a covered function: one walk for all of them, over the callee's name, over what it asks, P, and over what it answers, F. `kind` and `operand` cite it.
---     clauses      the contract: P of the reader's words and node is asked, and the answer is F of them.        core      the callee's: P and F of the slice and the number
+-- A function that takes a `FormulaReader` apart and passes its words and its node to a covered function: one walk for
+-- all of them, over the callee's name, over what it asks, P, and over what it answers, F. `kind` and `operand` cite it.
+--     clauses      the contract: P of the reader's words and node is asked, and the answer is F of them
+--     core         the callee's: P and F of the slice and the number
 --     function     the MIR, with the callee's name
 --     through      where the callee meets its contract, the function meets its own
--- The struct is Copy: what it owns is had twice, one copy is kept whole for the exit, and of the other what the words own goes to the callee, beside the lifetime's token, which comes back.
+-- The struct is Copy: what it owns is had twice, one copy is kept whole for the exit, and of the other what the words
+-- own goes to the callee, beside the lifetime's token, which comes back.
 -- Assumes nothing: `Given`, what the logic proves of steps and borrows, is a parameter.
 use mathlib.Core.Path.{_≡_, refl}
 use Prim.Native.Nat.{ℕ, _<_, _^_}

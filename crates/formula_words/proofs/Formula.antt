@@ -4,50 +4,34 @@ use native.Mathlib.Omega.{arith}
 use native.Mathlib.Numerals.{add-one}
 use mathlib.Core.Path.{_≡_, refl, sym, ap, _∙_}
 use mathlib.Core.Bool.{Bool, true, false, not, _||_}
-use mathlib.Core.List.{List}
+use mathlib.Core.List.{List, [], _∷_, _++_}
 use lib.ListN.{length, getD}
 use lib.Dec.{eqb, ltb}
 use borrow.Author.Tests.{lt-ltb, le-ltb, eq-eqb, ne-eqb, le-leb, lt-leb}
+use Rattle.rules.specs.declared.Check.{Check}
 use Rattle.rules.specs.declared.Check.the-variants.{Passed, Fault}
-use Rattle.rules.specs.Answers.{faultIf}
-use Rattle.rules.specs.Words.{mostNodes}
+use Rattle.rules.specs.Answers.{faultIf, firstFault}
 use Rattle.rules.specs.Table.{size, kind, operand, actionChildren, formulaChildren, treeEnd, isNotEnd}
-use Rattle.rules.specs.Refusal.{faultFrom, differ, namesNoTree, badFormulaOperand, refusal41, refusal42, refusal43}
+use Rattle.rules.specs.Refusal.{differ, namesNoTree, badFormulaOperand, refusal41, refusal42, refusal43}
 use Rattle.tables.specs.Ends.{endOf}
-use Rattle.tables.proofs.Faults.{if-true, if-false}
-use Rattle.tables.proofs.Operands.{formula-zero, formula-right, formula-action, formula-fixpoint, formula-other}
+use Rattle.tables.proofs.Faults.{if-true, if-false, first-fault-of, first-next-of}
 use Rattle.lists.proofs.Tests.{or-left, or-right, or-none}
-use Rattle.tables.proofs.Choices.{differ-yes, differ-no, below-outside, above-outside, inside}
-use Rattle.table_words.specs.Tables.{Firsts}
+use Rattle.table_words.specs.declared.Table.the-variants.{Formula}
+use Rattle.table_words.specs.Tables.{Firsts, badIn, tableChecks}
 
 module _ (f : List ℕ) where
-  pub no-words : length f < 1 → refusal41 f ≡ Fault 41 0
-  unfolding refusal41
-  no-words h = if-true _ _ (or-left _ (eq-eqb (length f) 0 (omega arith)))
+  -- the first three checks are those of a table
+  table-checks : tableChecks 41 1 8 f ≡ refusal41 f ∷ refusal42 f ∷ refusal43 f ∷ []
+  unfolding refusal41 refusal42 refusal43
+  table-checks = refl
 
-  pub other-length : (length f ≡ 1 + 2 * size f → ⊥) → refusal41 f ≡ Fault 41 0
-  unfolding refusal41
-  other-length h = if-true _ _ (or-right (eqb (length f) 0) (differ-yes h))
+  pub table-fault : (rest : List Check) {c : Check} {n p : ℕ} → c ≡ firstFault (tableChecks 41 1 8 f) → c ≡ Fault n p
+      → Fault n p ≡ firstFault (refusal41 f ∷ refusal42 f ∷ refusal43 f ∷ rest)
+  table-fault rest e q = sym (ap (λ cs. firstFault (cs ++ rest)) (sym table-checks) ∙ first-fault-of _ rest (sym e ∙ q))
 
-  pub right-length : length f ≡ 1 + 2 * size f → refusal41 f ≡ Passed
-  unfolding refusal41
-  right-length e = if-false _ _ (or-none (ne-eqb (length f) 0 (omega arith)) (differ-no e))
-
-  pub no-node : size f < 1 → refusal42 f ≡ Fault 42 0
-  unfolding refusal42
-  no-node h = if-true _ _ (below-outside _ h)
-
-  pub many-nodes : 1024 < size f → refusal42 f ≡ Fault 42 0
-  unfolding refusal42 mostNodes
-  many-nodes h = if-true _ _ (above-outside 1 h)
-
-  pub few-nodes : 1 ≤ size f → size f ≤ 1024 → refusal42 f ≡ Passed
-  unfolding refusal42 mostNodes
-  few-nodes h l = if-false _ _ (inside h l)
-
-  pub kinds-43 : refusal43 f ≡ faultFrom 43 0 (size f) (λ v. ltb 8 (kind f v))
-  unfolding refusal43
-  kinds-43 = refl
+  pub table-next : (rest : List Check) {c : Check} → c ≡ firstFault (tableChecks 41 1 8 f) → c ≡ Passed
+      → firstFault rest ≡ firstFault (refusal41 f ∷ refusal42 f ∷ refusal43 f ∷ rest)
+  table-next rest e q = sym (ap (λ cs. firstFault (cs ++ rest)) (sym table-checks) ∙ first-next-of _ rest (sym e ∙ q))
 
   -- the test of the formula's end e, at the number n that the code has read
   module _ (n e : ℕ) (q : n ≡ size f) (i : e ≡ endOf (formulaChildren f) (size f) 0) where
@@ -80,22 +64,7 @@ module _ (acts : List ℕ) (a m : ℕ) (q : m ≡ size acts) where
   unfolding namesNoTree
   some-action fs firsts h = rw (lt-leb (size acts) a (omega arith)) (ap not (firsts a (omega arith)))
 
--- the operand o of a node of kind k, as the code has read them
-module _ (noTree : ℕ → Bool) (f : List ℕ) (v k o : ℕ) (h : v < size f) (q : k ≡ kind f v) (e : o ≡ operand f v) where
-  pub constant-operand : k < 2 → not (eqb o 0) ≡ badFormulaOperand noTree f v
-  unfolding differ
-  constant-operand l = rw e (sym (formula-zero noTree f v h (omega arith)))
-
-  pub right-operand : 2 ≤ k → k < 4 → isNotEnd o (treeEnd (formulaChildren f) (size f) (v + 1))
-      ≡ badFormulaOperand noTree f v
-  right-operand a b = rw (e, add-one) (sym (formula-right noTree f v h (omega arith) (omega arith)))
-
-  pub action-operand : 4 ≤ k → k < 6 → noTree o ≡ badFormulaOperand noTree f v
-  action-operand a b = rw e (sym (formula-action noTree f v h (omega arith) (omega arith)))
-
-  pub fixpoint-operand : 6 ≤ k → k < 8 → not (eqb o 0) ≡ badFormulaOperand noTree f v
-  unfolding differ
-  fixpoint-operand a b = rw e (sym (formula-fixpoint noTree f v h (omega arith) (omega arith)))
-
-  pub other-operand : 8 ≤ k → false ≡ badFormulaOperand noTree f v
-  other-operand a = sym (formula-other noTree f v h (omega arith))
+-- the operand of a node is judged as in any table
+pub formula-operand : (noTree : ℕ → Bool) (f : List ℕ) (v : ℕ) → badIn Formula noTree f v ≡ badFormulaOperand noTree f v
+unfolding badFormulaOperand
+formula-operand noTree f v = refl

@@ -1,135 +1,130 @@
 // The check of the formula: n, n kinds, n operands.
 use rules::Check;
+use table_words::FirstNodes;
+use table_words::NODES;
 use table_words::Table;
+use table_words::TreeEnds;
 ghost use mathlib.Core.Path.{_≡_};
 ghost use mathlib.Core.List.{[], _∷_};
 ghost use Prim.Native.Nat.{_<_};
 ghost use Rattle.rules.specs.Answers.{firstFault};
 ghost use Rattle.rules.specs.Table.{size, actionChildren, formulaChildren, formulaNode, referenceOf};
-ghost use Rattle.rules.specs.Refusal.{namesNoTree, badFormulaOperand, wrongReference, refusal41, refusal42, refusal43, refusal44, refusal45};
+ghost use Rattle.rules.specs.Refusal.{namesNoTree, badFormulaOperand, wrongReference};
+ghost use Rattle.rules.specs.Refusal.{refusal41, refusal42, refusal43, refusal44, refusal45};
 ghost use Rattle.table_words.specs.Tables.{Sized, Ends, Firsts};
 
-// a is not the first node of one of the trees of the action formulas.
-fn names_no_tree(acts: &[u32], firsts: &[bool; 1025], a: usize) -> bool
-    requires { ⌜ Sized (now acts) × Firsts (actionChildren (now acts)) (size (now acts)) (now firsts) ⌝ }
-    ensures { λ r. ⌜ r ≡ namesNoTree (now (acts .entry)) a ⌝ }
+// The number `named` is not the first node of one of the trees of the action formulas.
+fn names_no_tree(actions: &[u32], firsts: &FirstNodes, named: usize) -> bool
+    requires { ⌜ Sized (now actions) × Firsts (actionChildren (now actions)) (size (now actions)) (now firsts) ⌝ }
+    ensures { λ r. ⌜ r ≡ namesNoTree (now (actions .entry)) named ⌝ }
 {
-    if words::at(acts, 0) <= a {
+    if words::at(actions, 0) <= named {
         return true;
     }
-    !firsts[a]
+    !firsts[named]
 }
 
-// The operand of node v is wrong: of two children the right one, of a modality an action formula, of a reference judged elsewhere, else 0.
+// The operand of a node is wrong. As a name, that of a modality, it is the first node of an action formula.
 fn bad_operand(
-    acts: &[u32],
-    firsts: &[bool; 1025],
-    f: &[u32],
-    ends: &[usize; 1026],
-    v: usize,
+    actions: &[u32],
+    firsts: &FirstNodes,
+    formula: &[u32],
+    ends: &TreeEnds,
+    node: usize,
 ) -> bool
-    requires { ⌜ Sized (now acts) × Firsts (actionChildren (now acts)) (size (now acts)) (now firsts) ⌝ }
-    requires { ⌜ Sized (now f) × (v < size (now f)) × Ends (formulaChildren (now f)) (size (now f)) (now ends) ⌝ }
-    ensures { λ r. ⌜ r ≡ badFormulaOperand (namesNoTree (now (acts .entry))) (now (f .entry)) v ⌝ }
+    requires { ⌜ Sized (now actions) × Firsts (actionChildren (now actions)) (size (now actions)) (now firsts) ⌝ }
+    requires { ⌜ Sized (now formula) × (node < size (now formula))
+        × Ends (formulaChildren (now formula)) (size (now formula)) (now ends) ⌝ }
+    ensures { λ r. ⌜ r ≡ badFormulaOperand (namesNoTree (now (actions .entry))) (now (formula .entry)) node ⌝ }
 {
-    let kind = formula_reader::kind_at(f, v);
-    let operand = formula_reader::operand_at(f, v);
-    if kind < 2 {
-        return operand != 0;
-    }
-    if kind < 4 {
-        return table_words::not_right_child(f, ends, v, operand);
-    }
-    if kind < 6 {
-        return names_no_tree(acts, firsts, operand);
-    }
-    if kind < 8 {
-        return operand != 0;
-    }
-    false
+    let unnamed = names_no_tree(actions, firsts, words::operand_at(formula, node));
+    table_words::bad_operand(formula, Table::Formula, ends, node, unnamed)
 }
 
-// 44: an operand, nodes left over, or an unfinished tree. The node at which the formula's tree ends is the first one left over.
-fn check_operands(acts: &[u32], firsts: &[bool; 1025], f: &[u32], ends: &[usize; 1026]) -> Check
-    requires { ⌜ Sized (now acts) × Firsts (actionChildren (now acts)) (size (now acts)) (now firsts) ⌝ }
-    requires { ⌜ Sized (now f) × Ends (formulaChildren (now f)) (size (now f)) (now ends) ⌝ }
-    ensures { λ r. ⌜ r ≡ refusal44 (namesNoTree (now (acts .entry))) (now (f .entry)) ⌝ }
+// 44: an operand, nodes left over, or an unfinished tree. The node at which the formula's tree ends is the first one
+// left over.
+fn check_operands(actions: &[u32], firsts: &FirstNodes, formula: &[u32], ends: &TreeEnds) -> Check
+    requires { ⌜ Sized (now actions) × Firsts (actionChildren (now actions)) (size (now actions)) (now firsts) ⌝ }
+    requires { ⌜ Sized (now formula) × Ends (formulaChildren (now formula)) (size (now formula)) (now ends) ⌝ }
+    ensures { λ r. ⌜ r ≡ refusal44 (namesNoTree (now (actions .entry))) (now (formula .entry)) ⌝ }
 {
-    let n = words::at(f, 0);
+    let count = words::at(formula, 0);
     let end = ends[0];
-    let mut v = 0;
-    while v < n {
-        if bad_operand(acts, firsts, f, ends, v) {
-            return Check::Fault(44, v as u32);
+    let mut node = 0;
+    while node < count {
+        if bad_operand(actions, firsts, formula, ends, node) {
+            return Check::Fault(44, node as u32);
         }
-        if v == end {
-            return Check::Fault(44, v as u32);
+        if node == end {
+            return Check::Fault(44, node as u32);
         }
-        v += 1;
+        node += 1;
     }
-    if n < end {
-        return Check::Fault(44, n as u32);
+    if count < end {
+        return Check::Fault(44, count as u32);
     }
     Check::Passed
 }
 
-// Node v is a reference to something other than an enclosing fixpoint.
-fn bad_reference(f: &[u32], ends: &[usize; 1026], v: usize) -> bool
-    requires { ⌜ Sized (now f) × (v < size (now f)) × Ends (formulaChildren (now f)) (size (now f)) (now ends) ⌝ }
-    ensures { λ r. ⌜ r ≡ wrongReference (now (f .entry)) v (referenceOf (formulaNode (now (f .entry)) v)) ⌝ }
+// A node is a reference to something other than an enclosing fixpoint.
+fn bad_reference(formula: &[u32], ends: &TreeEnds, node: usize) -> bool
+    requires { ⌜ Sized (now formula) × (node < size (now formula))
+        × Ends (formulaChildren (now formula)) (size (now formula)) (now ends) ⌝ }
+    ensures { λ r. ⌜ r ≡ wrongReference (now (formula .entry)) node
+        (referenceOf (formulaNode (now (formula .entry)) node)) ⌝ }
 {
-    if formula_reader::kind_at(f, v) != 8 {
+    if words::kind_at(formula, node) != 8 {
         return false;
     }
-    let u = formula_reader::operand_at(f, v);
-    if v <= u {
+    let fixpoint = words::operand_at(formula, node);
+    if node <= fixpoint {
         return true;
     }
-    let kind = formula_reader::kind_at(f, u);
+    let kind = words::kind_at(formula, fixpoint);
     if kind < 6 {
         return true;
     }
     if 7 < kind {
         return true;
     }
-    let end = ends[u];
-    if words::at(f, 0) < end {
+    let end = ends[fixpoint];
+    if words::at(formula, 0) < end {
         return true;
     }
-    end <= v
+    end <= node
 }
 
 // 45: a reference.
-fn check_references(f: &[u32], ends: &[usize; 1026]) -> Check
-    requires { ⌜ Sized (now f) × Ends (formulaChildren (now f)) (size (now f)) (now ends) ⌝ }
-    ensures { λ r. ⌜ r ≡ refusal45 (now (f .entry)) ⌝ }
+fn check_references(formula: &[u32], ends: &TreeEnds) -> Check
+    requires { ⌜ Sized (now formula) × Ends (formulaChildren (now formula)) (size (now formula)) (now ends) ⌝ }
+    ensures { λ r. ⌜ r ≡ refusal45 (now (formula .entry)) ⌝ }
 {
-    let n = words::at(f, 0);
-    let mut v = 0;
-    while v < n {
-        if bad_reference(f, ends, v) {
-            return Check::Fault(45, v as u32);
+    let count = words::at(formula, 0);
+    let mut node = 0;
+    while node < count {
+        if bad_reference(formula, ends, node) {
+            return Check::Fault(45, node as u32);
         }
-        v += 1;
+        node += 1;
     }
     Check::Passed
 }
 
 // 44 and 45, for which the ends of the trees and the row of action formulas are kept here.
-fn check_trees(acts: &[u32], f: &[u32]) -> Check
-    requires { ⌜ Sized (now acts) × Sized (now f) ⌝ }
-    ensures { λ r. ⌜ r ≡ firstFault (refusal44 (namesNoTree (now (acts .entry))) (now (f .entry))
-        ∷ refusal45 (now (f .entry)) ∷ []) ⌝ }
+fn check_trees(actions: &[u32], formula: &[u32]) -> Check
+    requires { ⌜ Sized (now actions) × Sized (now formula) ⌝ }
+    ensures { λ r. ⌜ r ≡ firstFault (refusal44 (namesNoTree (now (actions .entry))) (now (formula .entry))
+        ∷ refusal45 (now (formula .entry)) ∷ []) ⌝ }
 {
-    let mut ends = [0usize; 1026];
-    table_words::tree_ends(acts, Table::Actions, &mut ends);
-    let mut firsts = [false; 1025];
-    table_words::first_nodes(acts, &ends, &mut firsts);
-    table_words::tree_ends(f, Table::Formula, &mut ends);
-    let nodes = check_operands(acts, &firsts, f, &ends);
+    let mut ends = [0usize; NODES + 2];
+    table_words::tree_ends(actions, Table::Actions, &mut ends);
+    let mut firsts = [false; NODES + 1];
+    table_words::first_nodes(actions, &ends, &mut firsts);
+    table_words::tree_ends(formula, Table::Formula, &mut ends);
+    let nodes = check_operands(actions, &firsts, formula, &ends);
     match nodes {
         Check::Fault(number, place) => Check::Fault(number, place),
-        Check::Passed => check_references(f, &ends),
+        Check::Passed => check_references(formula, &ends),
     }
 }
 
@@ -140,21 +135,8 @@ pub fn check_formula(actions: &[u32], formula: &[u32]) -> Check
         ∷ refusal43 (now (formula .entry)) ∷ refusal44 (namesNoTree (now (actions .entry))) (now (formula .entry))
         ∷ refusal45 (now (formula .entry)) ∷ []) ⌝ }
 {
-    if formula.len() < 1 {
-        return Check::Fault(41, 0);
-    }
-    let n = words::at(formula, 0);
-    if formula.len() != 1 + 2 * n {
-        return Check::Fault(41, 0);
-    }
-    if n < 1 {
-        return Check::Fault(42, 0);
-    }
-    if 1_024 < n {
-        return Check::Fault(42, 0);
-    }
-    let kinds = table_words::check_kinds(formula, 8, 43);
-    match kinds {
+    let checked = table_words::check_table(formula, 1, 8, 41);
+    match checked {
         Check::Fault(number, place) => Check::Fault(number, place),
         Check::Passed => check_trees(actions, formula),
     }

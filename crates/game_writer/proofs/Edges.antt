@@ -1,4 +1,5 @@
--- The offsets and the targets of the shown vertices, one vertex at a time. They are the same whatever the item table says. Assumes nothing.
+-- The offsets and the targets of the shown vertices, one vertex at a time. They are the same whatever the item table
+-- says. Assumes nothing.
 use mathlib.Core.Path.{_≡_, refl, sym, ap, _∙_}
 use mathlib.Core.List.{List, [], _∷_, _++_, map}
 use Prim.Native.Nat.{ℕ, zero, suc, _+_, _-_, _≤_, _<_}
@@ -13,7 +14,7 @@ use Rattle.games.specs.Columns.{edgeColumn, edgeColumnOf}
 use Rattle.games.proofs.Columns.{targets-plain}
 use Rattle.games.proofs.Reading.{length-offsets, length-edge-column}
 use Rattle.parity_game.proofs.Stretches.{column-none, column-more}
-use Rattle.settling.specs.Stand.{degreeIn, degreesIn}
+use Rattle.settling.specs.Stand.{countIn, degreesIn}
 use Rattle.game_writer.specs.Shown.{shownEdges, shownVertex, shownVertices, EdgesWithin}
 use Rattle.game_writer.proofs.Vertices.{edges-length}
 use Rattle.game_writer.proofs.Rows.{from-all, from-more, from-none}
@@ -23,7 +24,7 @@ pub below-none : (w : List ℕ) (v : ℕ) → 0 ≡ degreesIn w v 0
 unfolding degreesIn
 below-none w v = refl
 
-pub below-more : (w : List ℕ) (v u e count : ℕ) → e ≡ degreesIn w v u → count ≡ degreeIn w v u
+pub below-more : (w : List ℕ) (v u e count : ℕ) → e ≡ degreesIn w v u → count ≡ countIn w v u
     → e + count ≡ degreesIn w v (u + 1)
 unfolding degreesIn
 below-more w v u e count p q = rw (add-one u, p, q) refl
@@ -82,20 +83,20 @@ module _ (kinds priorities w : List ℕ) (v n : ℕ) where
   -- ---- the counts
 
   module _ (within : EdgesWithin w v n) where
-    pub length-of : (u : ℕ) → u < n → length (shownEdges w v u) ≡ degreeIn w v u
+    pub length-of : (u : ℕ) → u < n → length (shownEdges w v u) ≡ countIn w v u
     length-of u h = edges-length w v u (within .stretch u h)
 
     -- those below u and those of the later vertices are all
     pub counted : (k u : ℕ) → u + k ≡ n → degreesIn w v u + edgeCount (later u) ≡ degreesIn w v n
     counted zero u e = let z : u ≡ n = omega arith in omega (arith, count-none u (omega arith), ap (degreesIn w v) z)
     counted (suc k) u e =
-        let one = below-more w v u (degreesIn w v u) (degreeIn w v u) refl refl in
+        let one = below-more w v u (degreesIn w v u) (countIn w v u) refl refl in
         omega (arith, counted k (u + 1) (omega arith), count-more u (omega arith), length-of u (omega arith), one)
 
     pub total : edgeCount (shownVertices kinds priorities w v n) ≡ degreesIn w v n
     total = ap edgeCount all-later ∙ omega (arith, counted n 0 (omega arith), below-none w v)
 
-    pub below-most : (u : ℕ) → u < n → degreesIn w v u + degreeIn w v u ≤ degreesIn w v n
+    pub below-most : (u : ℕ) → u < n → degreesIn w v u + countIn w v u ≤ degreesIn w v n
     below-most u h = omega (arith, counted (n - u) u (omega arith), count-more u h, length-of u h)
 
     -- ---- the offsets
@@ -115,7 +116,7 @@ module _ (kinds priorities w : List ℕ) (v n : ℕ) where
     offsets-room e u h k w = omega (arith, w .long, w .last, offsets-length e u, offsets-all)
 
     pub offsets-put : (e u count : ℕ) {p at₀ : ℕ} {stretch out out₀ : List ℕ}
-        → count ≡ degreeIn w v u → u < n → p < length out
+        → count ≡ countIn w v u → u < n → p < length out
         → Writing p (offsets e (later u)) out at₀ stretch out₀ → Writing (p + 1) (offsets (e + count) (later (u + 1))) (set out p e) at₀ stretch out₀
     offsets-put e u count c h k w =
         put k (turn (offsets-more e u h ∙ ap (λ (x : ℕ). e ∷ offsets (e + x) (later (u + 1))) (length-of u h ∙ sym c)) w)
@@ -139,7 +140,7 @@ module _ (kinds priorities w : List ℕ) (v n : ℕ) where
     -- there is room for those of the next vertex
     pub targets-room : (u : ℕ) {p at₀ : ℕ} {out out₀ : List ℕ} → u < n → at₀ + degreesIn w v n ≤ length out₀
         → Writing p (edgeColumnOf 0 (later u)) out at₀ (edgeColumnOf 0 (shownVertices kinds priorities w v n)) out₀
-        → p + degreeIn w v u ≤ length out
+        → p + countIn w v u ≤ length out
     targets-room u h k w =
         omega (
           arith,

@@ -17,39 +17,19 @@ use Rattle.rules.specs.Game.{edgeTo, stuckPriority, waitingVertex}
 use Rattle.words.specs.Regions.{region}
 use Rattle.words.specs.Stretches.{Wrote}
 use Rattle.item_table.specs.Entries.{kindOwner}
-use Rattle.settling.specs.Stand.{settledIn, startIn, countIn, degreeIn}
-use Rattle.settling.proofs.Buffer.{settled-in, unsettled-in, degree-settled, degree-unsettled}
+use Rattle.settling.specs.Stand.{settledIn, startIn, countIn}
+use Rattle.settling.proofs.Buffer.{settled-in, unsettled-in, count-unsettled}
 use Rattle.game_writer.specs.Shown.{itemIn, loopsIn, shownPlayer, shownOwner, shownPriority}
 use Rattle.game_writer.specs.Shown.{shownEdges, shownVertex}
 
--- no item has a kind past 8
-pub kind-past : (k : ℕ) → 8 < k → kindOwner k ≡ Odd
-unfolding kindOwner
-kind-past zero h = absurd (omega arith)
-kind-past (suc zero) h = absurd (omega arith)
-kind-past (suc (suc zero)) h = absurd (omega arith)
-kind-past (suc (suc (suc zero))) h = absurd (omega arith)
-kind-past (suc (suc (suc (suc zero)))) h = absurd (omega arith)
-kind-past (suc (suc (suc (suc (suc zero))))) h = absurd (omega arith)
-kind-past (suc (suc (suc (suc (suc (suc zero)))))) h = absurd (omega arith)
-kind-past (suc (suc (suc (suc (suc (suc (suc zero))))))) h = absurd (omega arith)
-kind-past (suc (suc (suc (suc (suc (suc (suc (suc zero)))))))) h = absurd (omega arith)
-kind-past (suc (suc (suc (suc (suc (suc (suc (suc (suc k))))))))) h = refl
-
 -- ---- whether it is settled, as code reads it
 
-module _ (w : List ℕ) (v u begins : ℕ) (e : begins ≡ word (region 5 v w) u) where
-  pub settled-read : (¬ (begins ≡ 0)) → settledIn w v u ≡ true
+module _ (w : List ℕ) (v u held : ℕ) (e : held ≡ word (region 6 v w) u) where
+  pub settled-read : (¬ (held ≡ 0)) → settledIn w v u ≡ true
   settled-read d = settled-in w v u (omega arith)
 
-  pub waits-read : begins ≡ 0 → settledIn w v u ≡ false
+  pub waits-read : held ≡ 0 → settledIn w v u ≡ false
   waits-read z = unsettled-in w v u (omega arith)
-
-  pub degree-read : (count : ℕ) → count ≡ countIn w v u → (¬ (begins ≡ 0)) → count ≡ degreeIn w v u
-  degree-read count c d = c ∙ sym (degree-settled w v u (settled-read d))
-
-  pub degree-none : begins ≡ 0 → 0 ≡ degreeIn w v u
-  degree-none z = sym (degree-unsettled w v u (waits-read z))
 
 -- ---- the words of owner and priority
 
@@ -141,16 +121,15 @@ module _ (w : List ℕ) (v u : ℕ) where
 
   -- there are as many as is counted
   pub edges-length : (settledIn w v u ≡ true → 8 * v + (startIn w v u + countIn w v u) ≤ length w)
-      → length (shownEdges w v u) ≡ degreeIn w v u
+      → length (shownEdges w v u) ≡ countIn w v u
   edges-length h = go (settledIn w v u) refl
     where
-      go : (t : Bool) → settledIn w v u ≡ t → length (shownEdges w v u) ≡ degreeIn w v u
+      go : (t : Bool) → settledIn w v u ≡ t → length (shownEdges w v u) ≡ countIn w v u
       go true d =
           ap length (edges-settled d)
           ∙ length-take-le (countIn w v u) (drop (8 * v + startIn w v u) w)
           (omega (arith, h d, length-drop (8 * v + startIn w v u) w))
-          ∙ sym (degree-settled w v u d)
-      go false d = ap length (edges-none d) ∙ sym (degree-unsettled w v u d)
+      go false d = ap length (edges-none d) ∙ sym (count-unsettled w v u d)
 
 -- a vertex that is not settled is shown as the rules' waiting vertex: owner 2, priority 0, no edges
 pub shown-waiting : (kinds priorities w : List ℕ) (v u : ℕ) → settledIn w v u ≡ false

@@ -18,30 +18,21 @@ use Rattle.lists.proofs.Ranges.{from-length}
 
 -- ---- what the parts ask for
 
-module _ {kinds priorities w : List ℕ} {v n m size : ℕ} (s : Showable kinds priorities w v n m size) where
+module _ {w : List ℕ} {v n m size : ℕ} (s : Showable w v n m size) where
   pub placed : Placed w v n
   placed = record { known = s .known; regions = omega (arith, s .whole) }
 
   pub edges-within : EdgesWithin w v n
   edges-within = record { stretch = λ u h c. omega (arith, s .whole, s .stretches u h c) }
 
-  pub showing : Showing kinds priorities w v n
-  showing =
-      record {
-        placed = placed;
-        kinded = record { item = λ u h c. s .items u h c .0 };
-        ranked = record { item = λ u h c. s .items u h c .1 };
-        edged = edges-within;
-      }
+  pub showing : Showing w v n
+  showing = record { placed = placed; edged = edges-within }
 
 -- what is asked for n vertices is asked for those up to u
-pub showing-to : {kinds priorities w : List ℕ} {v n : ℕ} (u : ℕ) → u < n → Showing kinds priorities w v n
-    → Showing kinds priorities w v (u + 1)
+pub showing-to : {w : List ℕ} {v n : ℕ} (u : ℕ) → u < n → Showing w v n → Showing w v (u + 1)
 showing-to u h s =
     record {
       placed = record { known = omega (arith, s .placed .known); regions = s .placed .regions };
-      kinded = record { item = λ t l. s .kinded .item t (omega arith) };
-      ranked = record { item = λ t l. s .ranked .item t (omega arith) };
       edged = record { stretch = λ t l. s .edged .stretch t (omega arith) };
     }
 

@@ -1,5 +1,6 @@
--- The vertices of a walk as the work words and the item table show them (document 01, "Words handed over": the work slice; "A cut game shows a waiting vertex with
--- owner 2, priority 0 and no edges"). Assumes nothing: these are definitions.
+-- The vertices of a walk as the work words and the item table show them (document 01, "Words handed over": the work
+-- slice; "A cut game shows a waiting vertex with owner 2, priority 0 and no edges"). Assumes nothing: these are
+-- definitions.
 use mathlib.Core.Path.{_≡_}
 use mathlib.Core.Bool.{Bool, true, cond, _&&_}
 use mathlib.Core.List.{List, [], map}
@@ -65,27 +66,20 @@ pub record Placed (w : List ℕ) (v n : ℕ) : Type 0 where
   pub known : n ≤ v
   pub regions : 8 * v ≤ length w
 
--- the items of those that are settled have their words in a table of this size
-pub record ItemsWithin (w : List ℕ) (v n size : ℕ) : Type 0 where
-  pub item : (u : ℕ) → u < n → settledIn w v u ≡ true → itemIn w v u < size
-
 -- the edges of those that are settled stand in the buffer
 pub record EdgesWithin (w : List ℕ) (v n : ℕ) : Type 0 where
   pub stretch : (u : ℕ) → u < n → settledIn w v u ≡ true → 8 * v + (startIn w v u + countIn w v u) ≤ length w
 
 -- all this: every column of the first n vertices can be told
-pub record Showing (kinds priorities w : List ℕ) (v n : ℕ) : Type 0 where
+pub record Showing (w : List ℕ) (v n : ℕ) : Type 0 where
   pub placed : Placed w v n
-  pub kinded : ItemsWithin w v n (length kinds)
-  pub ranked : ItemsWithin w v n (length priorities)
   pub edged : EdgesWithin w v n
 
--- all this, and the n vertices have m edges, which stand in the first m words of the buffer, and a game of this size has room for them
-pub record Showable (kinds priorities w : List ℕ) (v n m size : ℕ) : Type 0 where
+-- all this, and the n vertices have m edges, which stand in the first m words of the buffer, and a game of this size
+-- has room for them
+pub record Showable (w : List ℕ) (v n m size : ℕ) : Type 0 where
   pub known : n ≤ v
   pub whole : 8 * v + m ≤ length w
-  pub items : (u : ℕ) → u < n → settledIn w v u ≡ true
-      → (itemIn w v u < length kinds) × (itemIn w v u < length priorities)
   pub stretches : (u : ℕ) → u < n → settledIn w v u ≡ true → startIn w v u + countIn w v u ≤ m
   pub total : degreesIn w v n ≡ m
   pub room : gameWords n m ≤ size

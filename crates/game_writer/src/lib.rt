@@ -1,5 +1,9 @@
-// A game's words, written from left to right out of the work words in which a walk stands and the item table. A function that appends a stretch answers the
-// place past it.
+// A game's words, written from left to right out of the work words in which a walk stands and the table of items. A
+// function that appends a stretch answers the place past it.
+use compiled::Compiled;
+use compiled::kind_of;
+use compiled::priority_of;
+use kinds::owner_of;
 use pairs::item_of;
 use parity_game::vertex_columns;
 use parity_game::write_header;
@@ -8,6 +12,9 @@ use player::Priority;
 use player::VertexIndex;
 use player::opponent;
 use player::to_index;
+use words::COUNTS;
+use words::REGIONS;
+use words::STARTS;
 use words::copy;
 use words::fill;
 use words::region_word;
@@ -20,30 +27,12 @@ ghost use Rattle.rules.specs.Lists.{from};
 ghost use Rattle.rules.specs.Game.{stuckPriority, vertexColumns, offsets, columns, gameOf, padded};
 ghost use Rattle.games.specs.Columns.{edgeColumnOf};
 ghost use Rattle.words.specs.Stretches.{Wrote};
-ghost use Rattle.item_table.specs.Entries.{kindOwner};
-ghost use Rattle.settling.specs.Stand.{settledIn, startIn, countIn, degreeIn, degreesIn};
-ghost use Rattle.game_writer.specs.Shown.{itemIn, loopsIn, shownOwner, shownPriority, shownEdges, shownWord};
+ghost use Rattle.compiled.specs.Stretches.{kindsIn, prioritiesIn};
+ghost use Rattle.settling.specs.Stand.{settledIn, startIn, countIn, degreesIn};
+ghost use Rattle.game_writer.specs.Shown.{loopsIn, shownOwner, shownPriority, shownEdges, shownWord};
 ghost use Rattle.game_writer.specs.Shown.{shownVertices, Placed, EdgesWithin, Showing, Showable};
 
-// The regions of the work slice that these functions read themselves.
-const STARTS: u32 = 5;
-
-const COUNTS: u32 = 6;
-
 // ---- one vertex
-
-// The owner of an item, by its kind: true, and, box, least and reference are Odd's; false, or, diamond and greatest are Even's.
-pub fn owner_of(kind: u32) -> Player
-    ensures { λ r. ⌜ r ≡ kindOwner kind ⌝ }
-{
-    if 8 < kind {
-        return Player::Odd;
-    }
-    if kind % 2 == 0 {
-        return Player::Odd;
-    }
-    Player::Even
-}
 
 // The priority of a vertex without targets: its owner loses there.
 fn stuck_priority(owner: Player) -> Priority
@@ -54,101 +43,88 @@ fn stuck_priority(owner: Player) -> Priority
 }
 
 // The word that shows the owner of vertex u.
-fn owner_word(work: &[u32], kinds: &[u32], v: u32, u: VertexIndex) -> u32
+fn owner_word(work: &[u32], compiled: &Compiled, v: u32, u: VertexIndex) -> u32
     requires { ⌜ (8 * v ≤ length (now work)) × (u .0 < v) ⌝ }
-    requires { ⌜ (settledIn (now work) v (u .0) ≡ true → itemIn (now work) v (u .0) < length (now kinds)) ⌝ }
-    ensures { λ r. ⌜ r ≡ shownOwner (now (kinds .entry)) (now (work .entry)) v (u .0) ⌝ }
+    ensures { λ r. ⌜ r ≡ shownOwner (kindsIn (now (compiled .entry))) (now (work .entry)) v (u .0) ⌝ }
 {
-    if region_word(work, v, STARTS, u.0) == 0 {
+    if region_word(work, v, COUNTS, u.0) == 0 {
         return 2;
     }
-    let item = item_of(work, v, u.0);
-    to_index(owner_of(kinds[item as usize]))
+    let item = item_of(work, v, u);
+    to_index(owner_of(kind_of(compiled, item)))
 }
 
 // Does the first edge of vertex u, which is settled, lead to itself?
 fn first_loops(work: &[u32], v: u32, u: VertexIndex) -> bool
-    requires { ⌜ (8 * v ≤ length (now work)) × (u .0 < v) × (settledIn (now work) v (u .0) ≡ true) ⌝ }
+    requires { ⌜ (8 * v ≤ length (now work)) × (u .0 < v) ⌝ }
     requires { ⌜ 8 * v + (startIn (now work) v (u .0) + countIn (now work) v (u .0)) ≤ length (now work) ⌝ }
     ensures { λ r. ⌜ r ≡ loopsIn (now (work .entry)) v (u .0) ⌝ }
 {
-    if region_word(work, v, COUNTS, u.0) == 0 {
+    if region_word(work, v, COUNTS, u.0) <= 1 {
         return false;
     }
-    let start = region_word(work, v, STARTS, u.0) - 1;
-    work[8 * (v as usize) + (start as usize)] == u.0
+    let start = region_word(work, v, STARTS, u.0) as usize;
+    work[REGIONS * (v as usize) + start] == u.0
 }
 
 // The priority of vertex u.
-fn shown_priority(
-    work: &[u32],
-    kinds: &[u32],
-    priorities: &[u32],
-    v: u32,
-    u: VertexIndex,
-) -> Priority
+fn shown_priority(work: &[u32], compiled: &Compiled, v: u32, u: VertexIndex) -> Priority
     requires { ⌜ (8 * v ≤ length (now work)) × (u .0 < v) ⌝ }
-    requires { ⌜ (settledIn (now work) v (u .0) ≡ true → itemIn (now work) v (u .0) < length (now kinds)) ⌝ }
-    requires { ⌜ (settledIn (now work) v (u .0) ≡ true → itemIn (now work) v (u .0) < length (now priorities)) ⌝ }
     requires { ⌜ (settledIn (now work) v (u .0) ≡ true
         → 8 * v + (startIn (now work) v (u .0) + countIn (now work) v (u .0)) ≤ length (now work)) ⌝ }
-    ensures { λ r. ⌜ r .0 ≡ shownPriority (now (kinds .entry)) (now (priorities .entry)) (now (work .entry)) v (u .0) ⌝ }
+    ensures { λ r. ⌜ r .0 ≡ shownPriority (kindsIn (now (compiled .entry))) (prioritiesIn (now (compiled .entry)))
+        (now (work .entry)) v (u .0) ⌝ }
 {
-    if region_word(work, v, STARTS, u.0) == 0 {
+    if region_word(work, v, COUNTS, u.0) == 0 {
         return Priority(0);
     }
-    let item = item_of(work, v, u.0);
+    let item = item_of(work, v, u);
     if first_loops(work, v, u) {
-        return stuck_priority(owner_of(kinds[item as usize]));
+        return stuck_priority(owner_of(kind_of(compiled, item)));
     }
-    Priority(priorities[item as usize])
+    Priority(priority_of(compiled, item))
 }
 
-// How many edges vertex u has.
-fn degree_of(work: &[u32], v: u32, u: VertexIndex) -> u32
+// How many edges vertex u has: none before it is settled.
+fn count_of(work: &[u32], v: u32, u: VertexIndex) -> u32
     requires { ⌜ (8 * v ≤ length (now work)) × (u .0 < v) ⌝ }
-    ensures { λ r. ⌜ r ≡ degreeIn (now (work .entry)) v (u .0) ⌝ }
+    ensures { λ r. ⌜ r ≡ countIn (now (work .entry)) v (u .0) ⌝ }
 {
-    if region_word(work, v, STARTS, u.0) == 0 {
+    let held = region_word(work, v, COUNTS, u.0);
+    if held == 0 {
         return 0;
     }
-    region_word(work, v, COUNTS, u.0)
+    held - 1
 }
 
 // The word of vertex u in a column.
-fn column_word(
-    work: &[u32],
-    kinds: &[u32],
-    priorities: &[u32],
-    v: u32,
-    u: VertexIndex,
-    column: usize,
-) -> u32
-    requires { ⌜ Showing (now kinds) (now priorities) (now work) v (u .0 + 1) ⌝ }
+fn column_word(work: &[u32], compiled: &Compiled, v: u32, u: VertexIndex, column: usize) -> u32
+    requires { ⌜ Showing (now work) v (u .0 + 1) ⌝ }
     requires { ⌜ column < length vertexColumns ⌝ }
-    ensures { λ r. ⌜ r ≡ shownWord (now (kinds .entry)) (now (priorities .entry)) (now (work .entry)) v column (u .0) ⌝ }
+    ensures { λ r. ⌜ r ≡ shownWord (kindsIn (now (compiled .entry))) (prioritiesIn (now (compiled .entry)))
+        (now (work .entry)) v column (u .0) ⌝ }
 {
     if column == 0 {
-        return owner_word(work, kinds, v, u);
+        return owner_word(work, compiled, v, u);
     }
-    let shown = shown_priority(work, kinds, priorities, v, u);
+    let shown = shown_priority(work, compiled, v, u);
     shown.0
 }
 
 // Appends the targets of vertex u.
 fn write_edges(work: &[u32], v: u32, u: VertexIndex, game: &mut [u32], start: usize) -> usize
     requires { ⌜ (8 * v ≤ length (now work)) × (u .0 < v)
-        × (start + degreeIn (now work) v (u .0) ≤ length (now game)) ⌝ }
+        × (start + countIn (now work) v (u .0) ≤ length (now game)) ⌝ }
     requires { ⌜ (settledIn (now work) v (u .0) ≡ true
         → 8 * v + (startIn (now work) v (u .0) + countIn (now work) v (u .0)) ≤ length (now work)) ⌝ }
     ensures { λ r. ⌜ Wrote start (shownEdges (now (work .entry)) v (u .0)) (now (game .entry)) (now (game .exit)) r ⌝ }
 {
-    let begins = region_word(work, v, STARTS, u.0);
-    if begins == 0 {
+    let held = region_word(work, v, COUNTS, u.0);
+    if held == 0 {
         return start;
     }
-    let count = region_word(work, v, COUNTS, u.0) as usize;
-    let first = 8 * (v as usize) + (begins - 1) as usize;
+    let count = (held - 1) as usize;
+    let first = REGIONS * (v as usize) + region_word(work, v, STARTS, u.0) as usize;
     copy(work, first, first + count, game, start)
 }
 
@@ -157,22 +133,22 @@ fn write_edges(work: &[u32], v: u32, u: VertexIndex, game: &mut [u32], start: us
 // A column.
 fn write_column(
     work: &[u32],
-    kinds: &[u32],
-    priorities: &[u32],
+    compiled: &Compiled,
     v: u32,
     known: u32,
     column: usize,
     game: &mut [u32],
     start: usize,
 ) -> usize
-    requires { ⌜ Showing (now kinds) (now priorities) (now work) v known ⌝ }
+    requires { ⌜ Showing (now work) v known ⌝ }
     requires { ⌜ (column < length vertexColumns) × (start + known ≤ length (now game)) ⌝ }
-    ensures { λ r. ⌜ Wrote start (map (shownWord (now (kinds .entry)) (now (priorities .entry)) (now (work .entry)) v column) (from 0 known)) (now (game .entry)) (now (game .exit)) r ⌝ }
+    ensures { λ r. ⌜ Wrote start (map (shownWord (kindsIn (now (compiled .entry))) (prioritiesIn (now (compiled .entry)))
+        (now (work .entry)) v column) (from 0 known)) (now (game .entry)) (now (game .exit)) r ⌝ }
 {
     let mut u: u32 = 0;
     let mut p = start;
     while u < known {
-        let shown = column_word(work, kinds, priorities, v, VertexIndex(u), column);
+        let shown = column_word(work, compiled, v, VertexIndex(u), column);
         game[p] = shown;
         p += 1;
         u += 1;
@@ -183,22 +159,22 @@ fn write_column(
 // All columns, one after another.
 fn write_columns(
     work: &[u32],
-    kinds: &[u32],
-    priorities: &[u32],
+    compiled: &Compiled,
     v: u32,
     known: u32,
     game: &mut [u32],
     start: usize,
 ) -> usize
-    requires { ⌜ Showing (now kinds) (now priorities) (now work) v known ⌝ }
+    requires { ⌜ Showing (now work) v known ⌝ }
     requires { ⌜ start + length vertexColumns * known ≤ length (now game) ⌝ }
-    ensures { λ r. ⌜ Wrote start (columns vertexColumns (shownVertices (now (kinds .entry)) (now (priorities .entry)) (now (work .entry)) v known)) (now (game .entry)) (now (game .exit)) r ⌝ }
+    ensures { λ r. ⌜ Wrote start (columns vertexColumns (shownVertices (kindsIn (now (compiled .entry)))
+        (prioritiesIn (now (compiled .entry))) (now (work .entry)) v known)) (now (game .entry)) (now (game .exit)) r ⌝ }
 {
     let all = vertex_columns();
     let mut column: usize = 0;
     let mut p = start;
     while column < all {
-        p = write_column(work, kinds, priorities, v, known, column, game, p);
+        p = write_column(work, compiled, v, known, column, game, p);
         column += 1;
     }
     p
@@ -215,7 +191,7 @@ fn write_offsets(work: &[u32], v: u32, known: u32, game: &mut [u32], start: usiz
     let mut e: u32 = 0;
     let mut p = start;
     while u < known {
-        let count = degree_of(work, v, VertexIndex(u));
+        let count = count_of(work, v, VertexIndex(u));
         game[p] = e;
         p += 1;
         e += count;
@@ -245,17 +221,17 @@ fn write_targets(work: &[u32], v: u32, known: u32, game: &mut [u32], start: usiz
 pub fn write_game(
     game: &mut [u32],
     work: &[u32],
-    kinds: &[u32],
-    priorities: &[u32],
+    compiled: &Compiled,
     v: u32,
     known: u32,
     edges: u32,
 )
-    requires { ⌜ Showable (now kinds) (now priorities) (now work) v known edges (length (now game)) ⌝ }
-    ensures { λ _. ⌜ now (game .exit) ≡ padded (length (now (game .entry))) (gameOf 0 (shownVertices (now (kinds .entry)) (now (priorities .entry)) (now (work .entry)) v known)) ⌝ }
+    requires { ⌜ Showable (now work) v known edges (length (now game)) ⌝ }
+    ensures { λ _. ⌜ now (game .exit) ≡ padded (length (now (game .entry))) (gameOf 0 (shownVertices (kindsIn (now (compiled .entry)))
+        (prioritiesIn (now (compiled .entry))) (now (work .entry)) v known)) ⌝ }
 {
     let header = write_header(known, edges, game);
-    let places = write_columns(work, kinds, priorities, v, known, game, header);
+    let places = write_columns(work, compiled, v, known, game, header);
     let targets = write_offsets(work, v, known, game, places);
     let end = write_targets(work, v, known, game, targets);
     fill(game, end, 0);

@@ -1,4 +1,5 @@
--- The check of a game that is handed over, of the words of written vertices: it passes if every owner is 0 or 1, and is refused 53 at the first owner that is not. Assumes nothing.
+-- The check of a game that is handed over, of the words of written vertices: it passes if every owner is 0 or 1, and is
+-- refused 53 at the first owner that is not. Assumes nothing.
 use mathlib.Core.Path.{_≡_, refl, sym, ap, _∙_, subst}
 use mathlib.Core.Bool.{false}
 use mathlib.Core.List.{List, [], _∷_, _++_, append-nil}

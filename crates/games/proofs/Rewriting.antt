@@ -1,5 +1,5 @@
--- The words of a game are told by what is read from them: two slices of one length from which the same vertices are read, and in which nothing else stands, are equal.
--- Assumes nothing.
+-- The words of a game are told by what is read from them: two slices of one length from which the same vertices are
+-- read, and in which nothing else stands, are equal. Assumes nothing.
 use mathlib.Core.Path.{_≡_, sym, ap, _∙_, subst}
 use mathlib.Core.List.{List, _∷_, _++_}
 use Prim.Native.Nat.{ℕ, zero, suc, _+_, _-_, _*_, _≤_, _<_}

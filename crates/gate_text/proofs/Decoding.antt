@@ -1,6 +1,7 @@
--- Words are read from bytes one after the other, and the bytes that the program refuses are those whose words disagree or are not whole. Assumes nothing.
+-- Words are read from bytes one after the other, and the bytes that the program refuses are those whose words disagree
+-- or are not whole. Assumes nothing.
 use mathlib.Core.Path.{_≡_, refl, sym, ap, _∙_}
-use mathlib.Core.Bool.{Bool, true, false, cond, not}
+use mathlib.Core.Bool.{Bool, true, false, cond}
 use mathlib.Core.List.{List, [], _∷_, _++_, append-nil}
 use mathlib.Core.Option.{Option, none, some}
 use Prim.Native.Nat.{ℕ, suc, _+_, _*_, _%_, _≤_, _<_}

@@ -1,6 +1,5 @@
 -- Every text that the program prints fits its slice: a first line of at most three words, and at most 512 vertices
 -- with at most 1,024 edges. Assumes nothing.
-use mathlib.Core.Path.{_≡_}
 use mathlib.Core.Bool.{Bool, true, false, cond}
 use mathlib.Core.List.{List, [], _∷_, _++_}
 use mathlib.Core.Logic.{inl, inr}

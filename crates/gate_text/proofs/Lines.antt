@@ -6,7 +6,6 @@ use native.Mathlib.Numerals.{add-one}
 use native.Mathlib.Omega.{arith}
 use lib.ListN.{length}
 use lib.Seq.{slice}
-use Rattle.rules.specs.Lists.{word}
 use Rattle.rules.specs.Game.{vertexCount, ownerIn, priorityIn, edgesFrom, targetsIn}
 use Rattle.rules.specs.Texts.{decimal, spaced, line}
 use Rattle.rules.specs.Program.{vertexLine, vertexLines}

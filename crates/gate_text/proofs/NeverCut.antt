@@ -1,4 +1,5 @@
--- What a run leaves in the program's room: a game that can be printed; and no run is cut whose steps are at least as many as the room's vertices. Assumes nothing.
+-- What a run leaves in the program's room: a game that can be printed; and no run is cut whose steps are at least as
+-- many as the room's vertices. Assumes nothing.
 use mathlib.Core.Path.{_≡_, refl, sym, ap, _∙_, subst}
 use mathlib.Core.Bool.{Bool, true, false, cond}
 use mathlib.Core.List.{List, [], _∷_}
@@ -16,7 +17,8 @@ use Rattle.rules.specs.declared.Answer.the-variants.{Done, Cut, Refused}
 use Rattle.rules.specs.declared.Check.{Check}
 use Rattle.rules.specs.declared.Check.the-variants.{Passed, Fault}
 use Rattle.rules.specs.Lists.{In}
-use Rattle.rules.specs.Words.{Input, Room, gameLength, workLength}
+use Rattle.rules.specs.declared.Room.{Room}
+use Rattle.rules.specs.Words.{Input, gameLength, workLength}
 use Rattle.rules.specs.Answers.{Accepted}
 use Rattle.rules.specs.Table.{size}
 use Rattle.rules.specs.Formula.{equationCount}

@@ -7,7 +7,8 @@ use Prim.Native.Nat.{ℕ, _≤_, _<_}
 use native.Mathlib.Omega.{arith}
 use native.Mathlib.Decide.{decLt}
 use Rattle.rules.specs.declared.Check.the-variants.{Fault}
-use Rattle.rules.specs.Words.{Input, Room, mostActions, mostStates, mostTransitions, mostNodes}
+use Rattle.rules.specs.declared.Room.{Room}
+use Rattle.rules.specs.Words.{Input, mostActions, mostStates, mostTransitions, mostNodes}
 use Rattle.rules.specs.Labels.{labelCount, actionCount}
 use Rattle.rules.specs.System.{stateCount, transitionCount}
 use Rattle.rules.specs.Table.{size}

@@ -1,12 +1,14 @@
--- The program's parts make the program: the words that are read are run, and what is printed of that run is what the rules print. Assumes nothing.
+-- The program's parts make the program: the words that are read are run, and what is printed of that run is what the
+-- rules print. Assumes nothing.
 use mathlib.Core.Path.{_≡_, refl, sym, ap, _∙_, subst}
 use mathlib.Core.Bool.{Bool, true, false, cond, _||_}
 use mathlib.Core.List.{List, [], _∷_}
 use mathlib.Core.Option.{Option, none, some}
-use Prim.Native.Nat.{ℕ, _+_, _-_, _≤_}
+use Prim.Native.Nat.{ℕ, _+_, _-_, _≤_, _<_}
+use native.Mathlib.Decide.{decLt}
 use native.Mathlib.Omega.{arith}
 use lib.ListN.{length, take, drop, length-drop}
-use lib.Seq.{drop-drop, take-all}
+use lib.Seq.{drop-drop, take-all, length-take-le}
 use lib.Dec.{eqb, ltb}
 use borrow.Author.Tests.{ltb-false, eqb-true, not-false}
 use Rattle.rules.specs.declared.Answer.{Answer}
@@ -22,7 +24,7 @@ use Rattle.gate_text.specs.declared.Decoded.{Decoded}
 use Rattle.gate_text.specs.declared.Decoded.the-variants.{Read, Unreadable}
 use Rattle.gate_text.specs.Reading.{agreeing, accepted, decoded, wordCount}
 use Rattle.gate_text.specs.Shown.{Shown}
-use Rattle.gate_text.proofs.Decoding.{sum-four}
+use Rattle.gate_text.proofs.Decoding.{sum-four, refused-long}
 use Rattle.gate_text.proofs.NeverCut.{gate-shown}
 use Rattle.gate_text.proofs.Fits.{reported-fits, gate-fits}
 use Rattle.lists.proofs.Tests.{or-false}
@@ -100,6 +102,17 @@ accepted-none bytes e = go (wordsOf bytes) e
         within : (t : Bool) → disagree us ≡ t → cond t none (some us) ≡ none → line refusedText (2 ∷ 0 ∷ []) ≡ printedWords (some us)
         within true d h = rw d refl
         within false d h = let z : _≡_ {A = ℕ} 0 1 = cc in absurd (omega arith)
+
+-- no more than the first 8,193 bytes decide what is printed: an input that has as many is too long, whatever follows
+pub front-printed : (input front : List ℕ) → take 8_193 input ≡ front → printed front ≡ printed input
+front-printed input front e = ap printed (sym e) ∙ go (decLt 8_193 (length input))
+  where
+    go : Dec (8_193 < length input) → printed (take 8_193 input) ≡ printed input
+    go (yes h) =
+        let n : length (take 8_193 input) ≡ 8_193 = length-take-le 8_193 input (omega arith) in
+        sym (accepted-none (take 8_193 input) (refused-long (take 8_193 input) (omega arith)))
+        ∙ accepted-none input (refused-long input (omega arith))
+    go (no d) = ap printed (take-all 8_193 input (omega arith))
 
 module _ (bytes ws : List ℕ) (d : Decoded) (same : decoded d ws ≡ accepted bytes) where
   read-some : (n : ℕ) → d ≡ Read n → accepted bytes ≡ some (take n ws)

@@ -1,5 +1,5 @@
--- Which words the thin program runs (document 01, "with more than 2,048 words in all, a broken last word or lengths that disagree it prints `refused 2 0`").
--- Assumes nothing: these are definitions.
+-- Which words the thin program runs (document 01, "with more than 2,048 words in all, a broken last word or lengths
+-- that disagree it prints `refused 2 0`"). Assumes nothing: these are definitions.
 use Prim.Native.Nat.{ℕ}
 use mathlib.Core.Bool.{cond}
 use mathlib.Core.List.{List}
@@ -7,7 +7,6 @@ use mathlib.Core.Option.{Option, none, some}
 use lib.ListN.{take}
 use Rattle.gate_text.specs.declared.Decoded.{Decoded}
 use Rattle.gate_text.specs.declared.Decoded.the-variants.{Read, Unreadable}
-use Rattle.rules.specs.Lists.{word}
 use Rattle.rules.specs.Program.{wordsOf, disagree}
 
 unfoldable pub agreeing : Option (List ℕ) → Option (List ℕ)

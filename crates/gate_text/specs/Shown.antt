@@ -1,4 +1,5 @@
--- What the words of a game say that is printed: a run leaves such a game (theorem `run-shown`). Assumes nothing: these are statements.
+-- What the words of a game say that is printed: a run leaves such a game (theorem `run-shown`). Assumes nothing: these
+-- are statements.
 use mathlib.Core.Path.{_≡_}
 use mathlib.Core.List.{List}
 use Prim.Native.Nat.{ℕ, suc, _+_, _≤_, _<_}

@@ -1,19 +1,19 @@
 // The thin program's text: the words that its input holds, and the lines that it prints.
 use rules::Answer;
 ghost use mathlib.Core.Path.{_≡_};
-ghost use mathlib.Core.List.{_++_};
+ghost use mathlib.Core.List.{List, _++_};
 ghost use mathlib.Core.Bool.{false};
 ghost use mathlib.Core.Option.{some};
-ghost use Prim.Native.Nat.{_+_, _*_, _%_, _≤_, _<_};
+ghost use Prim.Native.Nat.{ℕ, _+_, _*_, _%_, _≤_, _<_};
 ghost use lib.ListN.{length, take};
 ghost use lib.Dec.{eqb};
 ghost use Rattle.rules.specs.Lists.{sum};
 ghost use Rattle.rules.specs.Answers.{Accepted};
 ghost use Rattle.rules.specs.Game.{vertexCount};
-ghost use Rattle.rules.specs.Texts.{line};
+ghost use Rattle.rules.specs.Texts.{line, Written};
 ghost use Rattle.rules.specs.Program.{wordsOf, disagree, slicesOf, gateRun, vertexLine, vertexLines, report, reported};
 ghost use Rattle.rules.specs.Program.{printed, gateTextLength, programText};
-ghost use Rattle.rules.specs.Words.{inputOf};
+ghost use Rattle.rules.specs.Words.{Input, inputOf};
 ghost use Rattle.words.specs.Stretches.{Wrote};
 ghost use Rattle.gate_text.specs.Reading.{accepted, decoded, wordCount};
 ghost use Rattle.gate_text.specs.Shown.{Shown};
@@ -29,27 +29,28 @@ enum Decoded {
 // The words of the bytes go to the front of `words`. Answers how many.
 fn read_words(bytes: &[u8], words: &mut [u32]) -> usize
     requires { ⌜ (length (now bytes) % 4 ≡ 0) × (length (now bytes) ≤ 4 * length (now words)) ⌝ }
-    ensures { λ r. ⌜ (4 * r ≡ length (now (bytes .entry))) × (wordsOf (now (bytes .entry)) ≡ some (take r (now (words .exit)))) ⌝ }
+    ensures { λ r. ⌜ (4 * r ≡ length (now (bytes .entry)))
+        × (wordsOf (now (bytes .entry)) ≡ some (take r (now (words .exit)))) ⌝ }
 {
-    let n = bytes.len() / 4;
+    let count = bytes.len() / 4;
     let mut i = 0;
-    while i < n {
+    while i < count {
         words[i] = words::word_at(bytes, 4 * i);
         i += 1;
     }
-    n
+    count
 }
 
-// Are n words as many as the first four say? In 64 bits the sum does not wrap.
-fn lengths_agree(words: &[u32], n: usize) -> bool
+// Are so many words as many as the first four say? In 64 bits the sum does not wrap.
+fn lengths_agree(words: &[u32], count: usize) -> bool
     requires { ⌜ 4 ≤ length (now words) ⌝ }
-    ensures { λ r. ⌜ r ≡ eqb n (4 + sum (take 4 (now (words .entry)))) ⌝ }
+    ensures { λ r. ⌜ r ≡ eqb count (4 + sum (take 4 (now (words .entry)))) ⌝ }
 {
     let labels = words::at(words, 0);
     let system = words::at(words, 1);
     let actions = words::at(words, 2);
     let formula = words::at(words, 3);
-    n == 4 + labels + system + actions + formula
+    count == 4 + labels + system + actions + formula
 }
 
 // The words of the bytes go to the front of `words`, unless the program refuses them.
@@ -67,10 +68,10 @@ fn decode(bytes: &[u8], words: &mut [u32]) -> Decoded
     if size < 16 {
         return Decoded::Unreadable;
     }
-    let n = read_words(bytes, words);
-    let agree = lengths_agree(words, n);
+    let count = read_words(bytes, words);
+    let agree = lengths_agree(words, count);
     if agree {
-        return Decoded::Read(n);
+        return Decoded::Read(count);
     }
     Decoded::Unreadable
 }
@@ -78,37 +79,38 @@ fn decode(bytes: &[u8], words: &mut [u32]) -> Decoded
 // ---- a game's lines: each function appends to the text and answers the place past what it wrote
 
 // A vertex's line: its number, owner, priority, targets.
-fn put_vertex(text: &mut [u8], start: usize, game: &[u32], v: usize) -> usize
+fn put_vertex(text: &mut [u8], start: usize, game: &[u32], vertex: usize) -> usize
     requires { ⌜ Shown (now game) ⌝ }
-    requires { ⌜ v < vertexCount (now game) ⌝ }
-    requires { ⌜ start + length (vertexLine (now game) v) ≤ length (now text) ⌝ }
-    ensures { λ r. ⌜ Wrote start (vertexLine (now (game .entry)) v) (now (text .entry)) (now (text .exit)) r ⌝ }
+    requires { ⌜ vertex < vertexCount (now game) ⌝ }
+    requires { ⌜ start + length (vertexLine (now game) vertex) ≤ length (now text) ⌝ }
+    ensures { λ r. ⌜ Wrote start (vertexLine (now (game .entry)) vertex) (now (text .entry)) (now (text .exit)) r ⌝ }
 {
-    let owner = parity_game::vertex_word(game, 0, v);
-    let priority = parity_game::vertex_word(game, 1, v);
-    let first = parity_game::edges_from(game, 0, v);
-    let end = parity_game::edges_from(game, 0, v + 1);
-    let a = text_writer::put_decimal(text, start, v);
-    let b = text_writer::put_number(text, a, owner);
-    let c = text_writer::put_number(text, b, priority);
-    let d = text_writer::put_numbers(text, c, game, first, end);
-    text_writer::put_byte(text, d, 10)
+    let owner = parity_game::vertex_word(game, 0, vertex);
+    let priority = parity_game::vertex_word(game, 1, vertex);
+    let first = parity_game::edges_from(game, 0, vertex);
+    let end = parity_game::edges_from(game, 0, vertex + 1);
+    let past_number = text_writer::put_decimal(text, start, vertex);
+    let past_owner = text_writer::put_number(text, past_number, owner);
+    let past_priority = text_writer::put_number(text, past_owner, priority);
+    let past_targets = text_writer::put_numbers(text, past_priority, game, first, end);
+    text_writer::put_byte(text, past_targets, 10)
 }
 
 // The lines of all vertices.
 fn put_vertices(text: &mut [u8], start: usize, game: &[u32]) -> usize
     requires { ⌜ Shown (now game) ⌝ }
     requires { ⌜ start + length (vertexLines (now game) 0 (vertexCount (now game))) ≤ length (now text) ⌝ }
-    ensures { λ r. ⌜ Wrote start (vertexLines (now (game .entry)) 0 (vertexCount (now (game .entry)))) (now (text .entry)) (now (text .exit)) r ⌝ }
+    ensures { λ r. ⌜ Wrote start (vertexLines (now (game .entry)) 0 (vertexCount (now (game .entry))))
+        (now (text .entry)) (now (text .exit)) r ⌝ }
 {
-    let n = words::at(game, 0);
-    let mut v = 0;
-    let mut p = start;
-    while v < n {
-        p = put_vertex(text, p, game, v);
-        v += 1;
+    let count = words::at(game, 0);
+    let mut vertex = 0;
+    let mut place = start;
+    while vertex < count {
+        place = put_vertex(text, place, game, vertex);
+        vertex += 1;
     }
-    p
+    place
 }
 
 // A first line and the game's lines.
@@ -116,10 +118,12 @@ fn put_game(text: &mut [u8], name: &[u8], numbers: &[u32], game: &[u32]) -> usiz
     requires { ⌜ Shown (now game) ⌝ }
     requires { ⌜ length (line (now name) (now numbers) ++ vertexLines (now game) 0 (vertexCount (now game)))
         ≤ length (now text) ⌝ }
-    ensures { λ r. ⌜ Wrote 0 (line (now (name .entry)) (now (numbers .entry)) ++ vertexLines (now (game .entry)) 0 (vertexCount (now (game .entry)))) (now (text .entry)) (now (text .exit)) r ⌝ }
+    ensures { λ r. ⌜ Wrote 0 (line (now (name .entry)) (now (numbers .entry))
+        ++ vertexLines (now (game .entry)) 0 (vertexCount (now (game .entry))))
+        (now (text .entry)) (now (text .exit)) r ⌝ }
 {
-    let p = text_writer::put_line(text, 0, name, numbers);
-    put_vertices(text, p, game)
+    let past_line = text_writer::put_line(text, 0, name, numbers);
+    put_vertices(text, past_line, game)
 }
 
 // What is printed of a run: its answer, and the game that it left.
@@ -154,8 +158,10 @@ fn run_input(
     formula: &[u32],
     text: &mut [u8],
 ) -> usize
-    requires { ⌜ gateTextLength ≤ length (now text) ⌝ }
-    ensures { λ r. ⌜ Wrote 0 (reported (gateRun (inputOf (now (labels .entry)) (now (system .entry)) (now (actions .entry)) (now (formula .entry))))) (now (text .entry)) (now (text .exit)) r ⌝ }
+    ghost { Input }
+    requires { λ x. ⌜ inputOf (now labels) (now system) (now actions) (now formula) ≡ x ⌝ }
+    requires { λ x. ⌜ gateTextLength ≤ length (now text) ⌝ }
+    ensures { λ x r. ⌜ Wrote 0 (reported (gateRun x)) (now (text .entry)) (now (text .exit)) r ⌝ }
 {
     let mut game = [0u32; 2564];
     let mut work = [0u32; 6144];
@@ -176,12 +182,19 @@ fn run_input(
 // The run of the words: four lengths, then the four slices, one after the other.
 fn run_words(ws: &[u32], text: &mut [u8]) -> usize
     requires { ⌜ (disagree (now ws) ≡ false) × (gateTextLength ≤ length (now text)) ⌝ }
-    ensures { λ r. ⌜ Wrote 0 (reported (gateRun (slicesOf (now (ws .entry))))) (now (text .entry)) (now (text .exit)) r ⌝ }
+    ensures { λ r. ⌜ Wrote 0 (reported (gateRun (slicesOf (now (ws .entry)))))
+        (now (text .entry)) (now (text .exit)) r ⌝ }
 {
-    let a = 4 + words::at(ws, 0);
-    let b = a + words::at(ws, 1);
-    let c = b + words::at(ws, 2);
-    run_input(&ws[4..a], &ws[a..b], &ws[b..c], &ws[c..], text)
+    let labels_end = 4 + words::at(ws, 0);
+    let system_end = labels_end + words::at(ws, 1);
+    let actions_end = system_end + words::at(ws, 2);
+    run_input(
+        &ws[4..labels_end],
+        &ws[labels_end..system_end],
+        &ws[system_end..actions_end],
+        &ws[actions_end..],
+        text,
+    )
 }
 
 // What the program writes, of what it reads, goes to the front of the text slice. Answers how many bytes were written.
@@ -192,7 +205,7 @@ fn put_program(bytes: &[u8], text: &mut [u8]) -> usize
     let mut ws = [0u32; 2048];
     let read = decode(bytes, &mut ws);
     match read {
-        Decoded::Read(n) => run_words(&ws[..n], text),
+        Decoded::Read(count) => run_words(&ws[..count], text),
         Decoded::Unreadable => text_writer::put_line(text, 0, b"refused", &[2, 0]),
     }
 }
@@ -206,6 +219,23 @@ pub fn gate(bytes: &[u8], text: &mut [u8]) -> Answer
     if text.len() < 16384 {
         return Answer::Refused(2, 0);
     }
-    let n = put_program(bytes, text);
-    text_writer::finish(text, n)
+    let size = put_program(bytes, text);
+    text_writer::finish(text, size)
+}
+
+// The thin program reads so many bytes of its input: one more than the largest input has, so that a longer one is
+// noticed.
+pub const READ: usize = 8193;
+
+pub type Buffer = [u8; READ];
+
+// As `gate`, of any input whose first 8,193 bytes (all, where it has fewer) are the first `count` bytes of the buffer.
+pub fn gate_buffer(buffer: &Buffer, count: usize, text: &mut [u8]) -> Answer
+    requires { ⌜ count ≤ 8193 ⌝ }
+    ensures { λ r. ⌜ ((input : List ℕ) → take 8193 input ≡ take count (now (buffer .entry))
+        → _≡_ {A = Written} (record { answer = r; text = now (text .exit) })
+        (programText input (now (text .entry)))) ⌝ }
+{
+    let all = &buffer[..];
+    gate(&all[..count], text)
 }

@@ -6,7 +6,8 @@ use native.Mathlib.Omega.{arith}
 use Rattle.rules.specs.declared.Answer.{Answer}
 use Rattle.rules.specs.declared.Answer.the-variants.{Done, Cut, Refused}
 use Rattle.rules.specs.Lists.{word}
-use Rattle.rules.specs.Words.{Input, Room}
+use Rattle.rules.specs.declared.Room.{Room}
+use Rattle.rules.specs.Words.{Input}
 use Rattle.rules.specs.Answers.{said, Says, Accepted}
 use Rattle.rules.specs.Depth.{byDepth}
 use Rattle.rules.specs.Run.{Outcome, run}

@@ -1,5 +1,5 @@
-// The static library: the calls open to users, for C and Rust hosts. A slice passes as a pointer and a length in words; the answer goes to four words that the host lends:
-// 0 Done, 1 Cut, 2 Refused, then the values, unused ones 0.
+// The static library: the calls open to users, for C and Rust hosts. A slice passes as a pointer and a length in words;
+// the answer goes to four words that the host lends: 0 Done, 1 Cut, 2 Refused, then the values, unused ones 0.
 use rules::Answer;
 ghost use mathlib.Core.Path.{_≡_};
 ghost use Rattle.rules.specs.Words.{inputOf, roomOf};

@@ -2,7 +2,8 @@
 use Prim.Native.Nat.{ℕ}
 use mathlib.Core.Path.{_≡_, refl, sym, ap, _∙_}
 use mathlib.Core.List.{List, _++_}
-use Rattle.rules.specs.Words.{Input, Room, inputOf}
+use Rattle.rules.specs.declared.Room.{Room}
+use Rattle.rules.specs.Words.{Input, inputOf}
 use Rattle.rules.specs.Answers.{andThen, firstFault}
 use Rattle.rules.specs.Refusal.{refusal1, refusal2, inputRefusal, refusal}
 use Rattle.tables.proofs.Faults.{then-assoc, then-last}

@@ -1,35 +1,41 @@
 // What is checked before a run begins, in the order of the refusals: the room and the lent slices, then the words.
 use rules::Check;
+use rules::Room;
 ghost use mathlib.Core.Path.{_≡_};
 ghost use Prim.Native.Nat.{_<_};
 ghost use lib.ListN.{length};
-ghost use Rattle.rules.specs.Words.{inputOf, roomOf};
+ghost use Rattle.rules.specs.Words.{inputOf};
 ghost use Rattle.rules.specs.Answers.{andThen, firstFault};
 ghost use Rattle.rules.specs.Refusal.{refusal1, refusal2, inputRefusal, refusal};
 ghost use Rattle.inputs.specs.Groups.{formulaChecks};
 
-// 1, 2: V and E, and the lengths of the game slice and the work slice.
-fn check_room(vertices: u32, edges: u32, game_len: usize, work_len: usize) -> Check
-    ensures { λ r. ⌜ r ≡ andThen (refusal1 (roomOf vertices edges)) (refusal2 (roomOf vertices edges) «game_len» «work_len») ⌝ }
+// The most vertices and edges of a run's room.
+const MOST_VERTICES: u32 = 1_048_576;
+
+const MOST_EDGES: u32 = 4_194_304;
+
+// 1: the room is out of range. 2: the game slice or the work slice, of these lengths, is not as long as the room asks.
+fn check_room(room: Room, game_len: usize, work_len: usize) -> Check
+    ensures { λ r. ⌜ r ≡ andThen (refusal1 room) (refusal2 room «game_len» «work_len») ⌝ }
 {
-    if vertices < 1 {
+    if room.vertices < 1 {
         return Check::Fault(1, 0);
     }
-    if 1_048_576 < vertices {
+    if MOST_VERTICES < room.vertices {
         return Check::Fault(1, 0);
     }
-    if edges < 1 {
+    if room.edges < 1 {
         return Check::Fault(1, 0);
     }
-    if 4_194_304 < edges {
+    if MOST_EDGES < room.edges {
         return Check::Fault(1, 0);
     }
-    let v = vertices as usize;
-    let e = edges as usize;
-    if game_len != 4 + 3 * v + e {
+    let vertices = room.vertices as usize;
+    let edges = room.edges as usize;
+    if game_len != 4 + 3 * vertices + edges {
         return Check::Fault(2, 0);
     }
-    if work_len != 8 * v + 2 * e {
+    if work_len != 8 * vertices + 2 * edges {
         return Check::Fault(2, 0);
     }
     Check::Passed
@@ -49,7 +55,8 @@ fn check_formulas(labels: &[u32], actions: &[u32], formula: &[u32]) -> Check
 
 // 11 to 45: the labels, the system and the formulas.
 fn check_words(labels: &[u32], system: &[u32], actions: &[u32], formula: &[u32]) -> Check
-    ensures { λ r. ⌜ r ≡ inputRefusal (inputOf (now (labels .entry)) (now (system .entry)) (now (actions .entry)) (now (formula .entry))) ⌝ }
+    ensures { λ r. ⌜ r ≡ inputRefusal
+        (inputOf (now (labels .entry)) (now (system .entry)) (now (actions .entry)) (now (formula .entry))) ⌝ }
 {
     let first = label_words::check_labels(labels);
     match first {
@@ -64,21 +71,23 @@ fn check_words(labels: &[u32], system: &[u32], actions: &[u32], formula: &[u32])
     }
 }
 
-// All that is checked before a run begins.
+// All that is checked before a run begins: the room with the lengths of the game slice and the work slice, then the
+// words.
 pub fn check(
     labels: &[u32],
     system: &[u32],
     actions: &[u32],
     formula: &[u32],
-    vertices: u32,
-    edges: u32,
+    room: Room,
     game_len: usize,
     work_len: usize,
 ) -> Check
-    ensures { λ r. ⌜ r ≡ refusal (inputOf (now (labels .entry)) (now (system .entry)) (now (actions .entry)) (now (formula .entry))) (roomOf vertices edges) «game_len» «work_len» ⌝ }
+    ensures { λ r. ⌜ r ≡ refusal
+        (inputOf (now (labels .entry)) (now (system .entry)) (now (actions .entry)) (now (formula .entry)))
+        room «game_len» «work_len» ⌝ }
 {
-    let room = check_room(vertices, edges, game_len, work_len);
-    match room {
+    let checked = check_room(room, game_len, work_len);
+    match checked {
         Check::Fault(number, place) => Check::Fault(number, place),
         Check::Passed => check_words(labels, system, actions, formula),
     }

@@ -14,11 +14,13 @@ use Rattle.rules.specs.Table.{size, formulaNode}
 use Rattle.rules.specs.Actions.{actionTree}
 use Rattle.rules.specs.Formula.{Operator, least, greatest, isFixpoint, equationCount, equationOf, equationNumber, formulaTree, bodyTree, firstBodyNode}
 use Rattle.rules.specs.Depth.{Ranking, leastBit}
-use Rattle.rules.specs.Items.{Item, equation, items, itemNumber}
+use Rattle.rules.specs.Items.{Item, items, itemNumber}
 use Rattle.rules.specs.Pairs.{itemAt, priority}
 use Rattle.tables.specs.Good.{GoodInput}
 use Rattle.trees.proofs.Equations.{equation-node, body-below, fixpoint-body}
 use Rattle.trees.proofs.Readings.{leastBit-most}
+use Rattle.compiled.specs.Stretches.{wordCount, kindsIn, leftsIn, rightsIn}
+use Rattle.compiled.proofs.Laws.{stretch-length}
 use Rattle.arena.specs.Arena.{BodyNode}
 use Rattle.arena.proofs.ItemNumbers.{items-few, item-equation, item-subformula, item-below, item-past, item-carried, first-body}
 use Rattle.arena.proofs.Priorities.{equation-priority, other-priority}
@@ -26,6 +28,7 @@ use Rattle.modal_equation_system.specs.System.{formulaOnly, bodyIn, leastIn, Li
 use Rattle.alike_nodes.specs.Nodes.{Last, Later, EquationNumbers, FormulaShown}
 use Rattle.alike_nodes.proofs.Showing.{formula-shown-map}
 use Rattle.item_table.specs.Entries.{operatorKind, ActionAt, ItemShown, ShownAt, ItemTable, Ranks, ItemNumbers, FirstShown}
+use Rattle.item_table.specs.Entries.{ShownIn, PrioritiesOnly}
 use Rattle.item_table.proofs.Numbers.{zeros-word, first-most}
 
 -- ---- one entry is written
@@ -197,6 +200,22 @@ module _ (x : Input) (good : GoodInput x) where
         entry = s .shown;
       }
 
-pub ranked-from : (rank : Ranking) (f : List ℕ) (n : ℕ) (before before′ after : List ℕ) → before ≡ before′
-    → RankedBy rank f n before after → RankedBy rank f n before′ after
-ranked-from rank f n before before′ after e r = subst (λ (l : List ℕ). RankedBy rank f n l after) e r
+pub ranked-between : (rank : Ranking) (f : List ℕ) (n : ℕ) (before before′ after after′ : List ℕ)
+    → before ≡ before′
+    → after′ ≡ after
+    → RankedBy rank f n before after
+    → RankedBy rank f n before′ after′
+ranked-between rank f n before before′ after after′ e d r = rw d (subst (λ (l : List ℕ). RankedBy rank f n l after) e r)
+
+-- the table of items stays where only priorities are written
+pub table-kept : (x : Input) (good : GoodInput x) (t u : List ℕ) → length t ≡ wordCount
+    → ShownIn x (length (items x)) t
+    → PrioritiesOnly t u
+    → ItemTable x (kindsIn u) (leftsIn u) (rightsIn u)
+table-kept x good t u e s p =
+    rw (p .kinds, p .lefts, p .rights)
+    (table-made x good (kindsIn t) (leftsIn t) (rightsIn t)
+    (omega (arith, stretch-length 0 2048 t (omega arith)))
+    (omega (arith, stretch-length 2048 2048 t (omega arith)))
+    (omega (arith, stretch-length 4096 2048 t (omega arith)))
+    s)

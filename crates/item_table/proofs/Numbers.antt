@@ -1,4 +1,5 @@
--- Numbering the body nodes from the first to the last: the words so far are the item numbers, and the word of a class is 0 exactly if no node of it was met. Assumes nothing.
+-- Numbering the body nodes from the first to the last: the words so far are the item numbers, and the word of a class
+-- is 0 exactly if no node of it was met. Assumes nothing.
 use mathlib.Core.Path.{_≡_, refl, sym, ap, subst, _∙_}
 use mathlib.Core.Logic.{_⊎_, inl, inr}
 use mathlib.Core.Bool.{Bool, true, false}

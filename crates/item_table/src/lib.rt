@@ -1,7 +1,17 @@
 // The formula compiled once into a table of items, which the steps of a run read.
+use alike_nodes::SHAPES;
+use alike_nodes::Shape;
 use alike_nodes::formula_shape;
 use alike_nodes::number_actions;
 use alike_nodes::number_formula;
+use compiled::CLASSES;
+use compiled::Compiled;
+use compiled::KINDS;
+use compiled::LEFTS;
+use compiled::PRIORITIES;
+use compiled::RIGHTS;
+use modal_equation_system::EquationTable;
+use modal_equation_system::TABLE;
 use modal_equation_system::body_of;
 use modal_equation_system::fixpoints_at;
 use modal_equation_system::list_equations;
@@ -10,20 +20,25 @@ use modal_equation_system::operator_of;
 use words::at;
 use words::clear;
 ghost use mathlib.Core.Path.{_≡_};
-ghost use Prim.Native.Nat.{_+_, _≤_, _<_};
-ghost use lib.ListN.{length, set};
+ghost use Prim.Native.Nat.{_≤_, _<_};
+ghost use lib.ListN.{length};
 ghost use Rattle.rules.specs.Lists.{zeros};
-ghost use Rattle.rules.specs.Words.{inputOf};
-ghost use Rattle.rules.specs.Table.{size};
-ghost use Rattle.rules.specs.Actions.{actionTree};
-ghost use Rattle.rules.specs.Formula.{equationCount, formulaTree, firstBodyNode};
+ghost use Rattle.rules.specs.Words.{Input, inputOf};
+ghost use Rattle.rules.specs.Formula.{equationCount, firstBodyNode};
 ghost use Rattle.rules.specs.Depth.{byDepth};
 ghost use Rattle.rules.specs.Items.{items};
 ghost use Rattle.tables.specs.Good.{GoodInput};
 ghost use Rattle.labels.specs.Classes.{Classes};
+ghost use Rattle.compiled.specs.Stretches.{wordCount, kindsIn, leftsIn, rightsIn, prioritiesIn, classesIn};
 ghost use Rattle.modal_equation_system.specs.System.{Good, Listed, RankedBy};
-ghost use Rattle.alike_nodes.specs.Nodes.{Numbered, EquationNumbers};
-ghost use Rattle.item_table.specs.Entries.{ItemTable, Ranks, ItemNumbers, NodeNumbered, FirstShown};
+ghost use Rattle.alike_nodes.specs.Nodes.{ActionNumbers, FormulaNumbers, EquationNumbers};
+ghost use Rattle.item_table.specs.Entries.{ItemTable, Ranks, ItemNumbers, NodeNumbered};
+ghost use Rattle.item_table.specs.Entries.{ShownIn, EntryPut, ItemsOnly, PrioritiesOnly};
+
+// How many nodes the action formulas have at most, and the formula too.
+const NODES: usize = 1024;
+
+// ---- numbers
 
 // The first node that stands in a body: node 1 if node 0 is a fixpoint.
 fn first_body_node(formula: &[u32]) -> usize
@@ -33,7 +48,8 @@ fn first_body_node(formula: &[u32]) -> usize
     fixpoints_at(formula, 0)
 }
 
-// A node gets the number of its class, or the next one if its class has none (0) yet. Returns the number after those given.
+// A node gets the number of its class, or the next one if its class has none (0) yet. Returns the number after those
+// given.
 fn number_node(numbers: &mut [u32], node: usize, class: usize, next: usize) -> usize
     requires { ⌜ (node < length (now numbers)) × (class < length (now numbers)) × (next ≤ 2048) ⌝ }
     ensures { λ r. ⌜ NodeNumbered (now (numbers .entry)) (now (numbers .exit)) node class next r ⌝ }
@@ -48,8 +64,8 @@ fn number_node(numbers: &mut [u32], node: usize, class: usize, next: usize) -> u
     next + 1
 }
 
-// Numbers the items: the equations come first, then the subformulas by the lowest node that carries them. The words of `nodes` stand for the nodes' trees.
-// Returns how many items there are.
+// Numbers the items: the equations come first, then the subformulas by the lowest node that carries them. The words of
+// `nodes` stand for the nodes' trees. Returns how many items there are.
 fn number_items(
     labels: &[u32],
     system: &[u32],
@@ -59,69 +75,102 @@ fn number_items(
     count: usize,
     numbers: &mut [u32],
 ) -> usize
-    requires { ⌜ GoodInput (inputOf (now labels) (now system) (now actions) (now formula)) ⌝ }
-    requires { ⌜ Numbered (formulaTree (inputOf (now labels) (now system) (now actions) (now formula))) (size (now formula)) 0 (now nodes) ⌝ }
-    requires { ⌜ (count ≡ equationCount (now formula)) × (1024 ≤ length (now numbers)) ⌝ }
-    ensures { λ r. ⌜ r ≡ length (items (inputOf (now (labels .entry)) (now (system .entry)) (now (actions .entry)) (now (formula .entry)))) ⌝ }
-    ensures { λ _. ⌜ ItemNumbers (inputOf (now (labels .entry)) (now (system .entry)) (now (actions .entry)) (now (formula .entry))) (now (numbers .exit)) ⌝ }
+    ghost { Input }
+    requires { λ x. ⌜ inputOf (now labels) (now system) (now actions) (now formula) ≡ x ⌝ }
+    requires { λ x. ⌜ GoodInput x × FormulaNumbers x (now nodes) ⌝ }
+    requires { λ x. ⌜ (count ≡ equationCount (x .formula)) × (1024 ≤ length (now numbers)) ⌝ }
+    ensures { λ x r. ⌜ (r ≡ length (items x)) × ItemNumbers x (now (numbers .exit)) ⌝ }
 {
     clear(numbers);
-    let n = at(formula, 0);
+    let size = at(formula, 0);
     let mut next = count;
-    let mut v = first_body_node(formula);
-    while v < n {
-        let class = at(nodes, v);
-        next = number_node(numbers, v, class, next);
-        v += 1;
+    let mut node = first_body_node(formula);
+    while node < size {
+        let class = at(nodes, node);
+        next = number_node(numbers, node, class, next);
+        node += 1;
     }
     next
 }
 
-// Item q is shown by these words.
-fn put_entry(
-    kinds: &mut [u32],
-    lefts: &mut [u32],
-    rights: &mut [u32],
-    q: usize,
-    k: u32,
-    l: u32,
-    r: u32,
-)
-    requires { ⌜ (q < length (now kinds)) × (q < length (now lefts)) × (q < length (now rights)) ⌝ }
-    ensures { λ _. ⌜ now (kinds .exit) ≡ set (now (kinds .entry)) q k ⌝ }
-    ensures { λ _. ⌜ now (lefts .exit) ≡ set (now (lefts .entry)) q l ⌝ }
-    ensures { λ _. ⌜ now (rights .exit) ≡ set (now (rights .entry)) q r ⌝ }
+// Numbers the nodes of the action formulas, those of the formula, and the items. Returns how many items there are.
+fn number_all(
+    labels: &[u32],
+    system: &[u32],
+    actions: &[u32],
+    formula: &[u32],
+    compiled: &Compiled,
+    equations: &[u32],
+    count: usize,
+    acts: &mut [u32],
+    numbers: &mut [u32],
+) -> usize
+    ghost { Input }
+    requires { λ x. ⌜ inputOf (now labels) (now system) (now actions) (now formula) ≡ x ⌝ }
+    requires { λ x. ⌜ GoodInput x × Classes (x .labels) (classesIn (now compiled)) ⌝ }
+    requires { λ x. ⌜ EquationNumbers (x .formula) (now equations) × (count ≡ equationCount (x .formula)) ⌝ }
+    requires { λ x. ⌜ (1024 ≤ length (now acts)) × (1024 ≤ length (now numbers)) ⌝ }
+    ensures { λ x r. ⌜ (r ≡ length (items x)) × ItemNumbers x (now (numbers .exit)) ⌝ }
+    ensures { λ x _. ⌜ ActionNumbers x (now (acts .exit)) ⌝ }
 {
-    kinds[q] = k;
-    lefts[q] = l;
-    rights[q] = r;
+    let mut shapes = [0u32; SHAPES];
+    let mut nodes = [0u32; NODES];
+    let classes = compiled::classes(compiled);
+    number_actions(labels, classes, actions, &mut shapes, acts);
+    number_formula(
+        labels,
+        system,
+        actions,
+        formula,
+        acts,
+        equations,
+        &mut shapes,
+        &mut nodes,
+    );
+    number_items(labels, system, actions, formula, &nodes, count, numbers)
 }
 
-// Puts the equations into the table.
+// ---- the table
+
+// Writes the words that show an item.
+fn put_entry(compiled: &mut Compiled, item: usize, shape: Shape)
+    requires { ⌜ item < 2048 ⌝ }
+    ensures { λ _. ⌜ EntryPut (now (compiled .entry)) (now (compiled .exit)) item shape ⌝ }
+{
+    compiled[KINDS + item] = shape.kind;
+    compiled[LEFTS + item] = shape.left;
+    compiled[RIGHTS + item] = shape.right;
+}
+
+// Puts the equations into the table: kind 6 for a least one, 7 for a greatest, with the item of its body at the left.
 fn put_equations(
     labels: &[u32],
     system: &[u32],
     actions: &[u32],
     formula: &[u32],
-    table: &[u32; 4098],
+    table: &EquationTable,
     numbers: &[u32],
     count: usize,
-    kinds: &mut [u32],
-    lefts: &mut [u32],
-    rights: &mut [u32],
+    compiled: &mut Compiled,
 )
-    requires { ⌜ GoodInput (inputOf (now labels) (now system) (now actions) (now formula)) ⌝ }
-    requires { ⌜ Listed (now formula) (now table) ⌝ }
-    requires { ⌜ ItemNumbers (inputOf (now labels) (now system) (now actions) (now formula)) (now numbers) ⌝ }
-    requires { ⌜ (count ≡ equationCount (now formula)) × (2048 ≤ length (now kinds)) × (2048 ≤ length (now lefts)) × (2048 ≤ length (now rights)) ⌝ }
-    ensures { λ _. ⌜ FirstShown (inputOf (now (labels .entry)) (now (system .entry)) (now (actions .entry)) (now (formula .entry))) count (now (kinds .exit)) (now (lefts .exit)) (now (rights .exit)) ⌝ }
+    ghost { Input }
+    requires { λ x. ⌜ inputOf (now labels) (now system) (now actions) (now formula) ≡ x ⌝ }
+    requires { λ x. ⌜ GoodInput x × Listed (x .formula) (now table) × ItemNumbers x (now numbers) ⌝ }
+    requires { λ x. ⌜ (count ≡ equationCount (x .formula)) × (length (now compiled) ≡ wordCount) ⌝ }
+    ensures { λ x _. ⌜ ShownIn x count (now (compiled .exit))
+        × ItemsOnly (now (compiled .entry)) (now (compiled .exit)) ⌝ }
 {
-    let mut i: usize = 0;
-    while i < count {
-        let body = body_of(table, i);
-        let operator = operator_of(table, i);
-        put_entry(kinds, lefts, rights, i, 7 - operator, numbers[body], 0);
-        i += 1;
+    let mut equation: usize = 0;
+    while equation < count {
+        let body = body_of(table, equation);
+        let operator = operator_of(table, equation);
+        let shape = Shape {
+            kind: 7 - operator,
+            left: numbers[body],
+            right: 0,
+        };
+        put_entry(compiled, equation, shape);
+        equation += 1;
     }
 }
 
@@ -134,24 +183,21 @@ fn put_subformulas(
     acts: &[u32],
     equations: &[u32],
     numbers: &[u32],
-    count: usize,
-    kinds: &mut [u32],
-    lefts: &mut [u32],
-    rights: &mut [u32],
+    compiled: &mut Compiled,
 )
-    requires { ⌜ GoodInput (inputOf (now labels) (now system) (now actions) (now formula)) ⌝ }
-    requires { ⌜ Numbered (actionTree (now labels) (now actions)) (size (now actions)) 0 (now acts) ⌝ }
-    requires { ⌜ EquationNumbers (now formula) (now equations) ⌝ }
-    requires { ⌜ ItemNumbers (inputOf (now labels) (now system) (now actions) (now formula)) (now numbers) ⌝ }
-    requires { ⌜ (count ≡ equationCount (now formula)) × (2048 ≤ length (now kinds)) × (2048 ≤ length (now lefts)) × (2048 ≤ length (now rights)) ⌝ }
-    requires { ⌜ FirstShown (inputOf (now labels) (now system) (now actions) (now formula)) count (now kinds) (now lefts) (now rights) ⌝ }
-    ensures { λ _. ⌜ FirstShown (inputOf (now (labels .entry)) (now (system .entry)) (now (actions .entry)) (now (formula .entry))) (length (items (inputOf (now (labels .entry)) (now (system .entry)) (now (actions .entry)) (now (formula .entry))))) (now (kinds .exit)) (now (lefts .exit)) (now (rights .exit)) ⌝ }
+    ghost { Input }
+    requires { λ x. ⌜ inputOf (now labels) (now system) (now actions) (now formula) ≡ x ⌝ }
+    requires { λ x. ⌜ GoodInput x × ActionNumbers x (now acts) ⌝ }
+    requires { λ x. ⌜ EquationNumbers (x .formula) (now equations) × ItemNumbers x (now numbers) ⌝ }
+    requires { λ x. ⌜ (length (now compiled) ≡ wordCount) × ShownIn x (equationCount (x .formula)) (now compiled) ⌝ }
+    ensures { λ x _. ⌜ ShownIn x (length (items x)) (now (compiled .exit))
+        × ItemsOnly (now (compiled .entry)) (now (compiled .exit)) ⌝ }
 {
-    let n = at(formula, 0);
-    let mut v = first_body_node(formula);
-    while v < n {
-        let q = at(numbers, v);
-        let s = formula_shape(
+    let size = at(formula, 0);
+    let mut node = first_body_node(formula);
+    while node < size {
+        let item = at(numbers, node);
+        let shape = formula_shape(
             labels,
             system,
             actions,
@@ -159,53 +205,11 @@ fn put_subformulas(
             acts,
             equations,
             numbers,
-            v,
+            node,
         );
-        put_entry(kinds, lefts, rights, q, s.kind, s.left, s.right);
-        v += 1;
+        put_entry(compiled, item, shape);
+        node += 1;
     }
-}
-
-// Numbers the nodes and the items, with `nodes`, `kinds`, `lefts` and `rights` to work in. Returns how many items there are.
-fn number_all(
-    labels: &[u32],
-    system: &[u32],
-    actions: &[u32],
-    formula: &[u32],
-    classes: &[u32],
-    equations: &[u32],
-    count: usize,
-    acts: &mut [u32],
-    nodes: &mut [u32],
-    kinds: &mut [u32],
-    lefts: &mut [u32],
-    rights: &mut [u32],
-    numbers: &mut [u32],
-) -> usize
-    requires { ⌜ GoodInput (inputOf (now labels) (now system) (now actions) (now formula)) ⌝ }
-    requires { ⌜ Classes (now labels) (now classes) ⌝ }
-    requires { ⌜ EquationNumbers (now formula) (now equations) ⌝ }
-    requires { ⌜ (count ≡ equationCount (now formula)) × (1024 ≤ length (now numbers)) ⌝ }
-    requires { ⌜ (1024 ≤ length (now kinds)) × (1024 ≤ length (now lefts)) × (1024 ≤ length (now rights)) × (1024 ≤ length (now acts)) ⌝ }
-    requires { ⌜ 1024 ≤ length (now nodes) ⌝ }
-    ensures { λ r. ⌜ r ≡ length (items (inputOf (now (labels .entry)) (now (system .entry)) (now (actions .entry)) (now (formula .entry)))) ⌝ }
-    ensures { λ _. ⌜ Numbered (actionTree (now (labels .entry)) (now (actions .entry))) (size (now (actions .entry))) 0 (now (acts .exit)) ⌝ }
-    ensures { λ _. ⌜ ItemNumbers (inputOf (now (labels .entry)) (now (system .entry)) (now (actions .entry)) (now (formula .entry))) (now (numbers .exit)) ⌝ }
-{
-    number_actions(labels, classes, actions, kinds, lefts, rights, acts);
-    number_formula(
-        labels,
-        system,
-        actions,
-        formula,
-        acts,
-        equations,
-        kinds,
-        lefts,
-        rights,
-        nodes,
-    );
-    number_items(labels, system, actions, formula, nodes, count, numbers)
 }
 
 // Puts all items into the table.
@@ -214,20 +218,18 @@ fn put_items(
     system: &[u32],
     actions: &[u32],
     formula: &[u32],
-    table: &[u32; 4098],
+    table: &EquationTable,
     acts: &[u32],
     numbers: &[u32],
     count: usize,
-    kinds: &mut [u32],
-    lefts: &mut [u32],
-    rights: &mut [u32],
+    compiled: &mut Compiled,
 )
-    requires { ⌜ GoodInput (inputOf (now labels) (now system) (now actions) (now formula)) ⌝ }
-    requires { ⌜ Listed (now formula) (now table) ⌝ }
-    requires { ⌜ Numbered (actionTree (now labels) (now actions)) (size (now actions)) 0 (now acts) ⌝ }
-    requires { ⌜ ItemNumbers (inputOf (now labels) (now system) (now actions) (now formula)) (now numbers) ⌝ }
-    requires { ⌜ (count ≡ equationCount (now formula)) × (2048 ≤ length (now kinds)) × (2048 ≤ length (now lefts)) × (2048 ≤ length (now rights)) ⌝ }
-    ensures { λ _. ⌜ FirstShown (inputOf (now (labels .entry)) (now (system .entry)) (now (actions .entry)) (now (formula .entry))) (length (items (inputOf (now (labels .entry)) (now (system .entry)) (now (actions .entry)) (now (formula .entry))))) (now (kinds .exit)) (now (lefts .exit)) (now (rights .exit)) ⌝ }
+    ghost { Input }
+    requires { λ x. ⌜ inputOf (now labels) (now system) (now actions) (now formula) ≡ x ⌝ }
+    requires { λ x. ⌜ GoodInput x × Listed (x .formula) (now table) × (count ≡ equationCount (x .formula)) ⌝ }
+    requires { λ x. ⌜ ActionNumbers x (now acts) × ItemNumbers x (now numbers) × (length (now compiled) ≡ wordCount) ⌝ }
+    ensures { λ x _. ⌜ ShownIn x (length (items x)) (now (compiled .exit))
+        × ItemsOnly (now (compiled .entry)) (now (compiled .exit)) ⌝ }
 {
     put_equations(
         labels,
@@ -237,9 +239,7 @@ fn put_items(
         table,
         numbers,
         count,
-        kinds,
-        lefts,
-        rights,
+        compiled,
     );
     put_subformulas(
         labels,
@@ -249,69 +249,55 @@ fn put_items(
         acts,
         table,
         numbers,
-        count,
-        kinds,
-        lefts,
-        rights,
+        compiled,
     );
 }
 
 // Puts the priorities into the table: those of the equations, by depth, 0 elsewhere.
-fn put_priorities(formula: &[u32], table: &[u32; 4098], count: usize, priorities: &mut [u32])
-    requires { ⌜ Listed (now formula) (now table) ⌝ }
-    requires { ⌜ (count ≡ equationCount (now formula)) × (2048 ≤ length (now priorities)) ⌝ }
+fn put_priorities(formula: &[u32], table: &EquationTable, count: usize, compiled: &mut [u32])
+    requires { ⌜ Listed (now formula) (now table) × (count ≡ equationCount (now formula)) ⌝ }
+    requires { ⌜ length (now compiled) ≡ wordCount ⌝ }
     ensures { λ _. ⌜ RankedBy byDepth (now (formula .entry)) count
-        (zeros (now (priorities .entry))) (now (priorities .exit)) ⌝ }
+        (zeros (prioritiesIn (now (compiled .entry)))) (prioritiesIn (now (compiled .exit))) ⌝ }
+    ensures { λ _. ⌜ PrioritiesOnly (now (compiled .entry)) (now (compiled .exit)) ⌝ }
 {
-    clear(priorities);
-    list_priorities(formula, table, count, priorities);
+    clear(&mut compiled[PRIORITIES..CLASSES]);
+    list_priorities(formula, table, count, &mut compiled[PRIORITIES..CLASSES]);
 }
 
-// Compiles the formula: fills the table of items, the table of their priorities (by depth), and for each body node
-// the number of its item. `classes` has the labels' multisets. Returns how many items there are.
+// Compiles the formula: fills the tables of the items and of their priorities (by depth), and leaves what stands behind
+// them. The table of the labels' multisets is among that, and is read. Returns how many items there are.
 pub fn compile(
     labels: &[u32],
     system: &[u32],
     actions: &[u32],
     formula: &[u32],
-    classes: &[u32],
-    kinds: &mut [u32],
-    lefts: &mut [u32],
-    rights: &mut [u32],
-    priorities: &mut [u32],
-    numbers: &mut [u32],
+    compiled: &mut Compiled,
 ) -> usize
-    requires { ⌜ GoodInput (inputOf (now labels) (now system) (now actions) (now formula)) ⌝ }
-    requires { ⌜ Classes (now labels) (now classes) ⌝ }
-    requires { ⌜ (2048 ≤ length (now kinds)) × (2048 ≤ length (now lefts)) × (2048 ≤ length (now rights)) × (2048 ≤ length (now priorities)) ⌝ }
-    requires { ⌜ 1024 ≤ length (now numbers) ⌝ }
-    ensures { λ r. ⌜ r ≡ length (items (inputOf (now (labels .entry)) (now (system .entry)) (now (actions .entry)) (now (formula .entry)))) ⌝ }
-    ensures { λ _. ⌜ ItemTable
-        (inputOf (now (labels .entry)) (now (system .entry)) (now (actions .entry)) (now (formula .entry)))
-        (now (kinds .exit)) (now (lefts .exit)) (now (rights .exit)) ⌝ }
-    ensures { λ _. ⌜ Ranks byDepth
-        (inputOf (now (labels .entry)) (now (system .entry)) (now (actions .entry)) (now (formula .entry)))
-        (now (priorities .exit)) ⌝ }
-    ensures { λ _. ⌜ ItemNumbers (inputOf (now (labels .entry)) (now (system .entry)) (now (actions .entry)) (now (formula .entry))) (now (numbers .exit)) ⌝ }
+    ghost { Input }
+    requires { λ x. ⌜ inputOf (now labels) (now system) (now actions) (now formula) ≡ x ⌝ }
+    requires { λ x. ⌜ GoodInput x × Classes (x .labels) (classesIn (now compiled)) ⌝ }
+    requires { λ x. ⌜ length (now compiled) ≡ wordCount ⌝ }
+    ensures { λ x r. ⌜ r ≡ length (items x) ⌝ }
+    ensures { λ x _. ⌜ ItemTable x
+        (kindsIn (now (compiled .exit))) (leftsIn (now (compiled .exit))) (rightsIn (now (compiled .exit))) ⌝ }
+    ensures { λ x _. ⌜ Ranks byDepth x (prioritiesIn (now (compiled .exit))) ⌝ }
+    ensures { λ x _. ⌜ ItemsOnly (now (compiled .entry)) (now (compiled .exit)) ⌝ }
 {
-    let mut table = [0u32; 4098];
-    let mut acts = [0u32; 1024];
+    let mut table = [0u32; TABLE];
+    let mut acts = [0u32; NODES];
+    let mut numbers = [0u32; NODES];
     let count = list_equations(formula, &mut table);
-    // the room of the priorities, which come last, serves for the nodes' numbers
     let items = number_all(
         labels,
         system,
         actions,
         formula,
-        classes,
+        compiled,
         &table,
         count,
         &mut acts,
-        priorities,
-        kinds,
-        lefts,
-        rights,
-        numbers,
+        &mut numbers,
     );
     put_items(
         labels,
@@ -320,12 +306,10 @@ pub fn compile(
         formula,
         &table,
         &acts,
-        numbers,
+        &numbers,
         count,
-        kinds,
-        lefts,
-        rights,
+        compiled,
     );
-    put_priorities(formula, &table, count, priorities);
+    put_priorities(formula, &table, count, compiled);
     items
 }

@@ -1,4 +1,5 @@
--- The refusals 11 and 12 of the label words, one law for each answer of the code, and what words that passed have. Assumes nothing.
+-- The refusals 11 and 12 of the label words, one law for each answer of the code, and what words that passed have.
+-- Assumes nothing.
 use Prim.Native.Nat.{ℕ, _+_, _*_, _<_, _≤_}
 use mathlib.Core.Path.{_≡_}
 use mathlib.Core.List.{List, [], _∷_}

@@ -9,25 +9,29 @@ ghost use Rattle.rules.specs.Labels.{actionCount};
 ghost use Rattle.rules.specs.Refusal.{badLabel, refusal11, refusal12, refusal13};
 
 // The label number at word p is L or more, or less than the one before it.
-fn bad_label(ls: &[u32], p: usize) -> bool
-    requires { ⌜ (2 ≤ p) × (p < length (now ls)) ⌝ }
-    ensures { λ r. ⌜ r ≡ badLabel (now (ls .entry)) p ⌝ }
+fn bad_label(labels: &[u32], p: usize) -> bool
+    requires { ⌜ (2 ≤ p) × (p < length (now labels)) ⌝ }
+    ensures { λ r. ⌜ r ≡ badLabel (now (labels .entry)) p ⌝ }
 {
-    if ls[0] <= ls[p] {
+    if labels[0] <= labels[p] {
         return true;
     }
-    if 2 < p { ls[p] < ls[p - 1] } else { false }
+    if 2 < p {
+        labels[p] < labels[p - 1]
+    } else {
+        false
+    }
 }
 
 // 13: the label numbers, of words with the right length.
-fn check_numbers(ls: &[u32]) -> Check
-    requires { ⌜ (length (now ls) ≡ 2 + 2 * actionCount (now ls)) × (actionCount (now ls) ≤ 16384) ⌝ }
-    ensures { λ r. ⌜ r ≡ refusal13 (now (ls .entry)) ⌝ }
+fn check_numbers(labels: &[u32]) -> Check
+    requires { ⌜ (length (now labels) ≡ 2 + 2 * actionCount (now labels)) × (actionCount (now labels) ≤ 16384) ⌝ }
+    ensures { λ r. ⌜ r ≡ refusal13 (now (labels .entry)) ⌝ }
 {
-    let end = 2 + words::at(ls, 1);
+    let end = 2 + words::at(labels, 1);
     let mut p = 2;
     while p < end {
-        if bad_label(ls, p) {
+        if bad_label(labels, p) {
             return Check::Fault(13, p as u32);
         }
         p += 1;
@@ -35,9 +39,15 @@ fn check_numbers(ls: &[u32]) -> Check
     Check::Passed
 }
 
+// The most labels, and the most actions that they have together.
+const MOST_LABELS: usize = 4_096;
+
+const MOST_ACTIONS: usize = 16_384;
+
 // 11, 12, 13: the label words.
 pub fn check_labels(labels: &[u32]) -> Check
-    ensures { λ r. ⌜ r ≡ firstFault (refusal11 (now (labels .entry)) ∷ refusal12 (now (labels .entry)) ∷ refusal13 (now (labels .entry)) ∷ []) ⌝ }
+    ensures { λ r. ⌜ r ≡ firstFault (refusal11 (now (labels .entry)) ∷ refusal12 (now (labels .entry))
+        ∷ refusal13 (now (labels .entry)) ∷ []) ⌝ }
 {
     if labels.len() < 2 {
         return Check::Fault(11, 0);
@@ -46,10 +56,10 @@ pub fn check_labels(labels: &[u32]) -> Check
     if labels.len() != 2 + 2 * actions {
         return Check::Fault(11, 0);
     }
-    if 4_096 < words::at(labels, 0) {
+    if MOST_LABELS < words::at(labels, 0) {
         return Check::Fault(12, 0);
     }
-    if 16_384 < actions {
+    if MOST_ACTIONS < actions {
         return Check::Fault(12, 0);
     }
     check_numbers(labels)

@@ -1,4 +1,5 @@
--- Two labels have the same multiset exactly if every action occurs as often in the one as in the other. Assumes nothing.
+-- Two labels have the same multiset exactly if every action occurs as often in the one as in the other. Assumes
+-- nothing.
 use mathlib.Core.Path.{_≡_, sym, ap, _∙_}
 use mathlib.Core.Logic.{_⊎_, inl, inr, _↔_}
 use mathlib.Core.Bool.{true, _&&_, true≢false}
@@ -8,7 +9,7 @@ use native.Mathlib.Omega.{arith}
 use native.Mathlib.Decide.{decLt}
 use lib.Dec.{eqb}
 use borrow.Author.Tests.{eq-eqb, eqb-true}
-use Rattle.rules.specs.Lists.{every, seek}
+use Rattle.rules.specs.Lists.{seek}
 use Rattle.rules.specs.Labels.{labelAt, actionAt, actionCount, times, sameLabel, multiset}
 use Rattle.labels.proofs.Counts.{tally-some, every-at, every-all}
 use Rattle.lists.proofs.Places.{seek-within, seek-holds, seek-before}

@@ -1,4 +1,5 @@
--- The values at some places as a list: what is counted and summed at the places is counted and summed in the list. Assumes nothing.
+-- The values at some places as a list: what is counted and summed at the places is counted and summed in the list.
+-- Assumes nothing.
 use mathlib.Core.Path.{_≡_, refl, sym, ap, _∙_}
 use mathlib.Core.Logic.{inl, inr}
 use mathlib.Core.List.{List, [], _∷_, map}

@@ -1,4 +1,5 @@
--- Two labels are the same multiset exactly if the actions of each occur in both their stretches equally often. Assumes nothing.
+-- Two labels are the same multiset exactly if the actions of each occur in both their stretches equally often.
+-- Assumes nothing.
 use mathlib.Core.Path.{_≡_, sym, ap, _∙_}
 use mathlib.Core.Bool.{Bool, true, false, _&&_, false≢true}
 use mathlib.Core.List.{List}

@@ -1,4 +1,5 @@
--- Marks of labels: labels of one multiset have one mark, so that only labels with equal marks need to be compared. Assumes nothing: these are definitions.
+-- Marks of labels: labels of one multiset have one mark, so that only labels with equal marks need to be compared.
+-- Assumes nothing: these are definitions.
 use mathlib.Core.Path.{_≡_}
 use mathlib.Core.List.{List}
 use Prim.Native.Nat.{ℕ, zero, suc, _+_, _-_, _*_, _/_, _%_, _^_, _<_}

@@ -1,10 +1,12 @@
--- Label numbers never fall, so the actions of a label stand side by side: in a stretch of places. Assumes nothing: these are definitions.
+-- Label numbers never fall, so the actions of a label stand side by side: in a stretch of places. Assumes nothing:
+-- these are definitions.
 use mathlib.Core.Bool.{Bool}
 use mathlib.Core.List.{List}
 use Prim.Native.Nat.{ℕ, _+_, _-_, _≤_, _<_}
 use lib.Dec.{eqb}
 use Rattle.rules.specs.Lists.{tally, every}
 use Rattle.rules.specs.Labels.{actionCount, labelAt, actionAt}
+use Rattle.labels.specs.declared.Places.{Places}
 
 -- how often action a occurs from place p up to q, q not among them
 unfoldable pub timesIn : List ℕ → (p q a : ℕ) → ℕ
@@ -25,3 +27,17 @@ pub record Stretch (ls : List ℕ) (l s e : ℕ) : Type 0 where
   pub forward : s ≤ e
   pub starts : Starts ls l s
   pub ends : Starts ls (l + 1) e
+
+-- ---- the places as one value
+
+-- places of the list
+abbrev pub Within : List ℕ → Places → Type 0
+Within ls p = (p .from ≤ p .to) × (p .to ≤ actionCount ls)
+
+-- each action of one label occurs there as often as in another
+abbrev pub coveredIn : List ℕ → (own other : Places) → Bool
+coveredIn ls own other = covered ls (own .from) (own .to) (own .from) (own .to) (other .from) (other .to)
+
+-- label l is these places
+abbrev pub StretchOf : List ℕ → (l : ℕ) → Places → Type 0
+StretchOf ls l p = Stretch ls l (p .from) (p .to)

@@ -1,5 +1,5 @@
-// Labels as multisets of actions: for each label the lowest one that has the same multiset. Each label gets a mark, which labels of one multiset share: only where marks are
-// equal the actions are counted.
+// Labels as multisets of actions: for each label the lowest one that has the same multiset. Each label gets a mark,
+// which labels of one multiset share: only where marks are equal the actions are counted.
 ghost use mathlib.Core.Path.{_≡_};
 ghost use Prim.Native.Nat.{_+_, _%_, _^_, _≤_, _<_};
 ghost use lib.Dec.{eqb};
@@ -8,60 +8,70 @@ ghost use Rattle.rules.specs.Lists.{word, tally};
 ghost use Rattle.rules.specs.Labels.{labelCount, actionCount, labelAt, actionAt, sameLabel, multiset};
 ghost use Rattle.tables.specs.Good.{GoodLabels};
 ghost use Rattle.labels.specs.Classes.{Classes};
-ghost use Rattle.labels.specs.Stretches.{timesIn, covered, Starts, Stretch};
+ghost use Rattle.labels.specs.Stretches.{timesIn, coveredIn, Within, Starts, Stretch, StretchOf};
 ghost use Rattle.labels.specs.Marks.{weight, weightIn, MarkOf, Marked};
 
-// The label at place p.
-fn label_at(labels: &[u32], p: usize) -> u32
-    requires { ⌜ GoodLabels (now labels) ⌝ }
-    requires { ⌜ p < actionCount (now labels) ⌝ }
-    ensures { λ r. ⌜ r ≡ labelAt (now (labels .entry)) p ⌝ }
-{
-    labels[2 + p]
+// How many labels there are at most.
+const LABELS: usize = 4096;
+
+type LabelStarts = [u32; LABELS];
+
+// The places from `from` up to `to` in the list of the labels' actions.
+struct Places {
+    from: usize,
+    to: usize,
 }
 
-// The action at place p.
-fn action_at(labels: &[u32], p: usize) -> u32
+// The label at a place.
+fn label_at(labels: &[u32], place: usize) -> u32
     requires { ⌜ GoodLabels (now labels) ⌝ }
-    requires { ⌜ p < actionCount (now labels) ⌝ }
-    ensures { λ r. ⌜ r ≡ actionAt (now (labels .entry)) p ⌝ }
+    requires { ⌜ place < actionCount (now labels) ⌝ }
+    ensures { λ r. ⌜ r ≡ labelAt (now (labels .entry)) place ⌝ }
 {
-    let n = labels[1] as usize;
-    labels[2 + n + p]
+    labels[2 + place]
 }
 
-// How often `action` occurs from place `from` up to `to`. Counted in as many bits as an action has, and without a way out of the loop, so that several are compared at once.
+// The action at a place.
+fn action_at(labels: &[u32], place: usize) -> u32
+    requires { ⌜ GoodLabels (now labels) ⌝ }
+    requires { ⌜ place < actionCount (now labels) ⌝ }
+    ensures { λ r. ⌜ r ≡ actionAt (now (labels .entry)) place ⌝ }
+{
+    let count = labels[1] as usize;
+    labels[2 + count + place]
+}
+
+// How often `action` occurs from place `from` up to `to`. The loop never ends early and counts in 32 bits, the size of
+// an action, so that the compiler can compare several actions at once.
 fn times_in(labels: &[u32], from: usize, to: usize, action: u32) -> u32
     requires { ⌜ GoodLabels (now labels) ⌝ }
     requires { ⌜ (from ≤ to) × (to ≤ actionCount (now labels)) ⌝ }
     ensures { λ r. ⌜ r ≡ timesIn (now (labels .entry)) from to action ⌝ }
 {
-    let mut n: u32 = 0;
+    let mut times: u32 = 0;
     let mut i = from;
     while i < to {
-        let a = action_at(labels, i);
-        if a == action {
-            n += 1;
+        let found = action_at(labels, i);
+        if found == action {
+            times += 1;
         }
         i += 1;
     }
-    n
+    times
 }
 
-// Do the actions from `from` up to `to` occur as often from a up to e as from b up to f?
-fn covers(labels: &[u32], from: usize, to: usize, a: usize, e: usize, b: usize, f: usize) -> bool
+// Does each action at the places `own` occur there as often as at the places `other`?
+fn covers(labels: &[u32], own: Places, other: Places) -> bool
     requires { ⌜ GoodLabels (now labels) ⌝ }
-    requires { ⌜ (from ≤ to) × (to ≤ actionCount (now labels)) ⌝ }
-    requires { ⌜ (a ≤ e) × (e ≤ actionCount (now labels)) ⌝ }
-    requires { ⌜ (b ≤ f) × (f ≤ actionCount (now labels)) ⌝ }
-    ensures { λ r. ⌜ r ≡ covered (now (labels .entry)) from to a e b f ⌝ }
+    requires { ⌜ Within (now labels) own × Within (now labels) other ⌝ }
+    ensures { λ r. ⌜ r ≡ coveredIn (now (labels .entry)) own other ⌝ }
 {
-    let mut i = from;
-    while i < to {
+    let mut i = own.from;
+    while i < own.to {
         let action = action_at(labels, i);
-        let m = times_in(labels, a, e, action);
-        let n = times_in(labels, b, f, action);
-        if m != n {
+        let here = times_in(labels, own.from, own.to, action);
+        let there = times_in(labels, other.from, other.to, action);
+        if here != there {
             return false;
         }
         i += 1;
@@ -69,17 +79,17 @@ fn covers(labels: &[u32], from: usize, to: usize, a: usize, e: usize, b: usize, 
     true
 }
 
-// The end of the stretch of label l, which starts at `from`.
-fn stretch_end(labels: &[u32], from: usize, l: u32) -> usize
+// The place past the actions of a label, which begin at `from`.
+fn stretch_end(labels: &[u32], from: usize, label: u32) -> usize
     requires { ⌜ GoodLabels (now labels) ⌝ }
-    requires { ⌜ Starts (now labels) l from ⌝ }
-    ensures { λ r. ⌜ Stretch (now (labels .entry)) l from r ⌝ }
+    requires { ⌜ Starts (now labels) label from ⌝ }
+    ensures { λ r. ⌜ Stretch (now (labels .entry)) label from r ⌝ }
 {
-    let n = labels[1] as usize;
+    let count = labels[1] as usize;
     let mut i = from;
-    while i < n {
-        let k = label_at(labels, i);
-        if k != l {
+    while i < count {
+        let found = label_at(labels, i);
+        if found != label {
             return i;
         }
         i += 1;
@@ -87,17 +97,17 @@ fn stretch_end(labels: &[u32], from: usize, l: u32) -> usize
     i
 }
 
-// Are labels l and m the same multiset, of which l stands from a up to e and m from b up to f? Where both have as many actions, none of m can be missing in l.
-fn same_label(labels: &[u32], l: u32, a: usize, e: usize, m: u32, b: usize, f: usize) -> bool
+// Are two labels, whose places are given, the same multiset? If both have equally many actions, it is enough to count
+// those of the first.
+fn same_label(labels: &[u32], label: u32, own: Places, another: u32, other: Places) -> bool
     requires { ⌜ GoodLabels (now labels) ⌝ }
-    requires { ⌜ Stretch (now labels) l a e ⌝ }
-    requires { ⌜ Stretch (now labels) m b f ⌝ }
-    ensures { λ r. ⌜ r ≡ sameLabel (now (labels .entry)) l m ⌝ }
+    requires { ⌜ StretchOf (now labels) label own × StretchOf (now labels) another other ⌝ }
+    ensures { λ r. ⌜ r ≡ sameLabel (now (labels .entry)) label another ⌝ }
 {
-    if e - a != f - b {
+    if own.to - own.from != other.to - other.from {
         return false;
     }
-    covers(labels, a, e, a, e, b, f)
+    covers(labels, own, other)
 }
 
 // ---- marks
@@ -106,8 +116,8 @@ fn same_label(labels: &[u32], l: u32, a: usize, e: usize, m: u32, b: usize, f: u
 fn weight_of(action: u32) -> u64
     ensures { λ r. ⌜ r ≡ weight action ⌝ }
 {
-    let t = ((action as u64) * 2654435761 + 1013904223) % 4294967296;
-    t * t / 4294967296
+    let stirred = ((action as u64) * 2654435761 + 1013904223) % 4294967296;
+    stirred * stirred / 4294967296
 }
 
 // The mark of the label that stands from `from` up to `to`.
@@ -126,34 +136,35 @@ fn mark_of(labels: &[u32], from: usize, to: usize) -> u32
 }
 
 // Writes where each label starts, and its mark.
-fn mark_labels(labels: &[u32], starts: &mut [u32; 4096], marks: &mut [u32])
+fn mark_labels(labels: &[u32], starts: &mut LabelStarts, marks: &mut [u32])
     requires { ⌜ GoodLabels (now labels) ⌝ }
     requires { ⌜ (length (now starts) ≡ 4_096) × (labelCount (now labels) ≤ length (now marks)) ⌝ }
-    ensures { λ _. ⌜ Marked (now (labels .entry)) (now (starts .exit)) (now (marks .exit)) (labelCount (now (labels .entry))) ⌝ }
+    ensures { λ _. ⌜ Marked (now (labels .entry)) (now (starts .exit)) (now (marks .exit))
+        (labelCount (now (labels .entry))) ⌝ }
 {
-    let n = labels[0];
-    let mut l: u32 = 0;
-    let mut b: usize = 0;
-    while l < n {
-        let f = stretch_end(labels, b, l);
-        let m = mark_of(labels, b, f);
-        let at = l as usize;
-        starts[at] = b as u32;
-        marks[at] = m;
-        b = f;
-        l += 1;
+    let count = labels[0];
+    let mut label: u32 = 0;
+    let mut from: usize = 0;
+    while label < count {
+        let to = stretch_end(labels, from, label);
+        let mark = mark_of(labels, from, to);
+        let at = label as usize;
+        starts[at] = from as u32;
+        marks[at] = mark;
+        from = to;
+        label += 1;
     }
 }
 
-// How many of the first n marks are m, counted like the actions above.
-fn times_marked(marks: &[u32], n: usize, m: u32) -> u32
-    requires { ⌜ (n ≤ length (now marks)) × (n ≤ 4_096) ⌝ }
-    ensures { λ r. ⌜ r ≡ tally (λ i. eqb (word (now (marks .entry)) i) m) 0 n ⌝ }
+// How often a mark is among the first `count` marks. The loop never ends early, as in `times_in`.
+fn times_marked(marks: &[u32], count: usize, mark: u32) -> u32
+    requires { ⌜ (count ≤ length (now marks)) × (count ≤ 4_096) ⌝ }
+    ensures { λ r. ⌜ r ≡ tally (λ i. eqb (word (now (marks .entry)) i) mark) 0 count ⌝ }
 {
     let mut times: u32 = 0;
     let mut i: usize = 0;
-    while i < n {
-        if marks[i] == m {
+    while i < count {
+        if marks[i] == mark {
             times += 1;
         }
         i += 1;
@@ -163,83 +174,83 @@ fn times_marked(marks: &[u32], n: usize, m: u32) -> u32
 
 // ---- classes
 
-// Is label k the same multiset as l, which stands from b up to f and has the mark m?
+// Is a lower label the same multiset as `label`, whose places and mark are given?
 fn same_as(
     labels: &[u32],
-    starts: &[u32; 4096],
+    starts: &LabelStarts,
     marks: &[u32],
-    k: u32,
-    l: u32,
-    b: usize,
-    f: usize,
-    m: u32,
+    lower: u32,
+    label: u32,
+    places: Places,
+    mark: u32,
 ) -> bool
-    requires { ⌜ GoodLabels (now labels) ⌝ }
-    requires { ⌜ (k < 4_096) × (k < length (now marks)) ⌝ }
-    requires { ⌜ MarkOf (now labels) k (word (now starts) k) (word (now marks) k) ⌝ }
-    requires { ⌜ Stretch (now labels) l b f ⌝ }
-    requires { ⌜ MarkOf (now labels) l b m ⌝ }
-    ensures { λ r. ⌜ r ≡ sameLabel (now (labels .entry)) k l ⌝ }
+    requires { ⌜ GoodLabels (now labels) × (lower < 4_096) × (lower < length (now marks)) ⌝ }
+    requires { ⌜ MarkOf (now labels) lower (word (now starts) lower) (word (now marks) lower) ⌝ }
+    requires { ⌜ StretchOf (now labels) label places × MarkOf (now labels) label (places .from) mark ⌝ }
+    ensures { λ r. ⌜ r ≡ sameLabel (now (labels .entry)) lower label ⌝ }
 {
-    let at = k as usize;
-    if marks[at] != m {
+    let at = lower as usize;
+    if marks[at] != mark {
         return false;
     }
-    let a = starts[at] as usize;
-    let e = stretch_end(labels, a, k);
-    same_label(labels, k, a, e, l, b, f)
+    let from = starts[at] as usize;
+    let to = stretch_end(labels, from, lower);
+    let own = Places { from, to };
+    same_label(labels, lower, own, label, places)
 }
 
-// The lowest label with the multiset of l.
-fn lowest_same(labels: &[u32], starts: &[u32; 4096], marks: &[u32], l: u32) -> u32
+// The lowest label with the multiset of `label`.
+fn lowest_same(labels: &[u32], starts: &LabelStarts, marks: &[u32], label: u32) -> u32
     requires { ⌜ GoodLabels (now labels) ⌝ }
-    requires { ⌜ (l < labelCount (now labels)) × (l < length (now marks)) ⌝ }
-    requires { ⌜ Marked (now labels) (now starts) (now marks) (l + 1) ⌝ }
-    ensures { λ r. ⌜ r ≡ multiset (now (labels .entry)) l ⌝ }
+    requires { ⌜ (label < labelCount (now labels)) × (label < length (now marks)) ⌝ }
+    requires { ⌜ Marked (now labels) (now starts) (now marks) (label + 1) ⌝ }
+    ensures { λ r. ⌜ r ≡ multiset (now (labels .entry)) label ⌝ }
 {
-    let last = l as usize;
-    let m = marks[last];
-    let b = starts[last] as usize;
-    let f = stretch_end(labels, b, l);
-    let mut k: u32 = 0;
-    while k < l {
-        if same_as(labels, starts, marks, k, l, b, f, m) {
-            return k;
+    let at = label as usize;
+    let mark = marks[at];
+    let from = starts[at] as usize;
+    let to = stretch_end(labels, from, label);
+    let places = Places { from, to };
+    let mut lower: u32 = 0;
+    while lower < label {
+        if same_as(labels, starts, marks, lower, label, places, mark) {
+            return lower;
         }
-        k += 1;
+        lower += 1;
     }
-    k
+    lower
 }
 
-// The multiset of label l: l itself if no label before it has its mark.
-fn class_of(labels: &[u32], starts: &[u32; 4096], marks: &[u32], l: u32) -> u32
+// The multiset of a label: the label itself if none before it has its mark.
+fn class_of(labels: &[u32], starts: &LabelStarts, marks: &[u32], label: u32) -> u32
     requires { ⌜ GoodLabels (now labels) ⌝ }
-    requires { ⌜ (l < labelCount (now labels)) × (l < length (now marks)) ⌝ }
-    requires { ⌜ Marked (now labels) (now starts) (now marks) (l + 1) ⌝ }
-    ensures { λ r. ⌜ r ≡ multiset (now (labels .entry)) l ⌝ }
+    requires { ⌜ (label < labelCount (now labels)) × (label < length (now marks)) ⌝ }
+    requires { ⌜ Marked (now labels) (now starts) (now marks) (label + 1) ⌝ }
+    ensures { λ r. ⌜ r ≡ multiset (now (labels .entry)) label ⌝ }
 {
-    let last = l as usize;
-    let m = marks[last];
-    if times_marked(marks, last, m) == 0 {
-        return l;
+    let at = label as usize;
+    let mark = marks[at];
+    if times_marked(marks, at, mark) == 0 {
+        return label;
     }
-    lowest_same(labels, starts, marks, l)
+    lowest_same(labels, starts, marks, label)
 }
 
-// Turns the table of marks into that of multisets, from the last label to the first: each needs the marks of the labels before it.
-fn classes_of_marks(labels: &[u32], starts: &[u32; 4096], classes: &mut [u32])
+// Turns the table of marks into that of multisets, from the last label to the first: each needs the marks of the labels
+// before it.
+fn classes_of_marks(labels: &[u32], starts: &LabelStarts, classes: &mut [u32])
     requires { ⌜ GoodLabels (now labels) ⌝ }
     requires { ⌜ labelCount (now labels) ≤ length (now classes) ⌝ }
     requires { ⌜ Marked (now labels) (now starts) (now classes) (labelCount (now labels)) ⌝ }
     ensures { λ _. ⌜ Classes (now (labels .entry)) (now (classes .exit)) ⌝ }
 {
-    let mut n = labels[0];
-    while n > 0 {
-        let l = n - 1;
-        let k = class_of(labels, starts, classes, l);
-        let at = l as usize;
-        classes[at] = k;
-        n = l;
+    let mut left = labels[0];
+    while left > 0 {
+        let label = left - 1;
+        let class = class_of(labels, starts, classes, label);
+        let at = label as usize;
+        classes[at] = class;
+        left = label;
     }
 }
 
@@ -249,7 +260,7 @@ pub fn label_classes(labels: &[u32], classes: &mut [u32])
     requires { ⌜ labelCount (now labels) ≤ length (now classes) ⌝ }
     ensures { λ _. ⌜ Classes (now (labels .entry)) (now (classes .exit)) ⌝ }
 {
-    let mut starts = [0u32; 4096];
+    let mut starts = [0u32; LABELS];
     mark_labels(labels, &mut starts, classes);
     classes_of_marks(labels, &starts, classes);
 }

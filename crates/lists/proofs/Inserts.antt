@@ -1,4 +1,5 @@
--- Inserting: the list only grows at its end, holds what is inserted and nothing else, and no two elements become alike. Assumes nothing; that the test is equality is a parameter.
+-- Inserting: the list only grows at its end, holds what is inserted and nothing else, and no two elements become alike.
+-- Assumes nothing; that the test is equality is a parameter.
 use mathlib.Core.Path.{_≡_, refl, sym, ap, ap₂, _∙_, subst}
 use mathlib.Core.Bool.{Bool, true, false, cond}
 use mathlib.Core.List.{List, [], _∷_, _++_, map, append-nil, append-assoc}

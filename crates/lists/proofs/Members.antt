@@ -1,4 +1,5 @@
--- Membership, positions, and lists in which no two elements are alike. Assumes nothing; where a test of two elements is used, that it is equality is a parameter.
+-- Membership, positions, and lists in which no two elements are alike. Assumes nothing; where a test of two elements is
+-- used, that it is equality is a parameter.
 use mathlib.Core.Path.{_≡_, refl, sym, ap, _∙_, subst}
 use mathlib.Core.Bool.{Bool, true, false, cond, false≢true, true≢false}
 use mathlib.Core.List.{List, [], _∷_, _++_, map}

@@ -1,4 +1,5 @@
--- How often a number occurs in a list. Lists in which each number occurs equally often have equal sums of any value of their numbers. Assumes nothing.
+-- How often a number occurs in a list. Lists in which each number occurs equally often have equal sums of any value of
+-- their numbers. Assumes nothing.
 use mathlib.Core.Path.{_≡_, refl, sym, ap}
 use mathlib.Core.Logic.{_⊎_, inl, inr}
 use mathlib.Core.Bool.{Bool, true, false}

@@ -1,4 +1,5 @@
--- The numbers i, i + 1, .. : which they are, how many, which stands where, one more, and a search among them. Assumes nothing.
+-- The numbers i, i + 1, .. : which they are, how many, which stands where, one more, and a search among them. Assumes
+-- nothing.
 use mathlib.Core.Path.{_≡_, refl, ap, ap₂, _∙_}
 use mathlib.Core.Logic.{inl, inr}
 use mathlib.Core.List.{List, [], _∷_, _++_}

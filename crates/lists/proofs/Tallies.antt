@@ -1,4 +1,5 @@
--- How often a test holds in a range: never, always, and once more when it comes to hold at one position. Assumes nothing.
+-- How often a test holds in a range: never, always, and once more when it comes to hold at one position. Assumes
+-- nothing.
 use mathlib.Core.Path.{_≡_, refl, sym, ap, ap₂}
 use mathlib.Core.Bool.{Bool, true, false}
 use Prim.Native.Nat.{ℕ, zero, suc, _+_, _≤_, _<_}

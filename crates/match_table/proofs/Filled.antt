@@ -1,20 +1,22 @@
--- The table of matching labels: a byte tells an answer, a row is filled from the front, and a row more leaves the others as they were. Assumes nothing.
+-- The table of matching labels: a byte tells an answer, a row is filled from the front, and a row more leaves the
+-- others as they were. Assumes nothing.
 use mathlib.Core.Path.{_≡_, refl, sym, ap, _∙_}
 use mathlib.Core.Bool.{Bool, true, false}
+use mathlib.Core.Logic.{_⊎_, ⊎-elim}
 use mathlib.Core.List.{List}
 use Prim.Native.Nat.{ℕ, _+_, _-_, _*_, _≤_, _<_}
 use native.Mathlib.Nat.{mul-le-mul-right}
 use native.Mathlib.Decide.{ℕ-discrete}
 use native.Mathlib.Omega.{arith}
-use lib.ListN.{length, set, replicate, length-set, length-replicate, getD-replicate}
-use lib.Seq.{getD-set-same, getD-set-other}
+use lib.ListN.{length, set, take, drop, replicate, length-set, length-take, length-drop, length-replicate, getD-replicate}
+use lib.Seq.{getD-set-same, getD-set-other, getD-take, getD-drop}
 use Rattle.rules.specs.Lists.{word, one}
 use Rattle.rules.specs.Labels.{labelCount, multiset}
 use Rattle.rules.specs.Table.{size}
 use Rattle.rules.specs.Actions.{Action, actionTree, matches}
 use Rattle.labels.specs.Classes.{Classes}
 use Rattle.words.proofs.Regions.{rise}
-use Rattle.match_table.specs.Rows.{tableSize, rowStart, RowAt, MatchTable, NoRows, FirstRows, SameBefore}
+use Rattle.match_table.specs.Rows.{tableSize, rowStart, RowAt, Row, MatchTable, NoRows, FirstRows, SameBefore}
 
 -- ---- a byte and the answer that it tells
 
@@ -137,3 +139,29 @@ pub rows-given : (ls acts before filled : List ℕ) (rows node n : ℕ) → n �
     → RowAt ls acts filled node (1_024 + rows * n) → SameBefore before filled (1_024 + rows * n) → rows < 255 → FirstRows ls acts (set filled node (rows + 1)) (rows + 1)
 rows-given ls acts before filled rows node n e f few h new same =
     rows-more ls acts before filled rows node f few h (rw e at new) (rw e at same)
+
+-- ---- the row of a node as a part of the table, from `start` up to `end`: empty if the node has none
+
+module _ (ls acts matched : List ℕ) (a start end n : ℕ) (told : 0 < start → RowAt ls acts matched a start)
+    (is : n ≡ labelCount ls) (ends : ((0 < start) × (end ≡ start + n)) ⊎ ((start ≡ 0) × (end ≡ start))) where
+  pub part-forward : start ≤ end
+  part-forward = ⊎-elim (λ w. omega (arith, w .1)) (λ w. omega (arith, w .1)) ends
+
+  pub part-within : end ≤ tableSize
+  part-within = ⊎-elim (λ w. omega (arith, w .1, told (w .0) .within)) (λ w. omega (arith, w .0, w .1)) ends
+
+  pub part-row : length matched ≡ tableSize
+      → 0 < length (take (end - start) (drop start matched)) → Row ls acts a (take (end - start) (drop start matched))
+  part-row sized some = ⊎-elim (λ w. made (w .0) (w .1)) (λ w. absurd (omega (arith, w .1, length-part, some))) ends
+    where
+      length-part : length (take (end - start) (drop start matched)) ≡ end - start
+      length-part = simp (length-take, length-drop) (omega (arith, sized, part-forward, part-within))
+
+      made : 0 < start → end ≡ start + n → Row ls acts a (take (end - start) (drop start matched))
+      made p e =
+          record {
+            sized = length-part ∙ (omega (arith, e, is));
+            answer = λ l h. getD-take (end - start) (drop start matched) l 0 (omega (arith, e, is))
+                ∙ getD-drop start matched l 0
+                ∙ told p .answer l h;
+          }

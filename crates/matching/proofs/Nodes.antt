@@ -1,4 +1,5 @@
--- What a node's kind, its operand and the answers at its children tell of the node, in the form in which the matcher learns it. Assumes nothing.
+-- What a node's kind, its operand and the answers at its children tell of the node, in the form in which the matcher
+-- learns it. Assumes nothing.
 use mathlib.Core.Path.{_≡_, sym, ap, ap₂, _∙_}
 use mathlib.Core.Bool.{Bool, true, false, not, _&&_, _||_}
 use mathlib.Core.List.{List}
@@ -15,7 +16,7 @@ use Rattle.tables.specs.Good.{GoodActions}
 use Rattle.labels.specs.Classes.{Classes}
 use Rattle.trees.proofs.ActionTrees.{any-matches, never-matches, multi-matches, union-matches, intersection-matches, negation-matches}
 
-module _ (ls acts : List ℕ) (good : GoodActions (labelCount ls) acts) (v : ℕ) (h : v < size acts) (k : ℕ) (is : k ≡ kind acts v) where
+module _ (l : ℕ) (acts : List ℕ) (good : GoodActions l acts) (v : ℕ) (h : v < size acts) (k : ℕ) (is : k ≡ kind acts v) where
   -- where the children are
   pub next-within : 3 ≤ k → v + 1 < size acts
   next-within p = omega (arith, good .nodes v h .next (omega arith))
@@ -24,9 +25,21 @@ module _ (ls acts : List ℕ) (good : GoodActions (labelCount ls) acts) (v : ℕ
   right-within o e p q = let r = good .nodes v h .right (omega arith) (omega arith) in (omega (arith, r, e), omega (arith, r, e))
 
   -- a multi-action's label has an entry
-  pub label-within : (classes : List ℕ) → Classes ls classes → (o : ℕ) → o ≡ operand acts v → k ≡ 2 → o < length classes
-  label-within classes table o e p = omega (arith, good .nodes v h .label (omega arith) (omega arith), e, table .room)
+  pub label-within : (o : ℕ) → o ≡ operand acts v → k ≡ 2 → o < l
+  label-within o e p = omega (arith, good .nodes v h .label (omega arith) (omega arith), e)
 
+-- action formulas that go by fewer labels go by more
+pub for-more-labels : (l m : ℕ) (acts : List ℕ) → l ≤ m → GoodActions l acts → GoodActions m acts
+for-more-labels l m acts h good =
+    record {
+      sized = good .sized;
+      few = good .few;
+      nodes = λ v b.
+          let n = good .nodes v b in
+          record { known = n .known; label = λ p q. omega (arith, n .label p q); next = n .next; right = n .right };
+    }
+
+module _ (ls acts : List ℕ) (good : GoodActions (labelCount ls) acts) (v : ℕ) (h : v < size acts) (k : ℕ) (is : k ≡ kind acts v) where
   module _ (m : ℕ) where
     -- the answer at node u
     abbrev Answer : ℕ → Bool

@@ -1,4 +1,5 @@
--- Two formulas on a small system, computed: one that the initial state satisfies and one that it does not; the games of their runs are won and lost at vertex 0. Assumes nothing.
+-- Two formulas on a small system, computed: one that the initial state satisfies and one that it does not; the games of
+-- their runs are won and lost at vertex 0. Assumes nothing.
 use mathlib.Core.Path.{_≡_, refl}
 use mathlib.Core.Bool.{Bool, true, false}
 use mathlib.Core.List.{List, [], _∷_}
@@ -25,8 +26,8 @@ use Rattle.meaning.specs.Quantifiers.{all, any}
 use Rattle.meaning.specs.Modal.{satisfies}
 use Rattle.meaning.specs.Winning.{isEven, isLoop, evenWins}
 
--- Label 0 is the action 7, label 1 the action 8. State 0 has a transition to state 1 on label 0 and one to itself on label 1, state 1 has none. The action formulas are
--- the two labels, a and b
+-- Label 0 is the action 7, label 1 the action 8. State 0 has a transition to state 1 on label 0 and one to itself on
+-- label 1, state 1 has none. The action formulas are the two labels, a and b
 abbrev onTwoStates : List ℕ → Input
 onTwoStates f = inputOf (2 ∷ 2 ∷ 0 ∷ 1 ∷ 7 ∷ 8 ∷ []) (2 ∷ 2 ∷ 0 ∷ 2 ∷ 0 ∷ 0 ∷ 1 ∷ 1 ∷ 0 ∷ []) (2 ∷ 2 ∷ 2 ∷ 0 ∷ 1 ∷ []) f
 

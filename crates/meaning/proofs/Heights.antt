@@ -1,4 +1,5 @@
--- A formula's tree is at most as high as the formula has nodes, and the initial pair stands for the whole formula. Assumes nothing.
+-- A formula's tree is at most as high as the formula has nodes, and the initial pair stands for the whole formula.
+-- Assumes nothing.
 use mathlib.Core.Path.{_≡_, ap, _∙_}
 use Prim.Native.Nat.{ℕ, zero, suc, _≤_}
 use native.Mathlib.Omega.{arith}

@@ -1,5 +1,5 @@
--- Meaning without fixpoints: a finished game of a formula without fixpoints is won by Even at vertex 0 exactly if the initial state satisfies the formula by the textbooks'
--- clauses. Assumes nothing.
+-- Meaning without fixpoints: a finished game of a formula without fixpoints is won by Even at vertex 0 exactly if the
+-- initial state satisfies the formula by the textbooks' clauses. Assumes nothing.
 use mathlib.Core.Path.{_≡_, refl, sym, ap, subst, _∙_}
 use mathlib.Core.List.{List}
 use Prim.Native.Nat.{ℕ, zero, suc, _+_, _≤_, _<_}
@@ -9,7 +9,8 @@ use Rattle.rules.specs.declared.Answer.{Answer}
 use Rattle.rules.specs.declared.Answer.the-variants.{Done}
 use Rattle.rules.specs.declared.Check.{Check}
 use Rattle.rules.specs.declared.Check.the-variants.{Passed, Fault}
-use Rattle.rules.specs.Words.{Input, Room}
+use Rattle.rules.specs.declared.Room.{Room}
+use Rattle.rules.specs.Words.{Input}
 use Rattle.rules.specs.Answers.{Accepted}
 use Rattle.rules.specs.System.{initialState}
 use Rattle.rules.specs.Table.{size}
@@ -84,8 +85,9 @@ module _ (rank : Ranking) (x : Input) (r : Room) (k : ℕ) (game work : List ℕ
       go (Fault n p) e =
           absurd (subst (λ (u : Outcome). Accepted (u .answer)) (run-refused rank x r k game work n p e) d)
 
-  -- For every ranking, input, room, limit and content of the slices: if the run is Done and the formula has no fixpoints, then at vertex 0 of the game Even wins exactly if the
-  -- initial state satisfies the formula. Two moves more than the formula has nodes are enough to tell it, and more change nothing
+  -- For every ranking, input, room, limit and content of the slices: if the run is Done and the formula has no
+  -- fixpoints, then at vertex 0 of the game Even wins exactly if the initial state satisfies the formula. Two moves
+  -- more than the formula has nodes are enough to tell it, and more change nothing
   pub meaning : NoFixpoints (x .formula) → (s n m : ℕ) → run rank x r k game work .answer ≡ Done s n m
       → (moves : ℕ) → 2 + size (x .formula) ≤ moves
       → evenWins moves (run rank x r k game work .game) 0 ≡ satisfies x (formulaTree x 0) (initialState (x .system))

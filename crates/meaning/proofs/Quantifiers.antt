@@ -1,4 +1,5 @@
--- "For every" and "for some" over a list: what they say of its elements, and lists over which they are the same. Assumes nothing.
+-- "For every" and "for some" over a list: what they say of its elements, and lists over which they are the same.
+-- Assumes nothing.
 use mathlib.Core.Path.{_≡_, refl, sym, ap, ap₂, subst}
 use mathlib.Core.Bool.{Bool, true, false, _&&_, _||_, false≢true}
 use mathlib.Core.List.{List, [], _∷_, map}

@@ -1,4 +1,5 @@
--- A settled vertex, as the words show it, is won if its owner makes it so of the vertices that stand for the targets of its pair. Assumes nothing.
+-- A settled vertex, as the words show it, is won if its owner makes it so of the vertices that stand for the targets of
+-- its pair. Assumes nothing.
 use mathlib.Core.Path.{_≡_, refl, sym, ap, ap₂, subst, _∙_}
 use mathlib.Core.Bool.{Bool, true, false, cond, _&&_, _||_}
 use mathlib.Core.List.{List, [], _∷_, _++_, append-nil}

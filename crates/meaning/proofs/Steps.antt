@@ -1,4 +1,5 @@
--- The clauses of box and diamond say the same over a state's transitions as over its successors by the rules. Assumes nothing.
+-- The clauses of box and diamond say the same over a state's transitions as over its successors by the rules. Assumes
+-- nothing.
 use mathlib.Core.Path.{_≡_, refl, ap, _∙_}
 use mathlib.Core.Bool.{Bool, true, false, not, cond, _&&_, _||_}
 use mathlib.Core.List.{List, [], _∷_, map}

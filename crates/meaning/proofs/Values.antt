@@ -1,5 +1,5 @@
--- The value of a pair: does its state satisfy its item? It is what the pair's owner makes of the values of its targets, and along targets the items' trees become lower.
--- Assumes nothing.
+-- The value of a pair: does its state satisfy its item? It is what the pair's owner makes of the values of its targets,
+-- and along targets the items' trees become lower. Assumes nothing.
 use mathlib.Core.Path.{_≡_, refl, sym, ap, ap₂, _∙_, subst}
 use mathlib.Core.Bool.{Bool, true, false, _&&_, _||_}
 use mathlib.Core.List.{List, [], _∷_, map}

@@ -1,5 +1,5 @@
--- Modal logic without fixpoints, by the clauses of the textbooks: when a state of the system satisfies a formula. They speak of the system's transitions alone: no item, pair or
--- game is mentioned. Assumes nothing: these are definitions.
+-- Modal logic without fixpoints, by the clauses of the textbooks: when a state of the system satisfies a formula. They
+-- speak of the system's transitions alone: no item, pair or game is mentioned. Assumes nothing: these are definitions.
 use Prim.Native.Nat.{ℕ, _≤_, _<_}
 use mathlib.Core.Bool.{Bool, true, false, not, _&&_, _||_}
 use mathlib.Core.List.{List}
@@ -19,8 +19,8 @@ does x a t = matches (multiset (x .labels) (transitionLabel (x .system) t)) a
 abbrev pub leadsTo : Input → ℕ → ℕ
 leadsTo x t = transitionTarget (x .system) t
 
--- State s satisfies the formula. Box: so does the target of every transition from s whose label matches. Diamond: of some such transition. A reference does not occur
--- without fixpoints
+-- State s satisfies the formula. Box: so does the target of every transition from s whose label matches. Diamond: of
+-- some such transition. A reference does not occur without fixpoints
 unfoldable pub satisfies : Input → Formula → (s : ℕ) → Bool
 satisfies x truth s = true
 satisfies x falsity s = false

@@ -1,4 +1,5 @@
--- Who wins a game whose only cycles are edges of vertices to themselves, read off its words. Assumes nothing: these are definitions.
+-- Who wins a game whose only cycles are edges of vertices to themselves, read off its words. Assumes nothing: these are
+-- definitions.
 use Prim.Native.Nat.{ℕ, zero, suc}
 use mathlib.Core.Bool.{Bool, true, false, not, cond}
 use mathlib.Core.List.{List, [], _∷_}
@@ -16,8 +17,9 @@ isLoop v [] = false
 isLoop v (t ∷ []) = eqb t v
 isLoop v (t ∷ u ∷ ts) = false
 
--- Even wins at vertex v of the game g, told within a number of moves. Where play can only stay, the priority's parity decides. Elsewhere Even, who is player 0, chooses at
--- an own vertex and needs one target to be won; at a vertex of Odd every target must be won
+-- Even wins at vertex v of the game g, told within a number of moves. Where play can only stay, the priority's parity
+-- decides. Elsewhere Even, who is player 0, chooses at an own vertex and needs one target to be won; at a vertex of Odd
+-- every target must be won
 unfoldable pub evenWins : (moves : ℕ) → (g : List ℕ) → (v : ℕ) → Bool
 evenWins zero g v = false
 evenWins (suc moves) g v =

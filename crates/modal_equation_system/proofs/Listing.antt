@@ -1,5 +1,5 @@
 -- Listing the equations node by node: which entries the table has before node v, and how they grow. Assumes nothing.
-use mathlib.Core.Path.{_≡_, refl, sym, ap, _∙_}
+use mathlib.Core.Path.{_≡_, refl, sym, ap, subst, _∙_}
 use mathlib.Core.Bool.{Bool, true, false, cond}
 use mathlib.Core.List.{List, [], _∷_, _++_}
 use Prim.Native.Nat.{ℕ, zero, suc, _+_, _-_, _≤_, _<_}
@@ -14,13 +14,11 @@ use Rattle.rules.specs.Lists.{word, one}
 use Rattle.rules.specs.Table.{size, kind, operand, formulaNode}
 use Rattle.rules.specs.Formula.{least, greatest, Equation, isFixpoint, placeholder, equationsBefore, equations, equationCount, equationOf, equationNumber}
 use Rattle.rules.specs.Depth.{leastBit}
-use Rattle.trees.proofs.Fixpoints.{fixpoint-kind}
+use Rattle.trees.proofs.Fixpoints.{fixpoint-kind, fixpoint-at, no-fixpoint-below, no-fixpoint-above}
 use Rattle.trees.proofs.Equations.{number-start, number-start-placeholder, number-more, number-same, equations-least, equations-greatest, equations-below, equations-above, number-monotone, count-number, count-limit}
+use Rattle.words.specs.Node.{hasKind, hasOperand}
 use Rattle.modal_equation_system.specs.System.{Good, linkIn, kindIn, bodyIn, leastIn, withNode, withEquation, Link, Linked, Listed}
-
--- the placeholder, and the entry of an equation that is not there
-abbrev pub missing : Equation
-missing = record { operator = least; body = 0 }
+use Rattle.modal_equation_system.specs.Listing.{missing, Shows, Listing, Counts, Linkable, LinkBy, NodeOf}
 
 -- ---- how many equations come before a node
 
@@ -53,9 +51,6 @@ set-length : (t : List ℕ) (p x q y : ℕ) → length (set (set t p x) q y) ≡
 set-length t p x q y = length-set (set t p x) q y ∙ length-set t p x
 
 -- ---- a field of each equation, shown one after the other
-
-abbrev pub Shows : (Equation → ℕ) → List Equation → (ℕ → ℕ) → Type 0
-Shows field es shown = (i : ℕ) → i < length es → shown i ≡ field (getD es i missing)
 
 -- the first n entries stay
 abbrev Stays : (n : ℕ) (before after : ℕ → ℕ) → Type 0
@@ -101,33 +96,77 @@ shows-first field f shown e = go (isFixpoint (formulaNode f 0))
     go false zero l = e
     go false (suc i) l = absurd (omega arith)
 
--- ---- links
+-- ---- a node of the formula: how many equations it begins, where its words stand, and its link
+
+pub counts-fixpoints : (f : List ℕ) (v r : ℕ) → v < size f → Counts (kind f v) r → r ≡ one (isFixpoint (formulaNode f v))
+counts-fixpoints f v r h c = go (decLt (kind f v) 6) (decLt (kind f v) 8)
+  where
+    go : Dec (kind f v < 6) → Dec (kind f v < 8) → r ≡ one (isFixpoint (formulaNode f v))
+    go (yes p) d = c .below (omega arith) ∙ sym (ap one (no-fixpoint-below f v h (omega arith)))
+    go (no p) (yes q) = c .fixpoint (omega arith) (omega arith) ∙ sym (ap one (fixpoint-at f v h (omega arith) (omega arith)))
+    go (no p) (no q) = c .above (omega arith) ∙ sym (ap one (no-fixpoint-above f v h (omega arith)))
+
+pub counts-few : (k r : ℕ) → Counts k r → r ≤ 1
+counts-few k r c = go (decLt k 6) (decLt k 8)
+  where
+    go : Dec (k < 6) → Dec (k < 8) → r ≤ 1
+    go (yes p) d = omega (arith, c .below (omega arith))
+    go (no p) (yes q) = omega (arith, c .fixpoint (omega arith) (omega arith))
+    go (no p) (no q) = omega (arith, c .above (omega arith))
 
 module _ (f : List ℕ) (good : Good f) (v : ℕ) (h : v < size f) where
+  pub kind-stands : hasKind f v
+  kind-stands = omega (arith, good .formula .sized)
+
+  pub operand-stands : hasOperand f v
+  operand-stands = omega (arith, good .formula .sized)
+
   -- numbers of equations fit a word
   pub number-fits : equationNumber f v ≤ 1_024
   number-fits = omega (arith, number-monotone f v (size f) (omega arith), count-number f, count-limit (good .actions) f (good .formula))
 
   -- a reference has the link of its fixpoint, which stands before it
-  module _ (t : List ℕ) (linked : Linked f v t) (p : 8 ≤ kind f v) where
-    pub fixpoint-link : linkIn t (operand f v) ≡ equationNumber f (operand f v)
-    fixpoint-link =
-        let (a, b) = good .formula .nodes v h .refers p in
-        let (c, d) = fixpoint-kind f (operand f v) b in
-        linked (operand f v) a .own c d
+  fixpoint-link : (t : List ℕ) → Linked f v t → 8 ≤ kind f v → linkIn t (operand f v) ≡ equationNumber f (operand f v)
+  fixpoint-link t linked p =
+      let (a, b) = good .formula .nodes v h .refers p in
+      let (c, d) = fixpoint-kind f (operand f v) b in
+      linked (operand f v) a .own c d
 
-    pub link-outer : (l : ℕ) → l ≡ linkIn t (operand f v) → Link f v l
-    link-outer l e = record { right = λ a b. absurd (omega arith); own = λ a b. absurd (omega arith); outer = λ q. e ∙ fixpoint-link }
+module _ (f : List ℕ) (v k o i : ℕ) (table : List ℕ) (n : NodeOf f v k o) (s : Listing f v i table) where
+  linked-outer : 8 ≤ k → linkIn table o ≡ equationNumber f o
+  linked-outer p = rw (n .pointed) (fixpoint-link f (n .good) v (n .inside) table (s .link) (omega (arith, n .kinded)))
 
--- ---- the loop: what the table shows before node v
+  outer-before : 8 ≤ k → o < v
+  outer-before p = omega (arith, n .pointed, n .good .formula .nodes v (n .inside) .refers (omega (arith, n .kinded)) .0)
 
-pub record Listing (f : List ℕ) (v i : ℕ) (table : List ℕ) : Type 0 where
-  pub count : i ≡ equationNumber f v
-  pub link : Linked f v table
-  pub kinds : (u : ℕ) → u < v → kindIn table u ≡ kind f u
-  pub body : Shows (λ e. e .body) (equationsBefore f v) (bodyIn table)
-  pub operator : Shows (λ e. leastBit (e .operator)) (equationsBefore f v) (leastIn table)
-  pub long : length table ≡ 4_098
+  -- the numbers of a step fit a word and the table
+  pub node-few : v < 1_024
+  node-few = omega (arith, n .inside, n .good .formula .few)
+
+  pub number-few : i ≤ 1_024
+  number-few = omega (arith, s .count, number-fits f (n .good) v (n .inside))
+
+  pub kind-few : k ≤ 8
+  kind-few = omega (arith, n .kinded, n .good .formula .nodes v (n .inside) .known)
+
+  pub linkable : Linkable table k o i
+  linkable =
+      record {
+        right = λ p q. omega (arith, n .pointed, n .good .formula .few, n .good .formula .nodes v (n .inside) .right (omega (arith, n .kinded)) (omega (arith, n .kinded)));
+        own = omega (arith, number-few);
+        outer = λ p. (omega (arith, outer-before p, node-few), omega (arith, linked-outer p, number-fits f (n .good) o (omega (arith, outer-before p, n .inside))));
+      }
+
+  -- the link that the table and these numbers give is the node's
+  link-node : (l : ℕ) → LinkBy table k o i l → Link f v l
+  link-node l b =
+      record {
+        right = λ p q. b .right (omega (arith, n .kinded)) (omega (arith, n .kinded)) ∙ n .pointed;
+        own = λ p q. b .own (omega (arith, n .kinded)) (omega (arith, n .kinded)) ∙ s .count;
+        outer = λ p. b .outer (omega (arith, n .kinded)) ∙ linked-outer (omega (arith, n .kinded)) ∙ ap (equationNumber f) (n .pointed);
+      }
+
+-- ---- the listing: it begins, goes on by a node, and ends
 
 pub listing-first : (f : List ℕ) (i : ℕ) (t table : List ℕ) → i ≡ 1 - one (isFixpoint (formulaNode f 0)) → length t ≡ 4_098 → table ≡ withEquation t 0 0 1
     → Listing f 0 i table
@@ -209,11 +248,14 @@ module _ (f : List ℕ) (v i : ℕ) (table : List ℕ) (l k bit : ℕ) (h : v < 
         long = set-length noded (2_048 + i) (suc v) (3_073 + i) bit ∙ noded-long;
       }
 
--- the same for a loop that adds 1, and for what its calls ensure
-pub listing-next : (f : List ℕ) (v i : ℕ) (table noded listed : List ℕ) (l k bit more : ℕ) → v < size f → v < 1_024 → i < 1_025 → Link f v l → k ≡ kind f v
-    → noded ≡ withNode table v l k → bit ≡ one (eqb (kind f v) 6) → listed ≡ withEquation noded i (v + 1) bit → more ≡ one (isFixpoint (formulaNode f v))
-    → Listing f v i table → Listing f (v + 1) (i + more) listed
-listing-next f v i table noded listed l k bit more h few room link e w b x m s = rw (x, w, add-one) (listing-suc f v i table l k bit h few room s more link e m b)
+-- the same by what the calls of a step ensure
+pub listing-next : (before noded listed : List ℕ) (v k o i l bit more : ℕ) → LinkBy before k o i l → noded ≡ withNode before v l k → bit ≡ one (eqb k 6)
+    → listed ≡ withEquation noded i (v + 1) bit → Counts k more → (f : List ℕ) → NodeOf f v k o → Listing f v i before → Listing f (v + 1) (i + more) listed
+listing-next before noded listed v k o i l bit more link w b x m f n s =
+    let e = n .kinded in
+    rw (x, w, add-one)
+    (listing-suc f v i before l k bit (n .inside) (node-few f v k o i before n s) (omega (arith, number-few f v k o i before n s)) s more (link-node f v k o i before n s l link) e
+    (counts-fixpoints f v more (n .inside) (subst (λ (j : ℕ). Counts j more) e m)) (b ∙ ap (λ (j : ℕ). one (eqb j 6)) e))
 
 pub listing-last : (f : List ℕ) (i : ℕ) (table : List ℕ) → Good f → Listing f (size f) i table → (i ≡ equationCount f) × Listed f table
 unfolding equationCount equations equationOf equationNumber

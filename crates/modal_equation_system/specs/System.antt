@@ -19,7 +19,8 @@ pub record Good (f : List ℕ) : Type 0 where
   pub actions : ℕ
   pub formula : GoodFormula actions f
 
--- ---- where the table has its words: the links of 1,024 nodes, their kinds, the first body nodes of 1,025 equations, their operators
+-- ---- where the table has its words: the links of 1,024 nodes, their kinds, the first body nodes of 1,025 equations,
+-- their operators
 
 abbrev pub linkIn : List ℕ → (node : ℕ) → ℕ
 linkIn t v = word t v
@@ -41,7 +42,8 @@ withEquation t i b o = set (set t (2_048 + i) b) (3_073 + i) o
 
 -- ---- what they are
 
--- the link of node v: its right operand, or the equation that it stands for in a body. (Of a node of another kind anything)
+-- the link of node v: its right operand, or the equation that it stands for in a body. (Of a node of another kind
+-- anything)
 pub record Link (f : List ℕ) (v link : ℕ) : Type 0 where
   pub right : 2 ≤ kind f v → kind f v ≤ 3 → link ≡ operand f v
   pub own : 6 ≤ kind f v → kind f v ≤ 7 → link ≡ equationNumber f v
@@ -51,7 +53,8 @@ pub record Link (f : List ℕ) (v link : ℕ) : Type 0 where
 abbrev pub Linked : List ℕ → (v : ℕ) (table : List ℕ) → Type 0
 Linked f v t = (u : ℕ) → u < v → Link f u (linkIn t u)
 
--- The table of the equations of f: for each node its link and its kind; for each equation the first node of its body, and 1 if it is a least one
+-- The table of the equations of f: for each node its link and its kind; for each equation the first node of its body,
+-- and 1 if it is a least one
 pub record Listed (f table : List ℕ) : Type 0 where
   pub good : Good f
   pub link : Linked f (size f) table

@@ -1,8 +1,11 @@
 // The equations of a formula, their alternation depth and their priorities (modal_equation_system.rs).
-use formula_reader::kind_at;
-use formula_reader::operand_at;
+use formula_reader::kind;
+use formula_reader::moved;
+use formula_reader::new;
+use formula_reader::operand;
 use player::Priority;
 use words::at;
+use words::kind_at;
 ghost use mathlib.Core.Path.{_≡_};
 ghost use mathlib.Core.Bool.{not};
 ghost use Prim.Native.Nat.{_≤_, _<_, max};
@@ -12,7 +15,11 @@ ghost use Rattle.rules.specs.Lists.{one};
 ghost use Rattle.rules.specs.Table.{size, formulaNode};
 ghost use Rattle.rules.specs.Formula.{isFixpoint, equationNumber, equationCount};
 ghost use Rattle.rules.specs.Depth.{depth, byDepth};
-ghost use Rattle.modal_equation_system.specs.System.{formulaOnly, Good, linkIn, kindIn, bodyIn, leastIn, withNode, withEquation, Link, Linked, Listed, ListedNode, ListedEquation, ReadsBody, ReadsEquation, RankedBy};
+ghost use Rattle.modal_equation_system.specs.System.{formulaOnly, Good, linkIn, kindIn, bodyIn, leastIn, withNode, withEquation};
+ghost use Rattle.modal_equation_system.specs.System.{Listed, ListedNode, ListedEquation};
+ghost use Rattle.modal_equation_system.specs.System.{ReadsBody, ReadsEquation, RankedBy};
+ghost use Rattle.modal_equation_system.specs.Listing.{Listing, Counts, LinkBy, Linkable};
+ghost use Rattle.modal_equation_system.specs.Listing.{Listable, ListsNode};
 
 // 1 if a node is a fixpoint, else 0.
 pub fn fixpoints_at(formula: &[u32], node: usize) -> usize
@@ -20,22 +27,48 @@ pub fn fixpoints_at(formula: &[u32], node: usize) -> usize
     requires { ⌜ node < size (now formula) ⌝ }
     ensures { λ r. ⌜ (r ≡ one (isFixpoint (formulaNode (now (formula .entry)) node))) × (r ≤ 1) ⌝ }
 {
-    let k = kind_at(formula, node);
-    if k <= 5 {
+    fixpoints_of(kind_at(formula, node))
+}
+
+// 1 for the kind of a fixpoint, else 0.
+fn fixpoints_of(kind: usize) -> usize
+    ensures { λ r. ⌜ Counts kind r ⌝ }
+{
+    if kind <= 5 {
         return 0;
     }
-    if 8 <= k {
+    if 8 <= kind {
         return 0;
     }
     1
 }
 
-// ---- the table of the equations: for each node its link and its kind, for each equation the first node of its body and 1 if it is a least one. It is one array
-// of fixed length, so that the readers below keep one pointer to all they read. These six functions alone index it; the links stand in front, where
-// whoever wants the equations of the fixpoints alone may read them.
+// ---- the table of the equations. It is one array of fixed length, so that the functions which read it keep one
+// pointer to all they read. It has four stretches: the link of each node, its kind, the first node of each equation's
+// body, and 1 for each least equation. The six functions below alone index it.
+
+// The most nodes that a formula has. The links come first.
+const NODES: usize = 1024;
+
+// The most equations: one for each node, and the placeholder.
+const EQUATIONS: usize = 1025;
+
+// Where the kinds begin.
+const KINDS: usize = NODES;
+
+// Where the first body nodes of the equations begin.
+const BODIES: usize = 2 * NODES;
+
+// Where the operators of the equations begin.
+const OPERATORS: usize = BODIES + EQUATIONS;
+
+// The length of the table.
+pub const TABLE: usize = OPERATORS + EQUATIONS;
+
+pub type EquationTable = [u32; TABLE];
 
 // The link of a node: the right operand of an and or an or, the equation that a fixpoint or a reference stands for.
-fn link_of(table: &[u32; 4098], node: usize) -> usize
+fn link_of(table: &EquationTable, node: usize) -> usize
     requires { ⌜ node < 1024 ⌝ }
     ensures { λ r. ⌜ r ≡ linkIn (now (table .entry)) node ⌝ }
 {
@@ -43,45 +76,45 @@ fn link_of(table: &[u32; 4098], node: usize) -> usize
 }
 
 // The kind of a node.
-fn kind_of(table: &[u32; 4098], node: usize) -> u32
+fn kind_of(table: &EquationTable, node: usize) -> u32
     requires { ⌜ node < 1024 ⌝ }
     ensures { λ r. ⌜ r ≡ kindIn (now (table .entry)) node ⌝ }
 {
-    table[1024 + node]
+    table[KINDS + node]
 }
 
 // The first node of an equation's body.
-pub fn body_of(table: &[u32; 4098], equation: usize) -> usize
+pub fn body_of(table: &EquationTable, equation: usize) -> usize
     requires { ⌜ equation < 1025 ⌝ }
     ensures { λ r. ⌜ r ≡ bodyIn (now (table .entry)) equation ⌝ }
 {
-    wide(table[2048 + equation])
+    wide(table[BODIES + equation])
 }
 
 // 1 if an equation is a least one, else 0.
-pub fn operator_of(table: &[u32; 4098], equation: usize) -> u32
+pub fn operator_of(table: &EquationTable, equation: usize) -> u32
     requires { ⌜ equation < 1025 ⌝ }
     ensures { λ r. ⌜ r ≡ leastIn (now (table .entry)) equation ⌝ }
 {
-    table[3073 + equation]
+    table[OPERATORS + equation]
 }
 
 // Writes the words of a node.
-fn put_node(table: &mut [u32; 4098], node: usize, link: u32, kind: u32)
+fn put_node(table: &mut EquationTable, node: usize, link: u32, kind: u32)
     requires { ⌜ node < 1024 ⌝ }
     ensures { λ _. ⌜ now (table .exit) ≡ withNode (now (table .entry)) node link kind ⌝ }
 {
     table[node] = link;
-    table[1024 + node] = kind;
+    table[KINDS + node] = kind;
 }
 
 // Writes the words of an equation.
-fn put_equation(table: &mut [u32; 4098], equation: usize, body: u32, least: u32)
+fn put_equation(table: &mut EquationTable, equation: usize, body: u32, least: u32)
     requires { ⌜ equation < 1025 ⌝ }
     ensures { λ _. ⌜ now (table .exit) ≡ withEquation (now (table .entry)) equation body least ⌝ }
 {
-    table[2048 + equation] = body;
-    table[3073 + equation] = least;
+    table[BODIES + equation] = body;
+    table[OPERATORS + equation] = least;
 }
 
 // A word as a usize.
@@ -93,52 +126,72 @@ fn wide(x: u32) -> usize
 
 // ---- listing
 
-// The link that a node gets once the earlier ones have theirs. `number` equations come before it.
-fn link_at(formula: &[u32], table: &[u32; 4098], node: usize, number: usize) -> u32
-    requires { ⌜ Good (now formula) ⌝ }
-    requires { ⌜ (node < size (now formula)) × (number ≡ equationNumber (now formula) node) ⌝ }
-    requires { ⌜ Linked (now formula) node (now table) ⌝ }
-    ensures { λ r. ⌜ Link (now (formula .entry)) node r ⌝ }
+// The link that a node gets once the nodes before it have theirs. `number` equations come before it.
+fn link_at(table: &EquationTable, kind: usize, operand: usize, number: usize) -> u32
+    requires { ⌜ Linkable (now table) kind operand number ⌝ }
+    ensures { λ r. ⌜ LinkBy (now (table .entry)) kind operand number r ⌝ }
 {
-    let k = kind_at(formula, node);
-    if k <= 1 {
+    if kind <= 1 {
         return 0;
     }
-    if k <= 3 {
-        return operand_at(formula, node) as u32;
+    if kind <= 3 {
+        return operand as u32;
     }
-    if k <= 5 {
+    if kind <= 5 {
         return 0;
     }
-    if k <= 7 {
+    if kind <= 7 {
         return number as u32;
     }
-    let fixpoint = operand_at(formula, node);
-    link_of(table, fixpoint) as u32
+    link_of(table, operand) as u32
+}
+
+// Lists one node, of this kind and operand. Returns how many equations come before the next node.
+fn list_node(
+    table: &mut EquationTable,
+    node: usize,
+    kind: usize,
+    operand: usize,
+    number: usize,
+) -> usize
+    requires { ⌜ Listable (now table) node kind operand number ⌝ }
+    ensures { λ r. ⌜ ListsNode (now (table .entry)) node kind operand number r (now (table .exit)) ⌝ }
+{
+    let link = link_at(table, kind, operand, number);
+    put_node(table, node, link, kind as u32);
+    // the equation's entry stays only if the node is a fixpoint: else its number is given to a later node
+    put_equation(table, number, node as u32 + 1, is(kind, 6));
+    number + fixpoints_of(kind)
+}
+
+// Lists all nodes, by a reader that moves from node to node. `first` equations come before the first node.
+fn list_nodes(formula: &[u32], table: &mut EquationTable, count: usize, first: usize) -> usize
+    requires { ⌜ Good (now formula) × (count ≡ size (now formula)) × Listing (now formula) 0 first (now table) ⌝ }
+    ensures { λ r. ⌜ Listing (now (formula .entry)) (size (now (formula .entry))) r (now (table .exit)) ⌝ }
+{
+    let mut reader = new(formula);
+    let mut number = first;
+    while reader.node < count {
+        let its_kind = kind(reader);
+        let its_operand = operand(reader);
+        number = list_node(table, reader.node, its_kind, its_operand, number);
+        reader = moved(reader, reader.node + 1);
+    }
+    number
 }
 
 // Lists the equations in the table. Returns how many there are.
-pub fn list_equations(formula: &[u32], table: &mut [u32; 4098]) -> usize
+pub fn list_equations(formula: &[u32], table: &mut EquationTable) -> usize
     requires { ⌜ Good (now formula) ⌝ }
     requires { ⌜ length (now table) ≡ 4098 ⌝ }
     ensures { λ r. ⌜ r ≡ equationCount (now (formula .entry)) ⌝ }
     ensures { λ _. ⌜ Listed (now (formula .entry)) (now (table .exit)) ⌝ }
 {
-    let n = at(formula, 0);
     // the placeholder's entry stays only if node 0 is no fixpoint
     put_equation(table, 0, 0, 1);
-    let mut i = 1 - fixpoints_at(formula, 0);
-    let mut v: usize = 0;
-    while v < n {
-        let k = kind_at(formula, v);
-        let link = link_at(formula, table, v, i);
-        put_node(table, v, link, k as u32);
-        // the equation's entry stays only if v is a fixpoint: else i is not moved past it
-        put_equation(table, i, v as u32 + 1, is(k, 6));
-        i += fixpoints_at(formula, v);
-        v += 1;
-    }
-    i
+    let first = 1 - fixpoints_at(formula, 0);
+    let count = at(formula, 0);
+    list_nodes(formula, table, count, first)
 }
 
 // 1 if two numbers are the same, else 0.
@@ -148,16 +201,17 @@ fn is(a: usize, b: usize) -> u32
     if a == b { 1 } else { 0 }
 }
 
-// ---- reading. The two readers are given the table and not the formula, which would be copied to the stack at each call: what they promise holds for
-// every formula that the table is of.
+// ---- reading: `read_body` and `read_equation` call each other down to the leaves. They are passed the table alone, so
+// that a call keeps little on the stack; what they promise holds for every formula of which this is the table.
 
 // 1 if the operators of two equations differ, else 0.
-fn differing(table: &[u32; 4098], i: usize, j: usize) -> u32
-    requires { ⌜ (i < 1025) × (j < 1025) ⌝ }
-    ensures { λ r. ⌜ (r ≡ one (not (eqb (leastIn (now (table .entry)) i) (leastIn (now (table .entry)) j)))) × (r ≤ 1) ⌝ }
+fn differing(table: &EquationTable, first: usize, second: usize) -> u32
+    requires { ⌜ (first < 1025) × (second < 1025) ⌝ }
+    ensures { λ r. ⌜ (r ≡ one (not (eqb (leastIn (now (table .entry)) first) (leastIn (now (table .entry)) second))))
+        × (r ≤ 1) ⌝ }
 {
-    let a = operator_of(table, i);
-    let b = operator_of(table, j);
+    let a = operator_of(table, first);
+    let b = operator_of(table, second);
     if a == b { 0 } else { 1 }
 }
 
@@ -169,40 +223,40 @@ fn larger(a: u32, b: u32) -> u32
 }
 
 // Reads the subformula of `node` for `target`, in the body of `equation`.
-fn read_body(table: &[u32; 4098], node: usize, equation: usize, target: usize) -> u32
+fn read_body(table: &EquationTable, node: usize, equation: usize, target: usize) -> u32
     requires { ⌜ ListedNode (now table) node equation ⌝ }
     ensures { λ r. ⌜ ReadsBody (now (table .entry)) node equation target r ⌝ }
 {
-    let k = kind_of(table, node);
+    let kind = kind_of(table, node);
     // First of all, and with nothing but a sum after the call: compiled, nested fixpoints are then a loop.
-    if 6 <= k {
-        let j = link_of(table, node);
-        if j == target {
+    if 6 <= kind {
+        let referred = link_of(table, node);
+        if referred == target {
             return 1;
         }
-        if j <= equation {
+        if referred <= equation {
             return 0;
         }
-        let more = differing(table, equation, j);
-        let inner = read_equation(table, j, target);
+        let more = differing(table, equation, referred);
+        let inner = read_equation(table, referred, target);
         return inner + more;
     }
-    if k <= 1 {
+    if kind <= 1 {
         return 0;
     }
     let next = node + 1;
-    if 4 <= k {
+    if 4 <= kind {
         return read_body(table, next, equation, target);
     }
     // read before the first call, so that less is kept over it
-    let o = link_of(table, node);
+    let operand = link_of(table, node);
     let left = read_body(table, next, equation, target);
-    let right = read_body(table, o, equation, target);
+    let right = read_body(table, operand, equation, target);
     larger(left, right)
 }
 
 // Reads an equation for `target`.
-fn read_equation(table: &[u32; 4098], equation: usize, target: usize) -> u32
+fn read_equation(table: &EquationTable, equation: usize, target: usize) -> u32
     requires { ⌜ ListedEquation (now table) equation ⌝ }
     ensures { λ r. ⌜ ReadsEquation (now (table .entry)) equation target r ⌝ }
 {
@@ -211,7 +265,7 @@ fn read_equation(table: &[u32; 4098], equation: usize, target: usize) -> u32
 }
 
 // The alternation depth of an equation.
-pub fn alternation_depth(formula: &[u32], table: &[u32; 4098], equation: usize) -> u32
+pub fn alternation_depth(formula: &[u32], table: &EquationTable, equation: usize) -> u32
     requires { ⌜ Listed (now formula) (now table) ⌝ }
     requires { ⌜ equation < equationCount (now formula) ⌝ }
     ensures { λ r. ⌜ r ≡ depth (formulaOnly (now (formula .entry))) equation ⌝ }
@@ -220,17 +274,17 @@ pub fn alternation_depth(formula: &[u32], table: &[u32; 4098], equation: usize) 
 }
 
 // The priority of an equation: its depth made even, plus 1 for a least equation.
-pub fn priority_of(formula: &[u32], table: &[u32; 4098], equation: usize) -> Priority
+pub fn priority_of(formula: &[u32], table: &EquationTable, equation: usize) -> Priority
     requires { ⌜ Listed (now formula) (now table) ⌝ }
     requires { ⌜ equation < equationCount (now formula) ⌝ }
     ensures { λ r. ⌜ r .0 ≡ byDepth (formulaOnly (now (formula .entry))) equation ⌝ }
 {
-    let d = alternation_depth(formula, table, equation);
-    Priority(2 * (d / 2) + operator_of(table, equation))
+    let depth = alternation_depth(formula, table, equation);
+    Priority(2 * (depth / 2) + operator_of(table, equation))
 }
 
 // Lists the priorities of all equations, by depth, at the front of a table, and leaves the rest of it as it is.
-pub fn list_priorities(formula: &[u32], table: &[u32; 4098], count: usize, priorities: &mut [u32])
+pub fn list_priorities(formula: &[u32], table: &EquationTable, count: usize, priorities: &mut [u32])
     requires { ⌜ Listed (now formula) (now table) ⌝ }
     requires { ⌜ (count ≡ equationCount (now formula)) × (count ≤ length (now priorities)) ⌝ }
     ensures { λ _. ⌜ RankedBy byDepth (now (formula .entry)) count
@@ -238,8 +292,8 @@ pub fn list_priorities(formula: &[u32], table: &[u32; 4098], count: usize, prior
 {
     let mut i: usize = 0;
     while i < count {
-        let p = priority_of(formula, table, i);
-        priorities[i] = p.0;
+        let priority = priority_of(formula, table, i);
+        priorities[i] = priority.0;
         i += 1;
     }
 }

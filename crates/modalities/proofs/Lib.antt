@@ -1,3 +1,3 @@
 pub mod Matches
-pub mod Turning
+pub mod Gathering
 pub mod Deciding

@@ -1,16 +1,25 @@
--- The targets that a modality's transitions give, as keys, and what matching their labels asks of the words. Assumes nothing: these are definitions.
+-- The targets that a modality's transitions give, as keys, and what matching their labels asks of the words. Assumes
+-- nothing: these are definitions.
 use mathlib.Core.Path.{_≡_}
 use mathlib.Core.List.{List, map}
-use Prim.Native.Nat.{ℕ, _+_, _≤_, _<_}
+use Prim.Native.Nat.{ℕ, _+_, _-_, _≤_, _<_}
 use lib.Dec.{eqb}
 use lib.ListN.{length}
-use Rattle.rules.specs.Lists.{word, one, filter}
+use Rattle.rules.specs.declared.Room.{Room}
+use Rattle.rules.specs.Lists.{word, one, from, filter}
+use Rattle.rules.specs.Words.{Input}
 use Rattle.rules.specs.Labels.{labelCount, multiset}
-use Rattle.rules.specs.System.{transitionLabel, transitionTarget}
-use Rattle.rules.specs.Actions.{Action, matches}
+use Rattle.rules.specs.System.{stateCount, transitionCount, transitionLabel, transitionTarget, firstTransition, degree}
+use Rattle.rules.specs.Table.{size}
+use Rattle.rules.specs.Actions.{Action, actionTree, matches}
+use Rattle.rules.specs.Pairs.{successors}
 use Rattle.tables.specs.Good.{GoodLabels, GoodSystem, GoodActions}
 use Rattle.labels.specs.Classes.{Classes}
 use Rattle.pairs.specs.Slot.{keyOf}
+use Rattle.settling.specs.declared.Counters.{Counters}
+use Rattle.settling.specs.Made.{Marks, Ready}
+use Rattle.modalities.specs.declared.Modality.{Modality}
+use Rattle.modalities.specs.declared.Moves.{Moves}
 
 -- system and action formulas fit the labels, and the table has the labels' multisets
 pub record Labelled (ls ss acts classes : List ℕ) : Type 0 where
@@ -18,6 +27,24 @@ pub record Labelled (ls ss acts classes : List ℕ) : Type 0 where
   pub system : GoodSystem (labelCount ls) ss
   pub actions : GoodActions (labelCount ls) acts
   pub table : Classes ls classes
+
+-- there is a vertex to settle, and no vertex has the mark of this step yet
+abbrev pub Unmarked : List ℕ → Room → Counters → Type 0
+Unmarked w room c =
+    Ready w (room .vertices) (room .edges) c × (c .settled < c .known) × Marks w (room .vertices) (c .settled)
+
+-- ---- a modality at a state
+
+-- its state, its action formula and its operand are there
+abbrev pub Inside : Input → Modality → Type 0
+Inside x m = (m .state < stateCount (x .system)) × (m .action < size (x .actions)) × (m .operand < 2048)
+
+-- the keys of its targets: of the state's successors by the action formula, each with the operand
+abbrev pub modalityKeys : Input → Modality → List ℕ
+modalityKeys x m =
+    map (λ s. keyOf s (m .operand)) (successors x (actionTree (x .labels) (x .actions) (m .action)) (m .state))
+
+-- ---- transitions, and those of them that match
 
 -- the keys of the target states of transitions and the item
 abbrev pub targetKeys : List ℕ → ℕ → List ℕ → List ℕ
@@ -27,16 +54,41 @@ targetKeys ss item ts = map (λ s. keyOf s item) (map (transitionTarget ss) ts)
 unfoldable pub matchedKeys : (ls ss : List ℕ) → Action → ℕ → List ℕ → List ℕ
 matchedKeys ls ss a item ts = targetKeys ss item (filter (λ t. matches (multiset ls (transitionLabel ss t)) a) ts)
 
--- ---- answers are bytes: from `row` on one for each label, at least for the labels of the transitions from `first` up to `end`
+-- ---- answers are bytes, one for each label
 
-abbrev pub HaveBytes : (ss answers : List ℕ) → ℕ → ℕ → ℕ → Type 0
-HaveBytes ss answers row first end = (t : ℕ) → first ≤ t → t < end → row + transitionLabel ss t < length answers
+-- a system can have so many labels
+abbrev pub answerCount : ℕ
+answerCount = 4_096
+
+-- there is one for the label of each transition from `first` up to `end`
+abbrev pub HaveBytes : (ss answers : List ℕ) → ℕ → ℕ → Type 0
+HaveBytes ss answers first end = (t : ℕ) → first ≤ t → t < end → transitionLabel ss t < length answers
 
 -- they are 1 where the action formula matches the label, else 0
-abbrev pub Answered : (ls ss : List ℕ) → Action → List ℕ → ℕ → ℕ → ℕ → Type 0
-Answered ls ss a answers row first end = (t : ℕ) → first ≤ t → t < end → word answers (row + transitionLabel ss t) ≡ one (matches (multiset ls (transitionLabel ss t)) a)
+abbrev pub Answered : (ls ss : List ℕ) → Action → List ℕ → ℕ → ℕ → Type 0
+Answered ls ss a answers first end =
+    (t : ℕ) → first ≤ t → t < end
+    → word answers (transitionLabel ss t) ≡ one (matches (multiset ls (transitionLabel ss t)) a)
 
 -- of the transitions ts in order, those whose label has the answer 1, each as the key of its target state and the item
-unfoldable pub answeredKeys : (ss answers : List ℕ) → ℕ → ℕ → List ℕ → List ℕ
-answeredKeys ss answers row item ts =
-    targetKeys ss item (filter (λ t. eqb (word answers (row + transitionLabel ss t)) 1) ts)
+unfoldable pub answeredKeys : (ss answers : List ℕ) → ℕ → List ℕ → List ℕ
+answeredKeys ss answers item ts =
+    targetKeys ss item (filter (λ t. eqb (word answers (transitionLabel ss t)) 1) ts)
+
+-- ---- the transitions of a state, as numbers
+
+-- the numbers of the transitions
+abbrev pub numbersOf : Moves → List ℕ
+numbersOf m = from (m .first) (m .end - m .first)
+
+-- they are transitions of the system, whose labels and targets begin where the numbers say
+pub record Within (ss : List ℕ) (m : Moves) : Type 0 where
+  pub rises : m .first ≤ m .end
+  pub inside : m .end ≤ transitionCount ss
+  pub labels : m .labels ≡ 3 + stateCount ss
+  pub targets : m .targets ≡ 3 + stateCount ss + transitionCount ss
+
+-- they are those of state s
+pub record OfState (ss : List ℕ) (s : ℕ) (m : Moves) : Type 0 where
+  pub first : m .first ≡ firstTransition ss s
+  pub end : m .end ≡ m .first + degree ss s

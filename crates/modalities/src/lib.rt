@@ -1,171 +1,183 @@
 // The step of a box or a diamond: an edge for each transition of the state whose label matches, once per target.
+use compiled::Compiled;
+use match_table::MatchBytes;
+use rules::Room;
 use settling::Counters;
 use settling::Stepped;
 use words::at;
 ghost use mathlib.Core.Path.{_≡_};
-ghost use mathlib.Core.List.{List, [], _∷_, map};
-ghost use Prim.Native.Nat.{ℕ, _+_, _-_, _≤_, _<_};
+ghost use mathlib.Core.List.{List, [], _∷_};
+ghost use Prim.Native.Nat.{ℕ, _<_};
 ghost use lib.Dec.{eqb};
 ghost use lib.ListN.{length};
-ghost use Rattle.rules.specs.Lists.{from, once};
-ghost use Rattle.rules.specs.Words.{inputOf};
-ghost use Rattle.rules.specs.System.{stateCount, transitionCount, transitionLabel, transitionTarget};
+ghost use Rattle.rules.specs.Lists.{once};
+ghost use Rattle.rules.specs.Words.{Input, inputOf};
+ghost use Rattle.rules.specs.System.{stateCount, transitionLabel, transitionTarget, transitionCount};
 ghost use Rattle.rules.specs.Table.{size};
 ghost use Rattle.rules.specs.Actions.{actionTree};
-ghost use Rattle.rules.specs.Pairs.{successors};
-ghost use Rattle.pairs.specs.Slot.{keyOf, Multiples, Scaled};
-ghost use Rattle.settling.specs.Made.{Marks, Ready, Answer, Marked, Turned};
+ghost use Rattle.compiled.specs.Stretches.{classesIn, samplesIn, multiplesIn};
+ghost use Rattle.pairs.specs.Slot.{Multiples, Scaled};
+ghost use Rattle.settling.specs.Made.{Ready, Answer, Marked, Gathered};
 ghost use Rattle.transitions.specs.Samples.{System, Samples};
 ghost use Rattle.match_table.specs.Rows.{MatchTable};
-ghost use Rattle.modalities.specs.Matched.{Labelled, HaveBytes, Answered, matchedKeys, answeredKeys};
+ghost use Rattle.modalities.specs.Matched.{Labelled, Unmarked, Within, OfState, Inside, numbersOf};
+ghost use Rattle.modalities.specs.Matched.{answerCount, HaveBytes, Answered};
+ghost use Rattle.modalities.specs.Matched.{answeredKeys, matchedKeys, modalityKeys};
 
-// Where the labels of the transitions begin.
-fn names_at(system: &[u32]) -> usize
-    requires { ⌜ System (now system) ⌝ }
-    ensures { λ r. ⌜ r ≡ 3 + stateCount (now (system .entry)) ⌝ }
-{
-    3 + at(system, 0)
+// A byte for each label that a system can have.
+const LABELS: usize = 4096;
+
+type Answers = [u8; LABELS];
+
+// A modality at a state: the state, the node of its action formula, the item number of its operand.
+pub struct Modality {
+    pub state: u32,
+    pub action: u32,
+    pub operand: u32,
 }
 
-// Where their targets begin.
-fn targets_at(system: &[u32]) -> usize
-    requires { ⌜ System (now system) ⌝ }
-    ensures { λ r. ⌜ r ≡ 3 + stateCount (now (system .entry)) + transitionCount (now (system .entry)) ⌝ }
-{
-    3 + at(system, 0) + at(system, 1)
+// The transitions of a state, from `first` up to `end`, and where among the words of the system the labels and the
+// targets of all transitions begin.
+pub struct Moves {
+    pub first: usize,
+    pub end: usize,
+    pub labels: usize,
+    pub targets: usize,
 }
 
-// The label of transition t, where the labels begin at the word `names`.
-fn label_of(system: &[u32], names: usize, t: usize) -> usize
-    requires { ⌜ System (now system) ⌝ }
-    requires { ⌜ (t < transitionCount (now system)) × (names ≡ 3 + stateCount (now system)) ⌝ }
+// The label of transition t.
+fn label_of(system: &[u32], moves: Moves, t: usize) -> usize
+    requires { ⌜ System (now system) × Within (now system) moves × (t < transitionCount (now system)) ⌝ }
     ensures { λ r. ⌜ r ≡ transitionLabel (now (system .entry)) t ⌝ }
 {
-    at(system, names + t)
+    at(system, moves.labels + t)
 }
 
-// The target state of transition t, where the targets begin at the word `targets`.
-fn target_of(system: &[u32], targets: usize, t: usize) -> u32
-    requires { ⌜ System (now system) ⌝ }
-    requires { ⌜ (t < transitionCount (now system)) × (targets ≡ 3 + stateCount (now system) + transitionCount (now system)) ⌝ }
+// Its target state.
+fn target_of(system: &[u32], moves: Moves, t: usize) -> u32
+    requires { ⌜ System (now system) × Within (now system) moves × (t < transitionCount (now system)) ⌝ }
     ensures { λ r. ⌜ r ≡ transitionTarget (now (system .entry)) t ⌝ }
 {
-    system[targets + t]
+    let place = moves.targets + t;
+    system[place]
 }
 
-// One transition of a modality's state. The answers have from `row` on a byte for each label.
-fn turn(
+// The transitions of a state: as many as its degree, from the first one on.
+fn moves_of(system: &[u32], compiled: &Compiled, state: u32) -> Moves
+    requires { ⌜ System (now system) × Samples (now system) (samplesIn (now compiled)) ⌝ }
+    requires { ⌜ state < stateCount (now system) ⌝ }
+    ensures { λ r. ⌜ Within (now (system .entry)) r × OfState (now (system .entry)) state r ⌝ }
+{
+    let samples = compiled::samples(compiled);
+    let index = state as usize;
+    let first = transitions::first_transition(system, samples, index);
+    let labels = 3 + at(system, 0);
+    Moves {
+        first,
+        end: first + at(system, 3 + index),
+        labels,
+        targets: labels + at(system, 1),
+    }
+}
+
+// One transition of a modality's state: its target is met if the answer for its label is 1. The answers have a byte for
+// each label.
+fn follow(
     c: Counters,
-    multiples: &[u32; 256],
+    multiples: &[u32],
     work: &mut [u32],
+    room: Room,
     system: &[u32],
     answers: &[u8],
-    row: usize,
-    v: u32,
-    e: u32,
-    names: usize,
-    targets: usize,
+    moves: Moves,
     t: usize,
     item: u32,
     scaled: u32,
 ) -> Stepped
-    requires { ⌜ Scaled (now multiples) item scaled ⌝ }
-    requires { ⌜ System (now system) ⌝ }
-    requires { ⌜ Ready (now work) v e c × (c .settled < c .known) ⌝ }
+    requires { ⌜ Scaled (now multiples) item scaled × System (now system) × Within (now system) moves ⌝ }
+    requires { ⌜ Ready (now work) (room .vertices) (room .edges) c × (c .settled < c .known) ⌝ }
     requires { ⌜ (t < transitionCount (now system)) × (item < 2048)
-        × (names ≡ 3 + stateCount (now system)) × (targets ≡ 3 + stateCount (now system) + transitionCount (now system)) ⌝ }
-    requires { ⌜ row + transitionLabel (now system) t < length (now answers) ⌝ }
-    ensures { λ r. ⌜ ((ts : List ℕ) → Marked (now (work .entry)) v c ts → Turned (now (work .entry)) v e c ts (answeredKeys (now (system .entry)) (now (answers .entry)) row item (t ∷ [])) (now (work .exit)) r) ⌝ }
+        × (transitionLabel (now system) t < length (now answers)) ⌝ }
+    ensures { λ r. ⌜ ((ts : List ℕ) → Marked (now (work .entry)) (room .vertices) c ts
+        → Gathered (now (work .entry)) (room .vertices) (room .edges) c ts
+        (answeredKeys (now (system .entry)) (now (answers .entry)) item (t ∷ [])) (now (work .exit)) r) ⌝ }
 {
-    let label = label_of(system, names, t);
-    if answers[row + label] == 1 {
-        let target = target_of(system, targets, t);
-        return settling::target_once(c, multiples, work, v, e, target, item, scaled);
+    let label = label_of(system, moves, t);
+    if answers[label] == 1 {
+        let target = target_of(system, moves, t);
+        return settling::target_once(c, multiples, work, room, target, item, scaled);
     }
-    Stepped::Room(c)
+    Stepped::Fits(c)
 }
 
-// The transitions from `first` up to `end` give their targets, each once. This is where a walk spends its time: no label is decided here, and the words of
-// labels and action formulas are no parameters, so that the compiler can keep what the loop needs in registers.
+// The transitions give their targets, each once. This is where a walk spends its time: no label is decided here, and
+// the words of labels and action formulas are no parameters, so that the compiler can keep what the loop needs in
+// registers.
 fn settle_matched(
     c: Counters,
-    multiples: &[u32; 256],
+    compiled: &Compiled,
     work: &mut [u32],
+    room: Room,
     system: &[u32],
     answers: &[u8],
-    row: usize,
-    v: u32,
-    e: u32,
-    names: usize,
-    targets: usize,
-    first: usize,
-    end: usize,
+    moves: Moves,
     item: u32,
 ) -> Stepped
-    requires { ⌜ Multiples (now multiples) ⌝ }
-    requires { ⌜ System (now system) ⌝ }
-    requires { ⌜ Ready (now work) v e c × (c .settled < c .known) × Marks (now work) v (c .settled) ⌝ }
-    requires { ⌜ (first ≤ end) × (end ≤ transitionCount (now system)) × (item < 2048)
-        × (names ≡ 3 + stateCount (now system)) × (targets ≡ 3 + stateCount (now system) + transitionCount (now system)) ⌝ }
-    requires { ⌜ HaveBytes (now system) (now answers) row first end ⌝ }
-    ensures { λ r. ⌜ Answer (now (work .entry)) v e c (once eqb (answeredKeys (now (system .entry)) (now (answers .entry)) row item (from first (end - first)))) (now (work .exit)) r ⌝ }
+    requires { ⌜ Multiples (multiplesIn (now compiled)) × System (now system) × Within (now system) moves × (item < 2048) ⌝ }
+    requires { ⌜ Unmarked (now work) room c × HaveBytes (now system) (now answers) (moves .first) (moves .end) ⌝ }
+    ensures { λ r. ⌜ Answer (now (work .entry)) (room .vertices) (room .edges) c
+        (once eqb (answeredKeys (now (system .entry)) (now (answers .entry)) item (numbersOf moves)))
+        (now (work .exit)) r ⌝ }
 {
+    let multiples = compiled::multiples(compiled);
     let scaled = pairs::product(multiples, item);
     let mut so_far = c;
-    let mut t = first;
-    while t < end {
-        match turn(
+    let mut t = moves.first;
+    while t < moves.end {
+        let Stepped::Fits(next) = follow(
             so_far,
             multiples,
             work,
+            room,
             system,
             answers,
-            row,
-            v,
-            e,
-            names,
-            targets,
+            moves,
             t,
             item,
             scaled,
-        ) {
-            Stepped::Room(next) => {
-                so_far = next;
-            }
-            Stepped::Full => {
-                return Stepped::Full;
-            }
-        }
+        ) else {
+            return Stepped::Full;
+        };
+        so_far = next;
         t += 1;
     }
-    Stepped::Room(so_far)
+    Stepped::Fits(so_far)
 }
 
-// For the labels of the transitions from `first` up to `end` it is decided whether the action formula at the node matches them. This stands in for a row of the
-// table of matching labels, where the formula has none.
+// For the labels of the transitions it is decided whether the action formula at the node matches them. This stands in
+// for a row of the table of matching labels, where the formula has none.
 fn decide_labels(
     labels: &[u32],
     system: &[u32],
     actions: &[u32],
     classes: &[u32],
-    names: usize,
-    first: usize,
-    end: usize,
+    moves: Moves,
     node: usize,
-    answers: &mut [u8; 4096],
+    answers: &mut Answers,
 )
     requires { ⌜ Labelled (now labels) (now system) (now actions) (now classes) ⌝ }
-    requires { ⌜ (end ≤ transitionCount (now system)) × (node < size (now actions)) × (names ≡ 3 + stateCount (now system)) ⌝ }
-    requires { ⌜ length (now answers) ≡ 4096 ⌝ }
-    ensures { λ _. ⌜ length (now (answers .exit)) ≡ 4096 ⌝ }
-    ensures { λ _. ⌜ Answered (now (labels .entry)) (now (system .entry)) (actionTree (now (labels .entry)) (now (actions .entry)) node) (now (answers .exit)) 0 first end ⌝ }
+    requires { ⌜ Within (now system) moves × (node < size (now actions)) × (length (now answers) ≡ answerCount) ⌝ }
+    ensures { λ _. ⌜ length (now (answers .exit)) ≡ answerCount ⌝ }
+    ensures { λ _. ⌜ Answered (now (labels .entry)) (now (system .entry))
+        (actionTree (now (labels .entry)) (now (actions .entry)) node) (now (answers .exit))
+        (moves .first) (moves .end) ⌝ }
 {
-    let mut t = first;
-    while t < end {
-        let label = label_of(system, names, t);
+    let mut t = moves.first;
+    while t < moves.end {
+        let label = label_of(system, moves, t);
         let multiset = at(classes, label);
         let mut byte: u8 = 0;
-        if matching::match_action_formula(labels, actions, classes, multiset, node) {
+        if matching::match_action_formula(actions, classes, multiset, node) {
             byte = 1;
         }
         answers[label] = byte;
@@ -173,123 +185,70 @@ fn decide_labels(
     }
 }
 
-// The targets of the transitions from `first` up to `end`, where the action formula has no row: their labels are decided first.
+// The targets of the transitions, where the action formula has no row: their labels are decided first.
 fn settle_decided(
     c: Counters,
-    multiples: &[u32; 256],
+    compiled: &Compiled,
     work: &mut [u32],
+    room: Room,
     labels: &[u32],
     system: &[u32],
     actions: &[u32],
-    classes: &[u32],
-    v: u32,
-    e: u32,
-    first: usize,
-    end: usize,
-    node: usize,
-    item: u32,
+    moves: Moves,
+    modality: Modality,
 ) -> Stepped
-    requires { ⌜ Multiples (now multiples) ⌝ }
-    requires { ⌜ Labelled (now labels) (now system) (now actions) (now classes) ⌝ }
-    requires { ⌜ Ready (now work) v e c × (c .settled < c .known) × Marks (now work) v (c .settled) ⌝ }
-    requires { ⌜ (first ≤ end) × (end ≤ transitionCount (now system)) × (node < size (now actions)) × (item < 2048) ⌝ }
-    ensures { λ r. ⌜ Answer (now (work .entry)) v e c (once eqb (matchedKeys (now (labels .entry)) (now (system .entry)) (actionTree (now (labels .entry)) (now (actions .entry)) node) item (from first (end - first)))) (now (work .exit)) r ⌝ }
+    requires { ⌜ Multiples (multiplesIn (now compiled)) ⌝ }
+    requires { ⌜ Labelled (now labels) (now system) (now actions) (classesIn (now compiled)) ⌝ }
+    requires { ⌜ Unmarked (now work) room c ⌝ }
+    requires { ⌜ Within (now system) moves × (modality .action < size (now actions)) × (modality .operand < 2048) ⌝ }
+    ensures { λ r. ⌜ Answer (now (work .entry)) (room .vertices) (room .edges) c
+        (once eqb (matchedKeys (now (labels .entry)) (now (system .entry)) (actionTree (now (labels .entry))
+        (now (actions .entry)) (modality .action)) (modality .operand) (numbersOf moves))) (now (work .exit)) r ⌝ }
 {
-    let mut answers = [0u8; 4096];
-    let names = names_at(system);
-    decide_labels(
-        labels,
-        system,
-        actions,
-        classes,
-        names,
-        first,
-        end,
-        node,
-        &mut answers,
-    );
-    let targets = targets_at(system);
-    settle_matched(
-        c,
-        multiples,
-        work,
-        system,
-        &answers,
-        0,
-        v,
-        e,
-        names,
-        targets,
-        first,
-        end,
-        item,
-    )
+    let mut answers = [0u8; LABELS];
+    let classes = compiled::classes(compiled);
+    let node = modality.action as usize;
+    decide_labels(labels, system, actions, classes, moves, node, &mut answers);
+    let operand = modality.operand;
+    settle_matched(c, compiled, work, room, system, &answers, moves, operand)
 }
 
-// The targets of a modality, with the action formula at the node `action` and the operand `item`, are met and get their edges. The formula is not read: the contract
-// speaks of the input.
+// The targets of a modality are met and get their edges. The formula is no parameter: successors do not depend on it.
 pub fn settle_modality(
     c: Counters,
-    multiples: &[u32; 256],
+    compiled: &Compiled,
     work: &mut [u32],
+    room: Room,
     labels: &[u32],
     system: &[u32],
     actions: &[u32],
-    formula: &[u32],
-    classes: &[u32],
-    samples: &[u32; 4096],
-    matched: &[u8; 17408],
-    v: u32,
-    e: u32,
-    state: u32,
-    action: u32,
-    item: u32,
+    matched: &MatchBytes,
+    modality: Modality,
 ) -> Stepped
-    requires { ⌜ Multiples (now multiples) ⌝ }
-    requires { ⌜ Labelled (now labels) (now system) (now actions) (now classes) ⌝ }
-    requires { ⌜ Samples (now system) (now samples) ⌝ }
-    requires { ⌜ MatchTable (now labels) (now actions) (now matched) ⌝ }
-    requires { ⌜ Ready (now work) v e c × (c .settled < c .known) × Marks (now work) v (c .settled) ⌝ }
-    requires { ⌜ (state < stateCount (now system)) × (action < size (now actions)) × (item < 2048) ⌝ }
-    ensures { λ r. ⌜ Answer (now (work .entry)) v e c (map (λ t. keyOf t item) (successors (inputOf (now (labels .entry)) (now (system .entry)) (now (actions .entry)) (now (formula .entry))) (actionTree (now (labels .entry)) (now (actions .entry)) action) state)) (now (work .exit)) r ⌝ }
+    ghost { Input }
+    requires { λ x. ⌜ inputOf (now labels) (now system) (now actions) [] ≡ x ⌝ }
+    requires { λ x. ⌜ Labelled (x .labels) (x .system) (x .actions) (classesIn (now compiled)) ⌝ }
+    requires { λ x. ⌜ Multiples (multiplesIn (now compiled)) × Samples (x .system) (samplesIn (now compiled))
+        × MatchTable (x .labels) (x .actions) (now matched) ⌝ }
+    requires { λ x. ⌜ Unmarked (now work) room c × Inside x modality ⌝ }
+    ensures { λ x r. ⌜ Answer (now (work .entry)) (room .vertices) (room .edges) c (modalityKeys x modality)
+        (now (work .exit)) r ⌝ }
 {
-    let node = action as usize;
-    let row = match_table::row_of(labels, actions, matched, node);
-    let at_state = state as usize;
-    let first = transitions::first_transition(system, samples, at_state);
-    let end = first + at(system, 3 + at_state);
-    if row == 0 {
+    let answers = match_table::row(labels, actions, matched, modality.action as usize);
+    let moves = moves_of(system, compiled, modality.state);
+    if answers.len() == 0 {
         return settle_decided(
             c,
-            multiples,
+            compiled,
             work,
+            room,
             labels,
             system,
             actions,
-            classes,
-            v,
-            e,
-            first,
-            end,
-            node,
-            item,
+            moves,
+            modality,
         );
     }
-    let names = names_at(system);
-    let targets = targets_at(system);
-    settle_matched(
-        c,
-        multiples,
-        work,
-        system,
-        matched,
-        row,
-        v,
-        e,
-        names,
-        targets,
-        first,
-        end,
-        item,
-    )
+    let operand = modality.operand;
+    settle_matched(c, compiled, work, room, system, answers, moves, operand)
 }

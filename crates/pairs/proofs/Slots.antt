@@ -1,4 +1,5 @@
--- The laws of the slots: what a taken slot and a search without success say of a key, and one more pair. Assumes nothing.
+-- The laws of the slots: what a taken slot and a search without success say of a key, and one more pair. Assumes
+-- nothing.
 use mathlib.Core.Path.{_≡_, refl, sym, _∙_, ap, subst}
 use mathlib.Core.List.{List, [], _∷_, _++_}
 use Prim.Native.Nat.{ℕ, zero, suc, _+_, _-_, _*_, _≤_, _<_}

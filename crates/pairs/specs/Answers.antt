@@ -47,7 +47,8 @@ pub record Fresh (w : List ℕ) (v n k p : ℕ) : Type 0 where
   pub path : Path (slotsOf w v) (slotCount v) (slotOf k (slotCount v)) p
   pub empty : heldIn (slotsOf w v) p ≡ 0
 
--- key k is looked up: it is known by its place among the keys, or it is new; no slot is empty only where there is no room for one vertex more
+-- key k is looked up: it is known by its place among the keys, or it is new; no slot is empty only where there is no
+-- room for one vertex more
 abbrev pub Finding : List ℕ → (v n k : ℕ) → Place → Type 0
 Finding w v n k (Known i) = In k (keysOf w v n) × (i .0 ≡ position eqb k (keysOf w v n))
 Finding w v n k (Free p) = Fresh w v n k p

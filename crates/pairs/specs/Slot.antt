@@ -2,7 +2,8 @@
 -- sums of byte multiples .. giving the starting slot of a pair"). Assumes nothing: these are definitions.
 use mathlib.Core.Path.{_≡_}
 use mathlib.Core.List.{List}
-use Prim.Native.Nat.{ℕ, _+_, _*_, _/_, _%_, _^_, _<_}
+use Prim.Native.Nat.{ℕ, _+_, _*_, _/_, _%_, _^_, _≤_, _<_}
+use lib.ListN.{length}
 use Rattle.rules.specs.Lists.{word}
 
 -- a state and an item number, which is below 2,048, as one number
@@ -15,6 +16,7 @@ slotOf key v = key * 2654435761 % 2 ^ 32 * v / 2 ^ 32
 
 -- the table's entry for each byte is its multiple
 pub record Multiples (table : List ℕ) : Type 0 where
+  pub room : 256 ≤ length table
   pub right : (b : ℕ) → b < 256 → word table b ≡ b * 2654435761 % 2 ^ 32
 
 -- the table, and the product of an item, which is the same for all targets of a modality

@@ -1,5 +1,6 @@
--- The known pairs, in the first four regions of the work words. The first three hold the slots, two words each: a key, and the vertex for which it stands and 1, or 0 in an empty
--- slot. There is half as much again of them as of vertices, so that some are always empty and a search is short. The fourth region has the key of each vertex. Assumes nothing:
+-- The known pairs, in the first four regions of the work words. The first three hold the slots, two words each: a key,
+-- and one more than the number of its vertex, or 0 in an empty slot. There is half as much again of them as of vertices,
+-- so that some are always empty and a search is short. The fourth region has the key of each vertex. Assumes nothing:
 -- these are definitions.
 use mathlib.Core.Path.{_≡_}
 use mathlib.Core.Bool.{Bool}
@@ -53,7 +54,8 @@ keysOf w v n = keysIn (region 3 v w) n
 
 -- ---- what they say
 
--- Of so many slots, all that a search from slot h upwards passes before it comes to slot p are taken. After the last slot it goes on from slot 0
+-- Of so many slots, all that a search from slot h upwards passes before it comes to slot p are taken. After the last
+-- slot it goes on from slot 0
 pub record Path (slots : List ℕ) (size h p : ℕ) : Type 0 where
   pub within : p < size
   pub up : (q : ℕ) → h ≤ q → q < p → 0 < heldIn slots q
@@ -71,7 +73,8 @@ pub record Holding (slots keys : List ℕ) (n p : ℕ) : Type 0 where
   pub known : heldIn slots p ≤ n
   pub key : keyIn slots p ≡ word keys (heldIn slots p - 1)
 
--- the slots hold n vertices with these keys, which are distinct: each is reached from the slot of its key, and no other slot is taken
+-- the slots hold n vertices with these keys, which are distinct: each is reached from the slot of its key, and no other
+-- slot is taken
 pub record Slots (slots keys : List ℕ) (v n : ℕ) : Type 0 where
   pub room : n ≤ v
   pub distinct : Distinct keys

@@ -1,5 +1,7 @@
 // The table of known pairs in the lent work slice: looking a pair up, and numbering it.
 use player::VertexIndex;
+use words::KEYS;
+use words::copy;
 use words::put_word;
 use words::region_word;
 ghost use mathlib.Core.Path.{_≡_};
@@ -271,23 +273,33 @@ const MULTIPLES: [u32; 256] = [
     2571253583,
 ];
 
-// The table, to be lent to the functions below. A table that they named would be made again in each call.
-pub fn byte_multiples() -> [u32; 256]
+// The table by value.
+fn byte_multiples() -> [u32; 256]
     ensures { λ r. ⌜ Multiples r ⌝ }
 {
     MULTIPLES
 }
 
-fn multiple(multiples: &[u32; 256], b: usize) -> u32
-    requires { ⌜ Multiples (now multiples) ⌝ }
-    requires { ⌜ b < 256 ⌝ }
-    ensures { λ r. ⌜ r ≡ b * 2654435761 % 2 ^ 32 ⌝ }
+// Writes the table, which is lent to the functions below. A table that they named would be made again in each call.
+pub fn write_multiples(multiples: &mut [u32])
+    requires { ⌜ 256 ≤ length (now multiples) ⌝ }
+    ensures { λ _. ⌜ Multiples (now (multiples .exit)) ⌝ }
 {
-    multiples[b]
+    let table = byte_multiples();
+    copy(&table, 0, 256, multiples, 0);
+}
+
+// The multiple of a byte.
+fn multiple(multiples: &[u32], byte: usize) -> u32
+    requires { ⌜ Multiples (now multiples) ⌝ }
+    requires { ⌜ byte < 256 ⌝ }
+    ensures { λ r. ⌜ r ≡ byte * 2654435761 % 2 ^ 32 ⌝ }
+{
+    multiples[byte]
 }
 
 // x times 2,654,435,761, with everything above 32 bits dropped: a wrapping sum of the multiples of its two bytes.
-pub fn product(multiples: &[u32; 256], x: u32) -> u32
+pub fn product(multiples: &[u32], x: u32) -> u32
     requires { ⌜ Multiples (now multiples) ⌝ }
     requires { ⌜ x < 65536 ⌝ }
     ensures { λ r. ⌜ r ≡ x * 2654435761 % 2 ^ 32 ⌝ }
@@ -297,9 +309,9 @@ pub fn product(multiples: &[u32; 256], x: u32) -> u32
     std::num::wrapping_add_u32(low, high)
 }
 
-// The slot from which the search for a pair starts, where there are v slots. The product of the key is that of the state, times 2,048, and that of the item, which is handed
-// over: it is the same for all targets of a modality.
-fn slot_of(multiples: &[u32; 256], state: u32, item: u32, scaled: u32, v: u32) -> u32
+// The slot from which the search for a pair starts, where there are v slots. The product of the key is that of the
+// state, times 2,048, and that of the item, which is handed over: it is the same for all targets of a modality.
+fn slot_of(multiples: &[u32], state: u32, item: u32, scaled: u32, v: u32) -> u32
     requires { ⌜ Scaled (now multiples) item scaled ⌝ }
     requires { ⌜ (state < 65535) × (item < 2048) ⌝ }
     ensures { λ r. ⌜ r ≡ slotOf (keyOf state item) v ⌝ }
@@ -308,9 +320,6 @@ fn slot_of(multiples: &[u32; 256], state: u32, item: u32, scaled: u32, v: u32) -
     let p = std::num::wrapping_add_u32(by_state, scaled);
     ((p as u64) * (v as u64) / 4294967296) as u32
 }
-
-// The region that has the key of each vertex.
-const KEYS: u32 = 3;
 
 // Where a pair stands: the vertex that it has, or the empty slot that is for it, or nowhere, because no slot is empty.
 pub enum Place {
@@ -352,7 +361,7 @@ fn key_in(work: &[u32], v: u32, p: usize) -> u32
     slot_word(work, v, 2 * p)
 }
 
-// What slot p holds: 0, or a vertex and 1.
+// What slot p holds: 0 if it is empty, else the number of a vertex plus one.
 fn held_in(work: &[u32], v: u32, p: usize) -> u32
     requires { ⌜ (8 * v ≤ length (now work)) × (p < slotCount v) ⌝ }
     ensures { λ r. ⌜ r ≡ heldIn (slotsOf (now (work .entry)) v) p ⌝ }
@@ -361,19 +370,19 @@ fn held_in(work: &[u32], v: u32, p: usize) -> u32
 }
 
 // The state of a vertex's pair.
-pub fn state_of(work: &[u32], v: u32, i: u32) -> u32
-    requires { ⌜ (8 * v ≤ length (now work)) × (i < v) ⌝ }
-    ensures { λ r. ⌜ r ≡ stateAt (now (work .entry)) v i ⌝ }
+pub fn state_of(work: &[u32], v: u32, vertex: VertexIndex) -> u32
+    requires { ⌜ (8 * v ≤ length (now work)) × (vertex .0 < v) ⌝ }
+    ensures { λ r. ⌜ r ≡ stateAt (now (work .entry)) v (vertex .0) ⌝ }
 {
-    region_word(work, v, KEYS, i) / 2048
+    region_word(work, v, KEYS, vertex.0) / 2048
 }
 
 // The item of a vertex's pair.
-pub fn item_of(work: &[u32], v: u32, i: u32) -> u32
-    requires { ⌜ (8 * v ≤ length (now work)) × (i < v) ⌝ }
-    ensures { λ r. ⌜ r ≡ itemAt (now (work .entry)) v i ⌝ }
+pub fn item_of(work: &[u32], v: u32, vertex: VertexIndex) -> u32
+    requires { ⌜ (8 * v ≤ length (now work)) × (vertex .0 < v) ⌝ }
+    ensures { λ r. ⌜ r ≡ itemAt (now (work .entry)) v (vertex .0) ⌝ }
 {
-    region_word(work, v, KEYS, i) % 2048
+    region_word(work, v, KEYS, vertex.0) % 2048
 }
 
 // ---- all slots
@@ -399,7 +408,7 @@ fn probe(work: &[u32], v: u32, key: u32, from: usize, end: usize) -> Place
 
 // Where a pair stands, searched from the slot of its key up to the last, and then from the first.
 fn find(
-    multiples: &[u32; 256],
+    multiples: &[u32],
     work: &[u32],
     v: u32,
     known: u32,
@@ -423,7 +432,7 @@ fn find(
 
 // The vertex that stands for a pair, which is numbered first if it is new.
 pub fn number(
-    multiples: &[u32; 256],
+    multiples: &[u32],
     work: &mut [u32],
     v: u32,
     known: u32,

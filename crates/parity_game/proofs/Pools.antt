@@ -1,4 +1,5 @@
--- Checks of one number in the order of their places: the fault at the smallest place is that of the first check that has one. Assumes nothing.
+-- Checks of one number in the order of their places: the fault at the smallest place is that of the first check that
+-- has one. Assumes nothing.
 use Prim.Native.Nat.{ℕ, suc, _≤_}
 use native.Mathlib.Omega.{arith}
 use mathlib.Core.Path.{_≡_, refl}

@@ -1,4 +1,5 @@
--- The words of a game as stretches, one after the other: those that a program writes from left to right. Assumes nothing.
+-- The words of a game as stretches, one after the other: those that a program writes from left to right. Assumes
+-- nothing.
 use Prim.Native.Nat.{ℕ, suc, _+_, _-_, _*_, _≤_, _<_}
 use native.Mathlib.Numerals.{add-one}
 use native.Mathlib.Omega.{arith}

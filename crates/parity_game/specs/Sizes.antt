@@ -1,4 +1,5 @@
--- What the words of a game say that 51 does not refuse: the functions that check the rest ask for this. Assumes nothing: this is a definition.
+-- What the words of a game say that 51 does not refuse: the functions that check the rest ask for this. Assumes
+-- nothing: this is a definition.
 use Prim.Native.Nat.{ℕ, _≤_}
 use mathlib.Core.Path.{_≡_}
 use mathlib.Core.List.{List}

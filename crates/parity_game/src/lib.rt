@@ -1,4 +1,5 @@
-// The words of a parity game: where they stand, the check of a game that is handed over, and the first words of a game that is written.
+// The words of a parity game: where they stand, the check of a game that is handed over, and the first words of a game
+// that is written.
 use rules::Check;
 ghost use mathlib.Core.Path.{_≡_};
 ghost use mathlib.Core.List.{[], _∷_};
@@ -13,12 +14,12 @@ ghost use Rattle.parity_game.specs.Sizes.{Sizes};
 
 // ---- where the words stand
 
-// The place where a column of the vertices begins, in a game of n of them.
-pub fn vertex_column_at(n: usize, column: usize) -> usize
-    requires { ⌜ (n < 4294967296) × (column ≤ length vertexColumns) ⌝ }
-    ensures { λ r. ⌜ r ≡ 3 + column * n ⌝ }
+// The place where a column of the vertices begins, in a game of so many.
+pub fn vertex_column_at(vertices: usize, column: usize) -> usize
+    requires { ⌜ (vertices < 4294967296) × (column ≤ length vertexColumns) ⌝ }
+    ensures { λ r. ⌜ r ≡ 3 + column * vertices ⌝ }
 {
-    3 + column * n
+    3 + column * vertices
 }
 
 // How many columns the vertices have.
@@ -29,48 +30,49 @@ pub fn vertex_columns() -> usize
 }
 
 // The place where the offsets begin.
-fn offsets_at(n: usize) -> usize
-    requires { ⌜ n < 4294967296 ⌝ }
-    ensures { λ r. ⌜ r ≡ 3 + length vertexColumns * n ⌝ }
+fn offsets_at(vertices: usize) -> usize
+    requires { ⌜ vertices < 4294967296 ⌝ }
+    ensures { λ r. ⌜ r ≡ 3 + length vertexColumns * vertices ⌝ }
 {
-    vertex_column_at(n, vertex_columns())
+    vertex_column_at(vertices, vertex_columns())
 }
 
-// The place where a column of the edges begins, in a game of n vertices and m edges.
-fn edge_column_at(n: usize, m: usize, column: usize) -> usize
-    requires { ⌜ (n < 4294967296) × (m < 4294967296) × (column ≤ length edgeColumns) ⌝ }
-    ensures { λ r. ⌜ r ≡ 4 + (length vertexColumns + 1) * n + column * m ⌝ }
+// The place where a column of the edges begins, in a game of so many vertices and edges.
+fn edge_column_at(vertices: usize, edges: usize, column: usize) -> usize
+    requires { ⌜ (vertices < 4294967296) × (edges < 4294967296) × (column ≤ length edgeColumns) ⌝ }
+    ensures { λ r. ⌜ r ≡ 4 + (length vertexColumns + 1) * vertices + column * edges ⌝ }
 {
-    offsets_at(n) + n + 1 + column * m
+    offsets_at(vertices) + vertices + 1 + column * edges
 }
 
-// How many words a game of n vertices and m edges has: it ends behind one column of the edges.
-fn game_words(n: usize, m: usize) -> usize
-    requires { ⌜ (n < 4294967296) × (m < 4294967296) ⌝ }
-    ensures { λ r. ⌜ r ≡ gameWords n m ⌝ }
+// How many words a game of so many vertices and edges has: it ends behind one column of the edges.
+fn game_words(vertices: usize, edges: usize) -> usize
+    requires { ⌜ (vertices < 4294967296) × (edges < 4294967296) ⌝ }
+    ensures { λ r. ⌜ r ≡ gameWords vertices edges ⌝ }
 {
-    edge_column_at(n, m, 1)
+    edge_column_at(vertices, edges, 1)
 }
 
-// The word of vertex v in a column.
-pub fn vertex_word(game: &[u32], column: usize, v: usize) -> usize
+// The word of a vertex in a column.
+pub fn vertex_word(game: &[u32], column: usize, vertex: usize) -> usize
     requires { ⌜ gameEnd (now game) ≤ length (now game) ⌝ }
-    requires { ⌜ (column < length vertexColumns) × (v < vertexCount (now game)) ⌝ }
-    ensures { λ r. ⌜ r ≡ vertexWord (now (game .entry)) column v ⌝ }
+    requires { ⌜ (column < length vertexColumns) × (vertex < vertexCount (now game)) ⌝ }
+    ensures { λ r. ⌜ r ≡ vertexWord (now (game .entry)) column vertex ⌝ }
 {
-    let n = words::at(game, 0);
-    words::at(game, vertex_column_at(n, column) + v)
+    let vertices = words::at(game, 0);
+    words::at(game, vertex_column_at(vertices, column) + vertex)
 }
 
-// The place where the words of the edges of vertex v begin in a column; for the vertex count, the place where the last ones end.
-pub fn edges_from(game: &[u32], column: usize, v: usize) -> usize
+// The place where the words of the edges of a vertex begin in a column; for the vertex count, the place where the last
+// ones end.
+pub fn edges_from(game: &[u32], column: usize, vertex: usize) -> usize
     requires { ⌜ gameEnd (now game) ≤ length (now game) ⌝ }
-    requires { ⌜ (column < length edgeColumns) × (v ≤ vertexCount (now game)) ⌝ }
-    ensures { λ r. ⌜ r ≡ edgesFrom (now (game .entry)) column v ⌝ }
+    requires { ⌜ (column < length edgeColumns) × (vertex ≤ vertexCount (now game)) ⌝ }
+    ensures { λ r. ⌜ r ≡ edgesFrom (now (game .entry)) column vertex ⌝ }
 {
-    let n = words::at(game, 0);
-    let m = words::at(game, 1);
-    edge_column_at(n, m, column) + words::at(game, offsets_at(n) + v)
+    let vertices = words::at(game, 0);
+    let edges = words::at(game, 1);
+    edge_column_at(vertices, edges, column) + words::at(game, offsets_at(vertices) + vertex)
 }
 
 // ---- the check
@@ -80,25 +82,25 @@ fn check_rising(ws: &[u32], first: usize, end: usize) -> Check
     requires { ⌜ (end ≤ length (now ws)) × (end < 4294967296) × (1 ≤ first) ⌝ }
     ensures { λ r. ⌜ r ≡ faultFrom 52 first end (falls (now (ws .entry))) ⌝ }
 {
-    let mut p = first;
-    while p < end {
-        let before = words::at(ws, p - 1);
-        if words::at(ws, p) < before {
-            return Check::Fault(52, p as u32);
+    let mut place = first;
+    while place < end {
+        let before = words::at(ws, place - 1);
+        if words::at(ws, place) < before {
+            return Check::Fault(52, place as u32);
         }
-        p += 1;
+        place += 1;
     }
     Check::Passed
 }
 
 // So many vertices or edges are above the room limits.
-pub fn above_room(n: usize, m: usize) -> bool
-    ensures { λ r. ⌜ r ≡ aboveRoom n m ⌝ }
+pub fn above_room(vertices: usize, edges: usize) -> bool
+    ensures { λ r. ⌜ r ≡ aboveRoom vertices edges ⌝ }
 {
-    if 1_048_576 < n {
+    if 1_048_576 < vertices {
         return true;
     }
-    4_194_304 < m
+    4_194_304 < edges
 }
 
 // 51: the length and the sizes.
@@ -108,15 +110,15 @@ fn check_sizes(game: &[u32]) -> Check
     if game.len() < 3 {
         return Check::Fault(51, 0);
     }
-    let n = words::at(game, 0);
-    let m = words::at(game, 1);
-    if game.len() != game_words(n, m) {
+    let vertices = words::at(game, 0);
+    let edges = words::at(game, 1);
+    if game.len() != game_words(vertices, edges) {
         return Check::Fault(51, 0);
     }
-    if n < 1 {
+    if vertices < 1 {
         return Check::Fault(51, 0);
     }
-    if above_room(n, m) {
+    if above_room(vertices, edges) {
         return Check::Fault(51, 0);
     }
     Check::Passed
@@ -127,18 +129,18 @@ fn check_offsets(game: &[u32]) -> Check
     requires { ⌜ Sizes (now game) ⌝ }
     ensures { λ r. ⌜ r ≡ refusal52 (now (game .entry)) ⌝ }
 {
-    let n = words::at(game, 0);
-    let m = words::at(game, 1);
-    let first = offsets_at(n);
-    let last = first + n;
+    let vertices = words::at(game, 0);
+    let edges = words::at(game, 1);
+    let first = offsets_at(vertices);
+    let last = first + vertices;
     if words::at(game, first) != 0 {
         return Check::Fault(52, first as u32);
     }
-    let rising = check_rising(game, first + 1, last + 1);
-    match rising {
+    let checked = check_rising(game, first + 1, last + 1);
+    match checked {
         Check::Fault(number, place) => Check::Fault(number, place),
         Check::Passed => {
-            if words::at(game, last) != m {
+            if words::at(game, last) != edges {
                 return Check::Fault(52, last as u32);
             }
             Check::Passed
@@ -151,20 +153,20 @@ fn check_vertices(game: &[u32]) -> Check
     requires { ⌜ Sizes (now game) ⌝ }
     ensures { λ r. ⌜ r ≡ refusal53 (now (game .entry)) ⌝ }
 {
-    let n = words::at(game, 0);
-    let m = words::at(game, 1);
-    if n <= words::at(game, 2) {
+    let vertices = words::at(game, 0);
+    let edges = words::at(game, 1);
+    if vertices <= words::at(game, 2) {
         return Check::Fault(53, 2);
     }
-    let first = vertex_column_at(n, 0);
-    let end = vertex_column_at(n, 1);
+    let first = vertex_column_at(vertices, 0);
+    let end = vertex_column_at(vertices, 1);
     let owners = faults::check_below(game, first, end, 2, 53);
     match owners {
         Check::Fault(number, place) => Check::Fault(number, place),
         Check::Passed => {
-            let target = edge_column_at(n, m, 0);
-            let past = edge_column_at(n, m, 1);
-            faults::check_below(game, target, past, n, 53)
+            let target = edge_column_at(vertices, edges, 0);
+            let past = edge_column_at(vertices, edges, 1);
+            faults::check_below(game, target, past, vertices, 53)
         }
     }
 }
@@ -177,8 +179,8 @@ pub fn check_game(game: &[u32]) -> Check
     match sizes {
         Check::Fault(number, place) => Check::Fault(number, place),
         Check::Passed => {
-            let rising = check_offsets(game);
-            match rising {
+            let checked = check_offsets(game);
+            match checked {
                 Check::Fault(number, place) => Check::Fault(number, place),
                 Check::Passed => check_vertices(game),
             }

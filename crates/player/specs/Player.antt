@@ -1,4 +1,5 @@
--- The two players (document 01, "Modules": Even is 0, Odd is 1, and the opponent). Assumes nothing: these are definitions.
+-- The two players (document 01, "Modules": Even is 0, Odd is 1, and the opponent). Assumes nothing: these are
+-- definitions.
 use Prim.Native.Nat.{ℕ}
 use Rattle.player.specs.declared.Player.{Player}
 use Rattle.player.specs.declared.Player.the-variants.{Even, Odd}

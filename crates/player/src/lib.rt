@@ -1,4 +1,5 @@
-// The two players of a parity game, and the two kinds of numbers that a game is made of (player.rs, the index types of parity_game.rs).
+// The two players of a parity game, and the two kinds of numbers that a game is made of (player.rs, the index types of
+// parity_game.rs).
 ghost use mathlib.Core.Path.{_≡_};
 ghost use Rattle.player.specs.Player.{playerIndex, otherPlayer};
 

@@ -1,4 +1,5 @@
--- A vertex that is met, as the two slices show it: its number stands in one of them, and the vertices met stand in the other. Assumes nothing.
+-- A vertex that is met, as the two slices show it: its number stands in one of them, and the vertices met stand in the
+-- other. Assumes nothing.
 use mathlib.Core.Path.{_≡_, sym, ap, _∙_, subst}
 use mathlib.Core.List.{List, [], _∷_, _++_}
 use mathlib.Core.Logic.{_⊎_, inl, inr, ⊎-elim}
@@ -9,7 +10,7 @@ use native.Mathlib.Omega.{arith}
 use lib.Dec.{eqb}
 use lib.ListN.{length, getD, take, set, replicate, length-set, length-replicate, getD-replicate}
 use lib.Seq.{take-suc-set, getD-set-same, getD-set-other, length-take-le, getD-take}
-use Rattle.rules.specs.Lists.{word, In, has, from, insert}
+use Rattle.rules.specs.Lists.{word, In, from, insert}
 use Rattle.rules.specs.Restrict.{newNumber}
 use Rattle.lists.proofs.Members.{in-at, in-last, in-left, in-or, in-either, no-more, distinct-snoc, position-append, position-out}
 use Rattle.lists.proofs.Inserts.{insert-new, insert-old}

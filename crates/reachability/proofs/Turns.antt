@@ -1,4 +1,5 @@
--- One turn of each of the search's loops: what is left of the search from there on is the whole search. Assumes nothing.
+-- One turn of each of the search's loops: what is left of the search from there on is the whole search. Assumes
+-- nothing.
 use mathlib.Core.Path.{_≡_, refl, sym, ap, _∙_}
 use mathlib.Core.List.{List, [], _∷_}
 use Prim.Native.Nat.{ℕ, zero, suc, _+_, _-_, _≤_, _<_}

@@ -1,8 +1,10 @@
-// The part of a parity game that its initial vertex reaches.
+// The part of a parity game that its initial vertex reaches. While it is made, the work slice holds the vertices met,
+// each at its new number, and the map the new number of each vertex, UNREACHED for one that is not met.
+use player::VertexIndex;
 use rules::Answer;
 use rules::Check;
 ghost use mathlib.Core.Path.{_≡_};
-ghost use mathlib.Core.List.{map};
+ghost use mathlib.Core.List.{List, map};
 ghost use Prim.Native.Nat.{ℕ, _+_, _-_, _*_, _<_, _≤_};
 ghost use lib.ListN.{length, take};
 ghost use lib.Seq.{slice};
@@ -10,13 +12,16 @@ ghost use lib.Dec.{eqb};
 ghost use Rattle.rules.specs.declared.Check.the-variants.{Passed};
 ghost use Rattle.rules.specs.Lists.{word, insert, insertAll};
 ghost use Rattle.rules.specs.Answers.{said, Accepted};
-ghost use Rattle.rules.specs.Game.{vertexColumns, edgeCount, offsets, columns, gameOf, padded, vertexCount};
+ghost use Rattle.rules.specs.Game.{Vertex, vertexColumns, edgeCount, offsets, columns, gameOf, padded};
+ghost use Rattle.rules.specs.Game.{vertexCount, edgesFrom};
 ghost use Rattle.rules.specs.Restrict.{reachedVertices, keptVertices, restrictionRefusal, restrictedTo, restriction};
 ghost use Rattle.rules.specs.Restricts.{Restricts, RestrictionDemand1};
 ghost use Rattle.games.specs.Columns.{edgeColumnOf};
 ghost use Rattle.words.specs.Stretches.{Wrote};
 ghost use Rattle.restrictions.specs.GoodGame.{GoodGame};
 ghost use Rattle.reachability.specs.Search.{Knows, Chosen};
+
+const UNREACHED: u32 = 4_294_967_295;
 
 // 51, 52, 53, then 2, for slices of these lengths.
 fn check_lent(game: &[u32], out: usize, mapping: usize, work: usize) -> Check
@@ -29,11 +34,11 @@ fn check_lent(game: &[u32], out: usize, mapping: usize, work: usize) -> Check
             if out != game.len() {
                 return Check::Fault(2, 0);
             }
-            let n = words::at(game, 0);
-            if mapping != n {
+            let vertices = words::at(game, 0);
+            if mapping != vertices {
                 return Check::Fault(2, 0);
             }
-            if work != n {
+            if work != vertices {
                 return Check::Fault(2, 0);
             }
             Check::Passed
@@ -41,18 +46,55 @@ fn check_lent(game: &[u32], out: usize, mapping: usize, work: usize) -> Check
     }
 }
 
+// ---- vertices and their edges
+
+// The vertex whose number stands at a place.
+fn vertex_at(ws: &[u32], place: usize) -> VertexIndex
+    requires { ⌜ place < length (now ws) ⌝ }
+    ensures { λ r. ⌜ r .0 ≡ word (now (ws .entry)) place ⌝ }
+{
+    VertexIndex(ws[place])
+}
+
+// The new number of a vertex.
+fn new_number(mapping: &[u32], vertex: VertexIndex) -> VertexIndex
+    requires { ⌜ vertex .0 < length (now mapping) ⌝ }
+    ensures { λ r. ⌜ r .0 ≡ word (now (mapping .entry)) (vertex .0) ⌝ }
+{
+    vertex_at(mapping, vertex.0 as usize)
+}
+
+// The place where a vertex's targets begin.
+fn targets_from(game: &[u32], vertex: VertexIndex) -> usize
+    requires { ⌜ GoodGame (now game) ⌝ }
+    requires { ⌜ vertex .0 < vertexCount (now game) ⌝ }
+    ensures { λ r. ⌜ r ≡ edgesFrom (now (game .entry)) 0 (vertex .0) ⌝ }
+{
+    parity_game::edges_from(game, 0, vertex.0 as usize)
+}
+
+// The place past them.
+fn targets_end(game: &[u32], vertex: VertexIndex) -> usize
+    requires { ⌜ GoodGame (now game) ⌝ }
+    requires { ⌜ vertex .0 < vertexCount (now game) ⌝ }
+    ensures { λ r. ⌜ r ≡ edgesFrom (now (game .entry)) 0 (vertex .0 + 1) ⌝ }
+{
+    parity_game::edges_from(game, 0, vertex.0 as usize + 1)
+}
+
 // ---- the search
 
-// Vertex t is met: it gets the next number if it is new. The answer is how many are known now.
-fn discover(mapping: &mut [u32], work: &mut [u32], count: usize, t: usize) -> usize
+// A vertex is met: it gets the next number if it is new. The answer is how many are known now.
+fn discover(mapping: &mut [u32], work: &mut [u32], count: usize, vertex: VertexIndex) -> usize
     requires { ⌜ Knows count (now mapping) (now work) ⌝ }
-    requires { ⌜ t < length (now mapping) ⌝ }
+    requires { ⌜ vertex .0 < length (now mapping) ⌝ }
     ensures { λ r. ⌜ Knows r (now (mapping .exit)) (now (work .exit)) ⌝ }
-    ensures { λ r. ⌜ take r (now (work .exit)) ≡ insert eqb (take count (now (work .entry))) t ⌝ }
+    ensures { λ r. ⌜ take r (now (work .exit)) ≡ insert eqb (take count (now (work .entry))) (vertex .0) ⌝ }
 {
-    if mapping[t] == 4_294_967_295 {
-        mapping[t] = count as u32;
-        work[count] = t as u32;
+    let place = vertex.0 as usize;
+    if mapping[place] == UNREACHED {
+        mapping[place] = count as u32;
+        work[count] = vertex.0;
         count + 1
     } else {
         count
@@ -72,14 +114,15 @@ fn discover_all(
     requires { ⌜ end ≤ length (now game) ⌝ }
     requires { ⌜ ((p : ℕ) → from ≤ p → p < end → word (now game) p < length (now mapping)) ⌝ }
     ensures { λ r. ⌜ Knows r (now (mapping .exit)) (now (work .exit)) ⌝ }
-    ensures { λ r. ⌜ take r (now (work .exit)) ≡ insertAll eqb (take known (now (work .entry))) (slice from end (now (game .entry))) ⌝ }
+    ensures { λ r. ⌜ take r (now (work .exit))
+        ≡ insertAll eqb (take known (now (work .entry))) (slice from end (now (game .entry))) ⌝ }
 {
     let mut count = known;
-    let mut p = from;
-    while p < end {
-        let t = words::at(game, p);
-        count = discover(mapping, work, count, t);
-        p += 1;
+    let mut place = from;
+    while place < end {
+        let target = vertex_at(game, place);
+        count = discover(mapping, work, count, target);
+        place += 1;
     }
     count
 }
@@ -91,14 +134,14 @@ fn explore(game: &[u32], mapping: &mut [u32], work: &mut [u32]) -> usize
     ensures { λ r. ⌜ Knows r (now (mapping .exit)) (now (work .exit)) ⌝ }
     ensures { λ r. ⌜ take r (now (work .exit)) ≡ reachedVertices (now (game .entry)) ⌝ }
 {
-    words::fill(mapping, 0, 4_294_967_295);
-    let first = words::at(game, 2);
-    let mut count = discover(mapping, work, 0, first);
+    words::fill(mapping, 0, UNREACHED);
+    let initial = vertex_at(game, 2);
+    let mut count = discover(mapping, work, 0, initial);
     let mut i = 0;
     while i < count {
-        let v = words::at(work, i);
-        let from = parity_game::edges_from(game, 0, v);
-        let end = parity_game::edges_from(game, 0, v + 1);
+        let vertex = vertex_at(work, i);
+        let from = targets_from(game, vertex);
+        let end = targets_end(game, vertex);
         count = discover_all(game, from, end, mapping, work, count);
         i += 1;
     }
@@ -112,56 +155,59 @@ fn count_edges(game: &[u32], work: &[u32], count: usize) -> usize
     requires { ⌜ Chosen (now game) count (now work) ⌝ }
     ensures { λ r. ⌜ r ≡ edgeCount (keptVertices (now (game .entry)) (take count (now (work .entry)))) ⌝ }
 {
-    let mut e = 0;
+    let mut edges = 0;
     let mut i = 0;
     while i < count {
-        let v = words::at(work, i);
-        let from = parity_game::edges_from(game, 0, v);
-        let end = parity_game::edges_from(game, 0, v + 1);
-        e += end - from;
+        let vertex = vertex_at(work, i);
+        let from = targets_from(game, vertex);
+        let end = targets_end(game, vertex);
+        edges += end - from;
         i += 1;
     }
-    e
+    edges
 }
 
 // The columns of the vertices reached, one after another.
 fn write_columns(game: &[u32], work: &[u32], count: usize, out: &mut [u32], start: usize) -> usize
     requires { ⌜ Chosen (now game) count (now work) ⌝ }
     requires { ⌜ start + length vertexColumns * count ≤ length (now out) ⌝ }
-    ensures { λ r. ⌜ Wrote start (columns vertexColumns (keptVertices (now (game .entry)) (take count (now (work .entry))))) (now (out .entry)) (now (out .exit)) r ⌝ }
+    ensures { λ r. ⌜ Wrote start
+        (columns vertexColumns (keptVertices (now (game .entry)) (take count (now (work .entry)))))
+        (now (out .entry)) (now (out .exit)) r ⌝ }
 {
-    let n = words::at(game, 0);
+    let vertices = words::at(game, 0);
     let all = parity_game::vertex_columns();
     let mut column: usize = 0;
-    let mut p = start;
+    let mut next = start;
     while column < all {
-        let base = parity_game::vertex_column_at(n, column);
-        p = words::carry(game, base, work, count, out, p);
+        let base = parity_game::vertex_column_at(vertices, column);
+        next = words::carry(game, base, work, count, out, next);
         column += 1;
     }
-    p
+    next
 }
 
 // Where the edges of each vertex reached begin, and where the last ones end.
 fn write_offsets(game: &[u32], work: &[u32], count: usize, out: &mut [u32], start: usize) -> usize
     requires { ⌜ Chosen (now game) count (now work) ⌝ }
     requires { ⌜ start + (count + 1) ≤ length (now out) ⌝ }
-    ensures { λ r. ⌜ Wrote start (offsets 0 (keptVertices (now (game .entry)) (take count (now (work .entry))))) (now (out .entry)) (now (out .exit)) r ⌝ }
+    ensures { λ r. ⌜ Wrote start (offsets 0 (keptVertices (now (game .entry)) (take count (now (work .entry)))))
+        (now (out .entry)) (now (out .exit)) r ⌝ }
 {
-    let mut e = 0;
+    let mut edges = 0;
     let mut i = 0;
-    let mut p = start;
+    let mut next = start;
     while i < count {
-        out[p] = e as u32;
-        p += 1;
-        let v = words::at(work, i);
-        let from = parity_game::edges_from(game, 0, v);
-        let end = parity_game::edges_from(game, 0, v + 1);
-        e += end - from;
+        out[next] = edges as u32;
+        next += 1;
+        let vertex = vertex_at(work, i);
+        let from = targets_from(game, vertex);
+        let end = targets_end(game, vertex);
+        edges += end - from;
         i += 1;
     }
-    out[p] = e as u32;
-    p + 1
+    out[next] = edges as u32;
+    next + 1
 }
 
 // The new numbers of the vertices that stand at the places from `from` up to `end`.
@@ -175,17 +221,18 @@ fn write_numbers(
 ) -> usize
     requires { ⌜ (from ≤ end) × (end ≤ length (now game)) × (start + (end - from) ≤ length (now out)) ⌝ }
     requires { ⌜ ((p : ℕ) → from ≤ p → p < end → word (now game) p < length (now mapping)) ⌝ }
-    ensures { λ r. ⌜ Wrote start (map (λ t. word (now (mapping .entry)) t) (slice from end (now (game .entry)))) (now (out .entry)) (now (out .exit)) r ⌝ }
+    ensures { λ r. ⌜ Wrote start (map (λ t. word (now (mapping .entry)) t) (slice from end (now (game .entry))))
+        (now (out .entry)) (now (out .exit)) r ⌝ }
 {
-    let mut q = from;
-    let mut p = start;
-    while q < end {
-        let t = words::at(game, q);
-        out[p] = mapping[t];
-        p += 1;
-        q += 1;
+    let mut place = from;
+    let mut next = start;
+    while place < end {
+        let target = new_number(mapping, vertex_at(game, place));
+        out[next] = target.0;
+        next += 1;
+        place += 1;
     }
-    p
+    next
 }
 
 // The targets of the vertices reached, by their new numbers.
@@ -197,30 +244,35 @@ fn write_targets(
     out: &mut [u32],
     start: usize,
 ) -> usize
-    requires { ⌜ Chosen (now game) count (now work) ⌝ }
-    requires { ⌜ Knows count (now mapping) (now work) ⌝ }
-    requires { ⌜ (length (now mapping) ≡ vertexCount (now game)) × (start + edgeCount (keptVertices (now game) (take count (now work))) ≤ length (now out)) ⌝ }
-    ensures { λ r. ⌜ Wrote start (edgeColumnOf 0 (keptVertices (now (game .entry)) (take count (now (work .entry))))) (now (out .entry)) (now (out .exit)) r ⌝ }
+    ghost { List Vertex }
+    requires { λ kept. ⌜ keptVertices (now game) (take count (now work)) ≡ kept ⌝ }
+    requires { λ kept. ⌜ Chosen (now game) count (now work) ⌝ }
+    requires { λ kept. ⌜ Knows count (now mapping) (now work) ⌝ }
+    requires { λ kept. ⌜ (length (now mapping) ≡ vertexCount (now game))
+        × (start + edgeCount kept ≤ length (now out)) ⌝ }
+    ensures { λ kept r. ⌜ Wrote start (edgeColumnOf 0 kept) (now (out .entry)) (now (out .exit)) r ⌝ }
 {
     let mut i = 0;
-    let mut p = start;
+    let mut next = start;
     while i < count {
-        let v = words::at(work, i);
-        let from = parity_game::edges_from(game, 0, v);
-        let end = parity_game::edges_from(game, 0, v + 1);
-        p = write_numbers(game, from, end, mapping, out, p);
+        let vertex = vertex_at(work, i);
+        let from = targets_from(game, vertex);
+        let end = targets_end(game, vertex);
+        next = write_numbers(game, from, end, mapping, out, next);
         i += 1;
     }
-    p
+    next
 }
 
 // The game of the vertices reached, and zeros past it. The answer is how many edges it has.
 fn write_game(game: &[u32], mapping: &[u32], work: &[u32], count: usize, out: &mut [u32]) -> usize
-    requires { ⌜ Chosen (now game) count (now work) ⌝ }
-    requires { ⌜ Knows count (now mapping) (now work) ⌝ }
-    requires { ⌜ (length (now mapping) ≡ vertexCount (now game)) × (length (now out) ≡ length (now game)) ⌝ }
-    ensures { λ r. ⌜ r ≡ edgeCount (keptVertices (now (game .entry)) (take count (now (work .entry)))) ⌝ }
-    ensures { λ _. ⌜ now (out .exit) ≡ padded (length (now (out .entry))) (gameOf 0 (keptVertices (now (game .entry)) (take count (now (work .entry))))) ⌝ }
+    ghost { List Vertex }
+    requires { λ kept. ⌜ keptVertices (now game) (take count (now work)) ≡ kept ⌝ }
+    requires { λ kept. ⌜ Chosen (now game) count (now work) ⌝ }
+    requires { λ kept. ⌜ Knows count (now mapping) (now work) ⌝ }
+    requires { λ kept. ⌜ (length (now mapping) ≡ vertexCount (now game)) × (length (now out) ≡ length (now game)) ⌝ }
+    ensures { λ kept r. ⌜ r ≡ edgeCount kept ⌝ }
+    ensures { λ kept _. ⌜ now (out .exit) ≡ padded (length (now (out .entry))) (gameOf 0 kept) ⌝ }
 {
     let edges = count_edges(game, work, count);
     let header = parity_game::write_header(count as u32, edges as u32, out);
@@ -233,7 +285,8 @@ fn write_game(game: &[u32], mapping: &[u32], work: &[u32], count: usize, out: &m
 
 // The restriction of a game that is not refused, into slices of the right lengths.
 fn restrict(game: &[u32], out: &mut [u32], mapping: &mut [u32], work: &mut [u32]) -> Answer
-    requires { ⌜ restrictionRefusal (now game) (length (now out)) (length (now mapping)) (length (now work)) ≡ Passed ⌝ }
+    requires { ⌜ restrictionRefusal (now game) (length (now out)) (length (now mapping)) (length (now work))
+        ≡ Passed ⌝ }
     ensures { λ r. ⌜
         record { answer = r; out = now (out .exit); mapping = now (mapping .exit); work = now (work .exit) }
         ≡ restrictedTo (now (game .entry)) (reachedVertices (now (game .entry)))
@@ -246,7 +299,8 @@ fn restrict(game: &[u32], out: &mut [u32], mapping: &mut [u32], work: &mut [u32]
     Answer::Done(vertices, vertices, edges as u32)
 }
 
-// The part of the game that its initial vertex reaches; the map has the new number of each vertex, 4,294,967,295 for one that is not reached.
+// The part of the game that its initial vertex reaches; the map has the new number of each vertex, 4,294,967,295 for
+// one that is not reached.
 pub fn compute_reachable(game: &[u32], out: &mut [u32], map: &mut [u32], work: &mut [u32]) -> Answer
     ensures equals { λ r. ⌜
         record { answer = r; out = now (out .exit); mapping = now (map .exit); work = now (work .exit) }

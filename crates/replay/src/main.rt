@@ -1,7 +1,9 @@
-// Replays stored calls: reads records of 76 little-endian words from standard input and prints, for each, the answer, what the lent slices for the game and the map
-// hold afterwards, and how many words of the work slice are not 0. docs/STORED-RUNS.md lays out a record and a line.
+// Replays stored calls: reads records of 76 little-endian words from standard input and prints, for each, the answer,
+// what the lent slices for the game and the map hold afterwards, and how many words of the work slice are not 0.
+// docs/STORED-RUNS.md lays out a record and a line.
 use libc::STDIN_FILENO;
 use libc::STDOUT_FILENO;
+use rules::Room;
 ghost use Prim.Native.Nat.{_+_, _≤_, _<_};
 ghost use lib.ListN.{length};
 ghost use mathlib.Core.Path.{_≡_};
@@ -15,30 +17,40 @@ fn run_build(
     system: &[u32],
     actions: &[u32],
     formula: &[u32],
-    v: u32,
-    e: u32,
-    k: u32,
+    room: Room,
+    limit: u32,
     game: &mut [u32],
     work: &mut [u32],
 ) {
-    let a = translate::translate(labels, system, actions, formula, v, e, k, game, work);
+    let vertices = room.vertices;
+    let edges = room.edges;
+    let a = translate::translate(
+        labels,
+        system,
+        actions,
+        formula,
+        vertices,
+        edges,
+        limit,
+        game,
+        work,
+    );
     stored_runs::outcome_line(a, game, &[], work);
 }
 
-// A build whose lent slices have n and m words, each word `fill` before the call.
+// A build whose lent slices have so many words, each word `fill` before the call.
 fn lend_build(
     labels: &[u32],
     system: &[u32],
     actions: &[u32],
     formula: &[u32],
-    v: u32,
-    e: u32,
-    k: u32,
+    room: Room,
+    limit: u32,
     fill: u32,
-    n: usize,
-    m: usize,
+    game_length: usize,
+    work_length: usize,
 )
-    requires { ⌜ (n ≤ 85) × (m ≤ 193) ⌝ }
+    requires { ⌜ («game_length» ≤ 85) × («work_length» ≤ 193) ⌝ }
 {
     let mut game = [fill; 85];
     let mut work = [fill; 193];
@@ -47,11 +59,10 @@ fn lend_build(
         system,
         actions,
         formula,
-        v,
-        e,
-        k,
-        &mut game[..n],
-        &mut work[..m],
+        room,
+        limit,
+        &mut game[..game_length],
+        &mut work[..work_length],
     );
 }
 
@@ -67,27 +78,31 @@ fn length_at(stored: &[u32], i: usize) -> usize
 fn replay_build(stored: &[u32])
     requires { ⌜ length (now stored) ≡ 76 ⌝ }
 {
-    let p = 12 + length_at(stored, 4);
-    let q = p + length_at(stored, 5);
-    let r = q + length_at(stored, 6);
-    let s = r + length_at(stored, 7);
-    let n = length_at(stored, 8);
-    let m = length_at(stored, 10);
-    if s > 76 || n > 85 || m > 193 {
+    let labels_end = 12 + length_at(stored, 4);
+    let system_end = labels_end + length_at(stored, 5);
+    let actions_end = system_end + length_at(stored, 6);
+    let end = actions_end + length_at(stored, 7);
+    let game_length = length_at(stored, 8);
+    let work_length = length_at(stored, 10);
+    if end > 76 || game_length > 85 || work_length > 193 {
         bad_record();
         return;
     }
+    let vertices = stored[1];
+    let edges = stored[2];
     lend_build(
-        &stored[12..p],
-        &stored[p..q],
-        &stored[q..r],
-        &stored[r..s],
-        stored[1],
-        stored[2],
+        &stored[12..labels_end],
+        &stored[labels_end..system_end],
+        &stored[system_end..actions_end],
+        &stored[actions_end..end],
+        Room {
+            vertices: vertices,
+            edges: edges,
+        },
         stored[3],
         stored[11],
-        n,
-        m,
+        game_length,
+        work_length,
     );
 }
 
@@ -95,15 +110,21 @@ fn replay_build(stored: &[u32])
 fn replay_restrict(stored: &[u32])
     requires { ⌜ length (now stored) ≡ 76 ⌝ }
 {
-    let p = 12 + length_at(stored, 4);
-    if p > 76 {
+    let end = 12 + length_at(stored, 4);
+    if end > 76 {
         bad_record();
         return;
     }
-    let n = length_at(stored, 8);
-    let k = length_at(stored, 9);
-    let m = length_at(stored, 10);
-    stored_runs::restrict(&stored[12..p], stored[11], n, k, m);
+    let out_length = length_at(stored, 8);
+    let map_length = length_at(stored, 9);
+    let work_length = length_at(stored, 10);
+    stored_runs::restrict(
+        &stored[12..end],
+        stored[11],
+        out_length,
+        map_length,
+        work_length,
+    );
 }
 
 // One record: word 0 says which call.

@@ -1,4 +1,5 @@
--- The result of a restriction is the restriction of itself: in it the search meets the vertices 0, 1, 2, .. in this order. Assumes nothing.
+-- The result of a restriction is the restriction of itself: in it the search meets the vertices 0, 1, 2, .. in this
+-- order. Assumes nothing.
 use mathlib.Core.Path.{_≡_, refl, sym, ap, ap₂, _∙_, subst}
 use mathlib.Core.List.{List, [], _∷_, _++_, map}
 use mathlib.Core.Logic.{inl, inr}

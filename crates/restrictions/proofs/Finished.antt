@@ -1,5 +1,5 @@
--- The restriction of a finished run's game loses nothing: the game is accepted, every vertex of it is reachable, and the map is a renumbering of all vertices.
--- Assumes nothing.
+-- The restriction of a finished run's game loses nothing: the game is accepted, every vertex of it is reachable, and
+-- the map is a renumbering of all vertices. Assumes nothing.
 use mathlib.Core.Path.{_≡_, refl, sym, ap, ap₂, _∙_, subst}
 use mathlib.Core.Bool.{Bool, true, false}
 use mathlib.Core.List.{List, [], _∷_, append-nil}
@@ -12,7 +12,8 @@ use Rattle.rules.specs.declared.Answer.the-variants.{Done}
 use Rattle.rules.specs.declared.Check.{Check}
 use Rattle.rules.specs.declared.Check.the-variants.{Passed, Fault}
 use Rattle.rules.specs.Lists.{In, from}
-use Rattle.rules.specs.Words.{Input, Room}
+use Rattle.rules.specs.declared.Room.{Room}
+use Rattle.rules.specs.Words.{Input}
 use Rattle.rules.specs.Answers.{Accepted}
 use Rattle.rules.specs.Depth.{Ranking}
 use Rattle.rules.specs.Pairs.{Pair, initialPair, targets}

@@ -1,4 +1,5 @@
--- The new numbers, the map, and the vertices that are written: how many, which, and that they have no more edges than the game. Assumes nothing.
+-- The new numbers, the map, and the vertices that are written: how many, which, and that they have no more edges than
+-- the game. Assumes nothing.
 use mathlib.Core.Path.{_≡_, refl, sym, ap, ap₂, _∙_, subst}
 use mathlib.Core.List.{List, [], _∷_, map}
 use Prim.Native.Nat.{ℕ, zero, suc, _+_, _-_, _≤_, _<_}

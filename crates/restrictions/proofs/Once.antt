@@ -1,5 +1,6 @@
--- `Restricts` leaves nothing open: two slices of one length that satisfy it for the same game are equal, and so are the maps, the answers and the vertices met.
--- So no wrong program can satisfy it, whatever one thinks of the definition of a restriction. Assumes nothing.
+-- `Restricts` leaves nothing open: two slices of one length that satisfy it for the same game are equal, and so are the
+-- maps, the answers and the vertices met. So no wrong program can satisfy it, whatever one thinks of the definition of
+-- a restriction. Assumes nothing.
 use mathlib.Core.Path.{_≡_, sym, ap, ap₂, _∙_, subst}
 use mathlib.Core.List.{List, map}
 use mathlib.Core.Logic.{_⊎_, inl, inr}

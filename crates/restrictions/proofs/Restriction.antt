@@ -1,8 +1,9 @@
--- What a restriction leaves satisfies `Restricts`, for all words and lent slices that are not refused; a refusal alters nothing. Assumes nothing.
+-- What a restriction leaves satisfies `Restricts`, for all words and lent slices that are not refused; a refusal alters
+-- nothing. Assumes nothing.
 use mathlib.Core.Path.{_≡_, refl, sym, ap, ap₂, _∙_, subst}
 use mathlib.Core.List.{List, [], _∷_, map}
 use mathlib.Core.Logic.{inl, inr, _↔_}
-use Prim.Native.Nat.{ℕ, zero, _+_, _-_, _≤_, _<_}
+use Prim.Native.Nat.{ℕ, _-_, _≤_, _<_}
 use native.Mathlib.Omega.{arith}
 use lib.ListN.{length, getD, replicate, length-append, length-replicate}
 use Rattle.rules.specs.declared.Answer.the-variants.{Done, Refused}

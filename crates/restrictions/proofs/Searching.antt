@@ -1,5 +1,5 @@
--- The search meets exactly the vertices that a chain of edges leads to from the initial vertex, each once; as many turns as there are vertices are enough; and
--- nothing about it is left open. Assumes nothing.
+-- The search meets exactly the vertices that a chain of edges leads to from the initial vertex, each once; as many
+-- turns as there are vertices are enough; and nothing about it is left open. Assumes nothing.
 use mathlib.Core.Path.{_≡_, refl, sym, subst}
 use mathlib.Core.Bool.{Bool, true, false, cond}
 use mathlib.Core.List.{List, [], _∷_}

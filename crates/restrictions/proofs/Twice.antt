@@ -1,7 +1,7 @@
--- Restricting twice: the result of a restriction, without the words past its end, is accepted, and its restriction gives the same words and sends each vertex to
--- itself. Assumes nothing.
+-- Restricting twice: the result of a restriction, without the words past its end, is accepted, and its restriction
+-- gives the same words and sends each vertex to itself. Assumes nothing.
 use mathlib.Core.Path.{_≡_, sym, ap, _∙_, subst}
-use mathlib.Core.List.{List, [], _++_, append-nil}
+use mathlib.Core.List.{List, _++_, append-nil}
 use Prim.Native.Nat.{ℕ, _+_, _-_, _<_}
 use native.Mathlib.Omega.{arith}
 use lib.ListN.{length, getD, take, replicate}

@@ -1,4 +1,5 @@
--- What holds of the words of a game that is not refused (theorem `good-game`): its sizes, its offsets, and where its edges lead. Assumes nothing: this is a statement.
+-- What holds of the words of a game that is not refused (theorem `good-game`): its sizes, its offsets, and where its
+-- edges lead. Assumes nothing: this is a statement.
 use mathlib.Core.Path.{_≡_}
 use mathlib.Core.List.{List}
 use Prim.Native.Nat.{ℕ, suc, _≤_, _<_}

@@ -1,4 +1,5 @@
--- What the restriction of a game leaves where no vertex is lost: as many vertices and edges, and a map that renumbers all vertices. Assumes nothing: this is a statement.
+-- What the restriction of a game leaves where no vertex is lost: as many vertices and edges, and a map that renumbers
+-- all vertices. Assumes nothing: this is a statement.
 use mathlib.Core.Path.{_≡_}
 use mathlib.Core.List.{List}
 use Prim.Native.Nat.{ℕ, _<_}

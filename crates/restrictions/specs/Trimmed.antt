@@ -1,4 +1,5 @@
--- The words of a game without those past its end: so it is handed over to be restricted, whose length must be exactly that of the game. Assumes nothing: this is a definition.
+-- The words of a game without those past its end: so it is handed over to be restricted, whose length must be exactly
+-- that of the game. Assumes nothing: this is a definition.
 use mathlib.Core.List.{List}
 use Prim.Native.Nat.{ℕ}
 use lib.ListN.{take}

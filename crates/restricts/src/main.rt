@@ -1,5 +1,6 @@
-// Restricts games that stand on standard input as little-endian words: for each the lengths of the game and of the three lent slices, then the game's words.
-// Prints lines as `replay` does; each word of the lent slices is 7 before. A length above 4,096 counts as 4,096.
+// Restricts games that stand on standard input as little-endian words: for each the lengths of the game and of the
+// three lent slices, then the game's words. Prints lines as `replay` does; each word of the lent slices is 7 before. A
+// length above 4,096 counts as 4,096.
 use libc::STDIN_FILENO;
 ghost use Prim.Native.Nat.{_+_, _*_, _≤_, _<_};
 ghost use lib.ListN.{length};

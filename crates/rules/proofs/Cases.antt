@@ -14,7 +14,8 @@ use Rattle.rules.specs.declared.Answer.the-variants.{Done, Cut, Refused}
 use Rattle.rules.specs.declared.Check.{Check}
 use Rattle.rules.specs.declared.Check.the-variants.{Passed, Fault}
 use Rattle.rules.specs.Lists.{from}
-use Rattle.rules.specs.Words.{Input, Room, inputOf, roomOf, gameLength, workLength}
+use Rattle.rules.specs.declared.Room.{Room}
+use Rattle.rules.specs.Words.{Input, inputOf, roomOf, gameLength, workLength}
 use Rattle.rules.specs.Formula.{equationCount}
 use Rattle.rules.specs.Depth.{depth, byDepth}
 use Rattle.rules.specs.Items.{items}

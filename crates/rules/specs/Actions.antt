@@ -1,5 +1,5 @@
--- Action formulas (document 01, "Matching": "An action formula is decided by its tree; a multi-action matches a label with the same multiset, repeats
--- counted"). Assumes nothing: these are definitions.
+-- Action formulas (document 01, "Matching": "An action formula is decided by its tree; a multi-action matches a label
+-- with the same multiset, repeats counted"). Assumes nothing: these are definitions.
 use Prim.Native.Nat.{ℕ, zero, suc}
 use mathlib.Core.Bool.{Bool, true, false, not, _&&_, _||_}
 use mathlib.Core.List.{List}
@@ -15,7 +15,8 @@ pub data Action : Type 0 where
   union intersection : (left right : Action) → Action
   negation : (action : Action) → Action
 
--- the tree of node v, given the trees of other nodes. The last case is never met in accepted words (theorem `actions-known`)
+-- the tree of node v, given the trees of other nodes. The last case is never met in accepted words
+-- (theorem `actions-known`)
 unfoldable pub actionOf : (ℕ → Action) → List ℕ → ℕ → ActionNode → Action
 actionOf tree ls v trueNode = anyAction
 actionOf tree ls v falseNode = neverAction

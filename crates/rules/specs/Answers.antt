@@ -8,8 +8,8 @@ use Rattle.rules.specs.declared.Answer.the-variants.{Done, Cut, Refused}
 use Rattle.rules.specs.declared.Check.{Check}
 use Rattle.rules.specs.declared.Check.the-variants.{Passed, Fault}
 
--- "Done (steps, vertices, edges), Cut (steps, vertices known, edges) or Refused (number, place)" as four words. 01 has no number for the three: 0, 1, 2 are
--- this project's, and unused values are 0
+-- "Done (steps, vertices, edges), Cut (steps, vertices known, edges) or Refused (number, place)" as four words. 01 has
+-- no number for the three: 0, 1, 2 are this project's, and unused values are 0
 unfoldable pub said : Answer → List ℕ
 said (Done s v e) = 0 ∷ s ∷ v ∷ e ∷ []
 said (Cut s v e) = 1 ∷ s ∷ v ∷ e ∷ []

@@ -13,7 +13,8 @@ use Rattle.player.specs.declared.Player.{Player}
 use Rattle.rules.specs.declared.Answer.{Answer}
 use Rattle.rules.specs.declared.Answer.the-variants.{Done, Cut, Refused}
 use Rattle.rules.specs.Lists.{word, sum, zeros, In, Distinct}
-use Rattle.rules.specs.Words.{Input, Room}
+use Rattle.rules.specs.declared.Room.{Room}
+use Rattle.rules.specs.Words.{Input}
 use Rattle.rules.specs.Answers.{Accepted}
 use Rattle.rules.specs.System.{stateCount}
 use Rattle.rules.specs.Depth.{Ranking}
@@ -36,7 +37,8 @@ abbrev pub Waits : {A : Type 0} → List A → List ℕ → ℕ → Type 0
 Waits known settled v = (v < length known) × (¬ In v settled)
 
 module _ {A : Type 0} (next : A → List A) (root : A) where
-  -- After k steps: the known pairs by number, and the settled vertices, the latest first. "A step takes the waiting vertex that was numbered last, settles it"
+  -- After k steps: the known pairs by number, and the settled vertices, the latest first. "A step takes the waiting
+  -- vertex that was numbered last, settles it"
   pub data After : ℕ → List A → List ℕ → Type 0 where
     start : After zero (root ∷ []) []
     settles : {k : ℕ} {known more : List A} {settled : List ℕ} (v : ℕ) → After k known settled → Waits known settled v
@@ -61,8 +63,8 @@ Lead x ps [] (q ∷ qs) = ⊥
 Lead x ps (u ∷ us) [] = ⊥
 Lead x ps (u ∷ us) (q ∷ qs) = Stands x ps u q × Lead x ps us qs
 
--- "A settled vertex without targets gets an edge to itself, and priority 0 if Odd, 1 if Even": the vertex; its owner, priority and edges by the rules; the priority
--- shown and the edges added
+-- "A settled vertex without targets gets an edge to itself, and priority 0 if Odd, 1 if Even": the vertex; its owner,
+-- priority and edges by the rules; the priority shown and the edges added
 abbrev pub Totalised : ℕ → Player → ℕ → List ℕ → ℕ → List ℕ → Type 0
 Totalised v o p [] shown added = (shown ≡ stuckPriority o) × (added ≡ v ∷ [])
 Totalised v o p (t ∷ ts) shown added = (shown ≡ p) × (added ≡ [])

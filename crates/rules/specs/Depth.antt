@@ -25,13 +25,13 @@ alternates least greatest = 1
 alternates greatest least = 1
 alternates greatest greatest = 0
 
--- what a reference to j in the body of i counts when i is read for t, given the reading of j: "1 for t itself; for a later equation j, the reading of j for t,
--- plus 1 if the operators of i and j differ; 0 for any other"
+-- what a reference to j in the body of i counts when i is read for t, given the reading of j: "1 for t itself; for a
+-- later equation j, the reading of j for t, plus 1 if the operators of i and j differ; 0 for any other"
 unfoldable pub contribution : List ℕ → (t i j reading : ℕ) → ℕ
 contribution f t i j reading = cond (eqb j t) 1 (cond (ltb i j) (reading + alternates (equationOf f i .operator) (equationOf f j .operator)) 0)
 
--- "To read equation i for target t, take the largest of these over the references in its body, 0 if there are none", read to a depth. Only later equations are entered,
--- so their count is deep enough: `ReadingEquation`
+-- "To read equation i for target t, take the largest of these over the references in its body, 0 if there are none",
+-- read to a depth. Only later equations are entered, so their count is deep enough: `ReadingEquation`
 unfoldable pub readingTo : (depth : ℕ) → Input → (t i : ℕ) → ℕ
 readingTo zero x t i = 0
 readingTo (suc d) x t i = largest (map (λ j. let r = readingTo d x t j in contribution (x .formula) t i j r) (references (bodyTree x (equationOf (x .formula) i))))

@@ -1,6 +1,7 @@
--- What is wrong with an input, in the words of document 01 ("Who can cause a refusal"): one clause for each condition, with its number and its place. A clause speaks
--- of one word or one node; that earlier numbers pass is not asked. Theorem `exact`: a run is refused with the first of these, and with none if there is none.
--- Assumes nothing: these are definitions.
+-- What is wrong with an input, in the words of document 01 ("Who can cause a refusal"): one clause for each condition,
+-- with its number and its place. A clause speaks of one word or one node; that earlier numbers pass is not asked.
+-- Theorem `exact`: a run is refused with the first of these, and with none if there is none. Assumes nothing: these are
+-- definitions.
 use mathlib.Core.Path.{_≡_}
 use mathlib.Core.List.{List, [], _∷_}
 use mathlib.Core.Logic.{_⊎_}
@@ -8,7 +9,8 @@ use mathlib.Core.Option.{none, some}
 use Prim.Native.Nat.{ℕ, suc, _+_, _*_, _≤_, _<_}
 use lib.ListN.{length}
 use Rattle.rules.specs.Lists.{word, sumWords, In}
-use Rattle.rules.specs.Words.{Input, Room, mostLabels, mostActions, mostStates, mostTransitions, mostNodes, mostVertices, mostEdges, gameLength, workLength}
+use Rattle.rules.specs.declared.Room.{Room}
+use Rattle.rules.specs.Words.{Input, mostLabels, mostActions, mostStates, mostTransitions, mostNodes, mostVertices, mostEdges, gameLength, workLength}
 use Rattle.rules.specs.Labels.{labelCount, actionCount}
 use Rattle.rules.specs.System.{stateCount, transitionCount, initialState, transitionLabel, transitionTarget}
 use Rattle.rules.specs.Table.{size, kind, operand, actionChildren, formulaChildren, treeEnd}
@@ -23,7 +25,8 @@ pub data FaultyRoom (r : Room) (game work : ℕ) : (n p : ℕ) → Type 0 where
   wrongGame : (¬ (game ≡ gameLength r)) → FaultyRoom r game work 2 0
   wrongWork : (¬ (work ≡ workLength r)) → FaultyRoom r game work 2 0
 
--- "11: label words fewer than 2 or not 2 + 2A. 12: L or A too large. 13: a label number is L or more, or falls": the label numbers are the words from 2 on
+-- "11: label words fewer than 2 or not 2 + 2A. 12: L or A too large. 13: a label number is L or more, or falls": the
+-- label numbers are the words from 2 on
 pub data FaultyLabels (ls : List ℕ) : (n p : ℕ) → Type 0 where
   fewLabelWords : length ls < 2 → FaultyLabels ls 11 0
   wrongLabelWords : (¬ (length ls ≡ 2 + 2 * actionCount ls)) → FaultyLabels ls 11 0
@@ -32,8 +35,8 @@ pub data FaultyLabels (ls : List ℕ) : (n p : ℕ) → Type 0 where
   labelTooLarge : (w : ℕ) → 2 ≤ w → w < 2 + actionCount ls → labelCount ls ≤ word ls w → FaultyLabels ls 13 w
   labelFalls : (w : ℕ) → 2 ≤ w → suc w < 2 + actionCount ls → word ls (suc w) < word ls w → FaultyLabels ls 13 (suc w)
 
--- "21: system words fewer than 3 or not 3 + S + 2T. 22: S or T out of range. 23: initial state. 24: degrees don't sum to T (place 1). 25: label. 26: target";
--- for l labels
+-- "21: system words fewer than 3 or not 3 + S + 2T. 22: S or T out of range. 23: initial state. 24: degrees don't sum
+-- to T (place 1). 25: label. 26: target"; for l labels
 pub data FaultySystem (l : ℕ) (ss : List ℕ) : (n p : ℕ) → Type 0 where
   fewSystemWords : length ss < 3 → FaultySystem l ss 21 0
   wrongSystemWords : (¬ (length ss ≡ 3 + stateCount ss + 2 * transitionCount ss)) → FaultySystem l ss 21 0
@@ -45,8 +48,9 @@ pub data FaultySystem (l : ℕ) (ss : List ℕ) : (n p : ℕ) → Type 0 where
   wrongLabel : (t : ℕ) → t < transitionCount ss → l ≤ transitionLabel ss t → FaultySystem l ss 25 (3 + stateCount ss + t)
   wrongTarget : (t : ℕ) → t < transitionCount ss → stateCount ss ≤ transitionTarget ss t → FaultySystem l ss 26 (3 + stateCount ss + transitionCount ss + t)
 
--- "31: no action words, or not 1 + 2m. 32: m. 33: kind above 5. 34: operand or unfinished tree"; for l labels. "Operands of 0, 1, 5 are 0"; of a multi-action a
--- label; "the operand of 3 and 4 is the right child, just past the left child's tree", and "isn't judged if its left tree is unfinished"
+-- "31: no action words, or not 1 + 2m. 32: m. 33: kind above 5. 34: operand or unfinished tree"; for l labels.
+-- "Operands of 0, 1, 5 are 0"; of a multi-action a label; "the operand of 3 and 4 is the right child, just past the
+-- left child's tree", and "isn't judged if its left tree is unfinished"
 pub data FaultyActions (l : ℕ) (acts : List ℕ) : (n p : ℕ) → Type 0 where
   noActionWords : length acts ≡ 0 → FaultyActions l acts 31 0
   wrongActionWords : (¬ (length acts ≡ 1 + 2 * size acts)) → FaultyActions l acts 31 0
@@ -66,8 +70,9 @@ pub record EnclosingFixpoint (f : List ℕ) (u v : ℕ) : Type 0 where
   pub ends : treeEnd (formulaChildren f) (size f) u ≡ some past
   pub inside : v < past
 
--- "41: no formula words, or not 1 + 2n. 42: n. 43: kind above 8. 44: operand of kinds 0 to 7, unfinished tree, or nodes left over"; "45: reference"; "Operands of 0, 1,
--- 6, 7 are 0"; of 2 and 3 the right child; of 4 and 5 the "first node of one of the row's trees" of the action formulas
+-- "41: no formula words, or not 1 + 2n. 42: n. 43: kind above 8. 44: operand of kinds 0 to 7, unfinished tree, or nodes
+-- left over"; "45: reference"; "Operands of 0, 1, 6, 7 are 0"; of 2 and 3 the right child; of 4 and 5 the "first node
+-- of one of the row's trees" of the action formulas
 pub data FaultyFormula (acts f : List ℕ) : (n p : ℕ) → Type 0 where
   noFormulaWords : length f ≡ 0 → FaultyFormula acts f 41 0
   wrongFormulaWords : (¬ (length f ≡ 1 + 2 * size f)) → FaultyFormula acts f 41 0

@@ -1,5 +1,6 @@
--- Equations and bodies (document 01, "Equations": "Nodes of kind 6 and 7, in table order, are equations 0, 1 and so on. If node 0 is neither, a placeholder
--- least equation with the whole formula as body comes first. In a body each inner fixpoint stands as a reference to its own equation"). Assumes nothing: these are definitions.
+-- Equations and bodies (document 01, "Equations": "Nodes of kind 6 and 7, in table order, are equations 0, 1 and so on.
+-- If node 0 is neither, a placeholder least equation with the whole formula as body comes first. In a body each inner
+-- fixpoint stands as a reference to its own equation"). Assumes nothing: these are definitions.
 use Prim.Native.Nat.{ℕ, zero, suc, _-_}
 use mathlib.Core.Bool.{Bool, cond}
 use mathlib.Core.List.{List, [], _∷_, _++_}
@@ -60,7 +61,8 @@ pub data Formula : Type 0 where
   box diamond : (action : Action) (formula : Formula) → Formula
   reference : (equation : ℕ) → Formula
 
--- the subformula of node v, given those of other nodes. The last case is never met in accepted words (theorem `formula-known`)
+-- the subformula of node v, given those of other nodes. The last case is never met in accepted words
+-- (theorem `formula-known`)
 unfoldable pub formulaOf : (ℕ → Formula) → Input → ℕ → FormulaNode → Formula
 formulaOf tree x v truthNode = truth
 formulaOf tree x v falsityNode = falsity

@@ -1,5 +1,6 @@
--- Games (document 01, "Words handed over": "A game is: vertices, edges, initial vertex; owners and priorities; then the offsets, one more than there are vertices; then
--- the targets. Words past its end are 0. A cut game shows a waiting vertex with owner 2, priority 0 and no edges"). Assumes nothing: these are definitions.
+-- Games (document 01, "Words handed over": "A game is: vertices, edges, initial vertex; owners and priorities; then the
+-- offsets, one more than there are vertices; then the targets. Words past its end are 0. A cut game shows a waiting
+-- vertex with owner 2, priority 0 and no edges"). Assumes nothing: these are definitions.
 use Prim.Native.Nat.{ℕ, suc, _+_, _*_, _-_}
 use mathlib.Core.Bool.{Bool, cond}
 use mathlib.Core.List.{List, [], _∷_, _++_, map}

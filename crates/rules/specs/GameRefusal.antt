@@ -1,5 +1,5 @@
--- Why a game that is handed over is refused (document 01, "Whoever hands a game to the restriction"): one definition for each number, with its place, a word number.
--- Assumes nothing: these are definitions.
+-- Why a game that is handed over is refused (document 01, "Whoever hands a game to the restriction"): one definition
+-- for each number, with its place, a word number. Assumes nothing: these are definitions.
 use Prim.Native.Nat.{ℕ, _+_, _-_}
 use mathlib.Core.Bool.{Bool, _||_}
 use mathlib.Core.List.{List, [], _∷_}
@@ -28,7 +28,8 @@ refusal51 g =
 unfoldable pub falls : List ℕ → ℕ → Bool
 falls g w = ltb (word g w) (word g (w - 1))
 
--- "52: offsets don't begin at 0, fall (at the later word), or don't end at the edge count": they are the words from 3 + 2n to 3 + 3n (decision C6)
+-- "52: offsets don't begin at 0, fall (at the later word), or don't end at the edge count": they are the words from
+-- 3 + 2n to 3 + 3n (decision C6)
 unfoldable pub refusal52 : List ℕ → Check
 refusal52 g =
     lowerFault (faultIf 52 (offsetsAt g) (differ (offsetIn g 0) 0))

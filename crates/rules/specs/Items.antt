@@ -1,5 +1,6 @@
--- Items (document 01, "Items": "Equations are items. So are body subformulas, and two that are alike as trees, action trees included, are one .. Equations are
--- numbered first, then subformulas by the lowest node that carries them in a body"). Assumes nothing: these are definitions.
+-- Items (document 01, "Items": "Equations are items. So are body subformulas, and two that are alike as trees, action
+-- trees included, are one .. Equations are numbered first, then subformulas by the lowest node that carries them in a
+-- body"). Assumes nothing: these are definitions.
 use Prim.Native.Nat.{ℕ, _+_}
 use mathlib.Core.Bool.{Bool, true, false, _&&_}
 use mathlib.Core.List.{List, _++_, map}
@@ -9,7 +10,8 @@ use Rattle.rules.specs.Words.{Input}
 use Rattle.rules.specs.Actions.{Action, anyAction, neverAction, multiAction, union, intersection, negation}
 use Rattle.rules.specs.Formula.{Equation, equations, equationCount, Formula, truth, falsity, conjunction, disjunction, box, diamond, reference, formulaTree, bodyNodes}
 
--- ---- alike as trees: both kinds of trees are seen as plain ones, of which two are alike if all four parts are (theorem `alike-equal`: alike trees are equal)
+-- ---- alike as trees: both kinds of trees are seen as plain ones, of which two are alike if all four parts are
+-- (theorem `alike-equal`: alike trees are equal)
 
 pub data Tree : Type 0 where
   leaf : Tree

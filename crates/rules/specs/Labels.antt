@@ -27,7 +27,7 @@ times ls l a = tally (λ p. eqb (labelAt ls p) l && eqb (actionAt ls p) a) 0 (ac
 unfoldable pub sameLabel : List ℕ → ℕ → ℕ → Bool
 sameLabel ls l m = every (λ p. eqb (times ls l (actionAt ls p)) (times ls m (actionAt ls p))) 0 (actionCount ls)
 
--- The multiset of label l, named by the lowest label that is the same. Two labels have the same name exactly if every action occurs equally often in
--- both (theorem `multiset-same`)
+-- The multiset of label l, named by the lowest label that is the same. Two labels have the same name exactly if every
+-- action occurs equally often in both (theorem `multiset-same`)
 unfoldable pub multiset : List ℕ → ℕ → ℕ
 multiset ls l = seek (λ j. sameLabel ls j l) 0 l

@@ -1,6 +1,7 @@
--- Lists: what the other modules say of them. An element type comes with a test `same` of two elements, which the theorems take to be equality.
--- Assumes nothing: these are definitions.
--- Where a test chooses between two values, of which one calls the definition itself, that value is bound by `let`: then antt computes it only if it is chosen.
+-- Lists: what the other modules say of them. An element type comes with a test `same` of two elements, which the
+-- theorems take to be equality. Assumes nothing: these are definitions.
+-- A definition that calls itself behind a test binds that call by `let`: antt then computes it only where the test
+-- chooses it.
 use mathlib.Core.Path.{_≡_}
 use mathlib.Core.Bool.{Bool, true, false, cond, _&&_, _||_}
 use mathlib.Core.List.{List, [], _∷_, _++_}

@@ -1,4 +1,5 @@
--- Pairs of a state and an item number: owner, priority and targets (document 01, "One step", "Pairs"). Only this module looks into items. Assumes nothing: these are definitions.
+-- Pairs of a state and an item number: owner, priority and targets (document 01, "One step", "Pairs"). Only this module
+-- looks into items. Assumes nothing: these are definitions.
 use Prim.Native.Nat.{ℕ}
 use mathlib.Core.Bool.{Bool, cond, _&&_}
 use mathlib.Core.List.{List, [], _∷_, map}
@@ -30,7 +31,8 @@ initialPair x = (initialState (x .system), 0)
 unfoldable pub itemAt : Input → ℕ → Item
 itemAt x q = getD (items x) q (subformula truth)
 
--- ---- owners: "least Odd, greatest Even", "True: Odd. False: Even", "And: Odd. Or: Even", "Reference: Odd", "Box: Odd. Diamond: Even"
+-- ---- owners: "least Odd, greatest Even", "True: Odd. False: Even", "And: Odd. Or: Even", "Reference: Odd", "Box: Odd.
+-- Diamond: Even"
 
 unfoldable pub operatorOwner : Operator → Player
 operatorOwner least = Odd

@@ -1,5 +1,6 @@
--- The thin program (document 01, "A thin program reads little-endian words from standard input: four lengths, then labels, system, action formulas, formula"): the bytes that it
--- writes, as a function of the bytes that it reads. Assumes nothing: these are definitions.
+-- The thin program (document 01, "A thin program reads little-endian words from standard input: four lengths, then
+-- labels, system, action formulas, formula"): the bytes that it writes, as a function of the bytes that it reads.
+-- Assumes nothing: these are definitions.
 use Prim.Native.Nat.{ℕ, zero, suc, _+_, _*_}
 use mathlib.Core.Bool.{Bool, cond, _||_}
 use mathlib.Core.List.{List, [], _∷_, _++_}
@@ -9,7 +10,8 @@ use lib.Dec.{ltb}
 use Rattle.rules.specs.declared.Answer.{Answer}
 use Rattle.rules.specs.declared.Answer.the-variants.{Done, Cut, Refused}
 use Rattle.rules.specs.Lists.{word, sum}
-use Rattle.rules.specs.Words.{Input, Room, inputOf, roomOf, gameLength, workLength}
+use Rattle.rules.specs.declared.Room.{Room}
+use Rattle.rules.specs.Words.{Input, inputOf, roomOf, gameLength, workLength}
 use Rattle.rules.specs.Depth.{byDepth}
 use Rattle.rules.specs.Game.{vertexCount, ownerIn, priorityIn, targetsIn}
 use Rattle.rules.specs.Refusal.{differ}

@@ -1,5 +1,6 @@
--- Reachable pairs (document 01, "Pairs": "A pair is reachable if it is (initial state, equation 0) or a chain of targets leads from that one to it"), and N.
--- No walk, ranking, limit or room is mentioned here. Assumes nothing: these are definitions.
+-- Reachable pairs (document 01, "Pairs": "A pair is reachable if it is (initial state, equation 0) or a chain of
+-- targets leads from that one to it"), and N. No walk, ranking, limit or room is mentioned here. Assumes nothing: these
+-- are definitions.
 use Prim.Native.Nat.{ℕ, zero, suc, _*_}
 use mathlib.Core.Bool.{Bool}
 use mathlib.Core.List.{List, [], _∷_, _++_}

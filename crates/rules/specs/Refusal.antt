@@ -1,6 +1,7 @@
--- Why a run is refused before it begins (document 01, "Who can cause a refusal"): one definition for each number, with its place. "Within a number the smallest place
--- wins"; "The place is a word number (13, 23, 25, 26, 52, 53), a node number (33, 34, 43, 44, 45; an unfinished tree gives the node count, leftovers their first
--- node), else 0 unless said". All sums are of integers: none wraps. Assumes nothing: these are definitions.
+-- Why a run is refused before it begins (document 01, "Who can cause a refusal"): one definition for each number, with
+-- its place. "Within a number the smallest place wins"; "The place is a word number (13, 23, 25, 26, 52, 53), a node
+-- number (33, 34, 43, 44, 45; an unfinished tree gives the node count, leftovers their first node), else 0 unless
+-- said". All sums are of integers: none wraps. Assumes nothing: these are definitions.
 use Prim.Native.Nat.{ℕ, suc, _+_, _*_, _-_, min}
 use mathlib.Core.Bool.{Bool, false, not, _&&_, _||_}
 use mathlib.Core.List.{List, [], _∷_}
@@ -10,7 +11,8 @@ use lib.Dec.{eqb, ltb, leb}
 use Rattle.rules.specs.declared.Check.{Check}
 use Rattle.rules.specs.declared.Check.the-variants.{Passed, Fault}
 use Rattle.rules.specs.Lists.{word, seek, sumWords}
-use Rattle.rules.specs.Words.{Input, Room, mostLabels, mostActions, mostStates, mostTransitions, mostNodes, mostVertices, mostEdges, gameLength, workLength}
+use Rattle.rules.specs.declared.Room.{Room}
+use Rattle.rules.specs.Words.{Input, mostLabels, mostActions, mostStates, mostTransitions, mostNodes, mostVertices, mostEdges, gameLength, workLength}
 use Rattle.rules.specs.Answers.{faultIf, firstFault}
 use Rattle.rules.specs.Labels.{labelCount, actionCount}
 use Rattle.rules.specs.System.{stateCount, transitionCount, initialState}
@@ -57,7 +59,8 @@ refusal11 ls = faultIf 11 0 (ltb (length ls) 2 || differ (length ls) (2 + 2 * ac
 unfoldable pub refusal12 : List ℕ → Check
 refusal12 ls = faultIf 12 0 (ltb mostLabels (labelCount ls) || ltb mostActions (actionCount ls))
 
--- the word w is a label number that is L or more, or less than the one before it: the label numbers are the words from 2 on (decision A3)
+-- the word w is a label number that is L or more, or less than the one before it: the label numbers are the words from
+-- 2 on (decision A3)
 unfoldable pub badLabel : List ℕ → ℕ → Bool
 badLabel ls w = leb (labelCount ls) (word ls w) || (ltb 2 w && ltb (word ls w) (word ls (w - 1)))
 

@@ -1,5 +1,6 @@
--- The restriction (document 01, "Restriction": "From the initial vertex, breadth first, targets in order; the first met gets the next number; owners, priorities and edge
--- order stay. The map holds 4,294,967,295 for a vertex not reached"). Assumes nothing: these are definitions.
+-- The restriction (document 01, "Restriction": "From the initial vertex, breadth first, targets in order; the first met
+-- gets the next number; owners, priorities and edge order stay. The map holds 4,294,967,295 for a vertex not reached").
+-- Assumes nothing: these are definitions.
 use Prim.Native.Nat.{ℕ, zero, suc}
 use mathlib.Core.Bool.{cond, _||_}
 use mathlib.Core.List.{List, [], _∷_, map}
@@ -18,8 +19,9 @@ use Rattle.rules.specs.GameRefusal.{gameRefusal}
 
 -- ---- the search
 
--- The vertices met, by their new numbers, once those numbered from i on have been gone through in turn, at most `turns` of them: the targets of each that are new
--- get the next numbers, in order. Without turns it is the relation `Searched` (theorem `reached-searched`)
+-- The vertices met, by their new numbers, once those numbered from i on have been gone through in turn, at most `turns`
+-- of them: the targets of each that are new get the next numbers, in order. Without turns it is the relation `Searched`
+-- (theorem `reached-searched`)
 unfoldable pub searchFrom : List ℕ → (turns i : ℕ) → List ℕ → List ℕ
 searchFrom g zero i met = met
 searchFrom g (suc turns) i met =
@@ -53,7 +55,8 @@ vertexMap g met = map (newNumber met) (from 0 (vertexCount g))
 
 -- ---- the answer, and what the lent slices hold afterwards
 
--- "For the restriction: output as long as the input, map and work as many words as vertices"; "51, 52, 53, then 2". The lengths are those of the lent slices
+-- "For the restriction: output as long as the input, map and work as many words as vertices"; "51, 52, 53, then 2". The
+-- lengths are those of the lent slices
 unfoldable pub restrictionRefusal : List ℕ → (out mapping work : ℕ) → Check
 restrictionRefusal g out mapping work =
     andThen (gameRefusal g) (faultIf 2 0 (differ out (length g) || (differ mapping (vertexCount g) || differ work (vertexCount g))))

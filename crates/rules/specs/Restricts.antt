@@ -1,4 +1,5 @@
--- What users of the restriction rely on, said of the words that stand in the lent slices afterwards. Assumes nothing: these are statements.
+-- What users of the restriction rely on, said of the words that stand in the lent slices afterwards. Assumes nothing:
+-- these are statements.
 use mathlib.Core.Path.{_≡_}
 use mathlib.Core.List.{List, [], _∷_, map}
 use mathlib.Core.Logic.{_↔_}
@@ -13,8 +14,8 @@ use Rattle.rules.specs.Game.{vertexCount, edgesIn, initialIn, ownerIn, p
 use Rattle.rules.specs.FaultyGame.{FaultyGame, FirstFaultyGame}
 use Rattle.rules.specs.Demands.{Numbers}
 
--- "breadth first, targets in order; the first met gets the next number" as a relation: the vertices met once the first i of them have been gone through, the
--- least number first
+-- "breadth first, targets in order; the first met gets the next number" as a relation: the vertices met once the first
+-- i of them have been gone through, the least number first
 pub data Searched (g : List ℕ) : ℕ → List ℕ → Type 0 where
   begun : Searched g zero (initialIn g ∷ [])
   gone : {i : ℕ} {met more : List ℕ} → Searched g i met → i < length met → Numbers met (targetsIn g (getD met i 0)) more → Searched g (suc i) more
@@ -30,7 +31,8 @@ pub record Restricts (g : List ℕ) (a : Answer) (h ns met : List ℕ) : Type 0 
   -- Done (n, n, m), and vertex 0 is the initial vertex
   pub answer : a ≡ Done (length met) (length met) (edgesIn h)
   pub first : (vertexCount h ≡ length met) × (initialIn h ≡ 0) × (getD met 0 0 ≡ initialIn g)
-  -- the map sends a reachable vertex to its new number, so different ones to different numbers, and any other vertex to 4,294,967,295
+  -- the map sends a reachable vertex to its new number, so different ones to different numbers, and any other vertex to
+  -- 4,294,967,295
   pub mapped : length ns ≡ vertexCount g
   pub sends : (v : ℕ) → Reachable (targetsIn g) (initialIn g) v → (word ns v < length met) × (getD met (word ns v) 0 ≡ v)
   pub leaves : (v : ℕ) → v < vertexCount g → (¬ Reachable (targetsIn g) (initialIn g) v) → word ns v ≡ 4_294_967_295

@@ -1,4 +1,5 @@
--- The first nodes of a row's trees, without a search: 0, and the end of each tree that begins at one. Assumes nothing: these are definitions.
+-- The first nodes of a row's trees, without a search: 0, and the end of each tree that begins at one. Assumes nothing:
+-- these are definitions.
 use mathlib.Core.Path.{_≡_}
 use mathlib.Core.Bool.{true}
 use mathlib.Core.Option.{some}

@@ -1,4 +1,5 @@
--- What a run answers, and what the slices lent to it hold afterwards (document 01, "Who can cause a refusal"). Assumes nothing: these are definitions.
+-- What a run answers, and what the slices lent to it hold afterwards (document 01, "Who can cause a refusal"). Assumes
+-- nothing: these are definitions.
 use Prim.Native.Nat.{ℕ, _-_}
 use mathlib.Core.Bool.{Bool, cond, _||_}
 use mathlib.Core.List.{List, [], _∷_}
@@ -9,7 +10,8 @@ use Rattle.rules.specs.declared.Answer.the-variants.{Done, Cut, Refused}
 use Rattle.rules.specs.declared.Check.{Check}
 use Rattle.rules.specs.declared.Check.the-variants.{Passed, Fault}
 use Rattle.rules.specs.Lists.{zeros}
-use Rattle.rules.specs.Words.{Input, Room}
+use Rattle.rules.specs.declared.Room.{Room}
+use Rattle.rules.specs.Words.{Input}
 use Rattle.rules.specs.Depth.{Ranking}
 use Rattle.rules.specs.Pairs.{Pair, samePair, initialPair, owner, priority, targets}
 use Rattle.rules.specs.Walk.{Stand, walk}
@@ -29,7 +31,8 @@ walkOf x k = walk samePair (targets x) (initialPair x) k
 unfoldable pub verticesOf : Ranking → Input → Stand Pair → List Vertex
 verticesOf rank x st = vertices samePair (targets x) (initialPair x) (owner x) (priority rank x) st
 
--- "60: within the first k steps the vertices known exceed V or the edges, added self-loops included, exceed E". Neither ever falls, so it is told after k steps
+-- "60: within the first k steps the vertices known exceed V or the edges, added self-loops included, exceed E". Neither
+-- ever falls, so it is told after k steps
 unfoldable pub exceeds : Room → List Vertex → Bool
 exceeds r vs = ltb (r .vertices) (length vs) || ltb (r .edges) (edgeCount vs)
 

@@ -1,5 +1,6 @@
 -- The transition system (document 01, "Words handed over": "S (1 to 65,535), T (0 to 262,144), initial state, S
--- out-degrees summing to T; then T labels and T targets, grouped by source state"). Assumes nothing: these are definitions.
+-- out-degrees summing to T; then T labels and T targets, grouped by source state"). Assumes nothing: these are
+-- definitions.
 use Prim.Native.Nat.{ℕ, _+_}
 use mathlib.Core.List.{List}
 use Rattle.rules.specs.Lists.{word, from, sumWords}

@@ -1,5 +1,6 @@
--- Tables of trees in prefix order (document 01, "Words handed over": "m kinds, m operands .. A first child is the next node; the operand of 3 and 4 is the right
--- child, just past the left child's tree"). A node is decoded here, once; all other rules go by the names of the nodes. Assumes nothing: these are definitions.
+-- Tables of trees in prefix order (document 01, "Words handed over": "m kinds, m operands .. A first child is the next
+-- node; the operand of 3 and 4 is the right child, just past the left child's tree"). A node is decoded here, once; all
+-- other rules go by the names of the nodes. Assumes nothing: these are definitions.
 use Prim.Native.Nat.{ℕ, zero, suc, _+_, _-_}
 use mathlib.Core.Bool.{Bool, true, false, cond, not}
 use mathlib.Core.List.{List, [], _∷_}
@@ -74,8 +75,8 @@ pub data FormulaNode : Type 0 where
   referenceNode : (fixpoint : ℕ) → FormulaNode
   noFormulaNode : FormulaNode
 
--- "0 true, 1 false, 2 and, 3 or (operand: right child), 4 box, 5 diamond (operand: first node of one of the row's trees), 6 least, 7 greatest,
--- 8 reference (operand: an enclosing node of kind 6 or 7)"; of any other kind, none
+-- "0 true, 1 false, 2 and, 3 or (operand: right child), 4 box, 5 diamond (operand: first node of one of the row's
+-- trees), 6 least, 7 greatest, 8 reference (operand: an enclosing node of kind 6 or 7)"; of any other kind, none
 unfoldable pub decodeFormula : (kind operand : ℕ) → FormulaNode
 decodeFormula k o =
     getD
@@ -136,8 +137,8 @@ referenceOf noFormulaNode = none
 -- ---- where trees end. A table is the number of children of each node, and its size
 
 module _ (children : ℕ → ℕ) where
-  -- Trees are due at node v, of which `left` nodes follow up to the table's end: the node just past them, or none if the table ends before. Each node is
-  -- one of the trees that are due, and its children are due after it
+  -- Trees are due at node v, of which `left` nodes follow up to the table's end: the node just past them, or none if
+  -- the table ends before. Each node is one of the trees that are due, and its children are due after it
   unfoldable pub endOfTrees : (left v due : ℕ) → Option ℕ
   endOfTrees zero v zero = some v
   endOfTrees zero v (suc due) = none

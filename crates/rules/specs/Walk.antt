@@ -1,12 +1,13 @@
--- The walk (document 01, "One step": "A step takes the waiting vertex that was numbered last, settles it, and numbers new targets in order"), for any targets.
--- Assumes nothing: these are definitions.
+-- The walk (document 01, "One step": "A step takes the waiting vertex that was numbered last, settles it, and numbers
+-- new targets in order"), for any targets. Assumes nothing: these are definitions.
 use Prim.Native.Nat.{ℕ, zero, suc, _+_, _-_}
 use mathlib.Core.Bool.{Bool}
 use mathlib.Core.List.{List, [], _∷_}
 use lib.ListN.{getD, length}
 use Rattle.rules.specs.Lists.{insertAll}
 
--- Where a walk stands: the known pairs, vertex v being element v, and of the vertices those that wait, the one numbered last first. The others are settled
+-- Where a walk stands: the known pairs, vertex v being element v, and of the vertices those that wait, the one numbered
+-- last first. The others are settled
 pub record Stand (A : Type 0) : Type 0 where
   pub known : List A
   pub waiting : List ℕ

@@ -1,6 +1,8 @@
--- The words handed over to a run and the room lent to it (document 01, "Words handed over"), and every limit. Assumes nothing: these are definitions.
+-- The words handed over to a run and the room lent to it (document 01, "Words handed over"), and every limit. Assumes
+-- nothing: these are definitions.
 use Prim.Native.Nat.{ℕ, _+_, _*_}
 use mathlib.Core.List.{List}
+use Rattle.rules.specs.declared.Room.{Room}
 use Rattle.rules.specs.Game.{gameWords}
 
 -- the four slices of words that describe a run
@@ -9,11 +11,6 @@ pub record Input : Type 0 where
   pub system : List ℕ
   pub actions : List ℕ
   pub formula : List ℕ
-
--- the room lent for a game: vertices and edges
-pub record Room : Type 0 where
-  pub vertices : ℕ
-  pub edges : ℕ
 
 abbrev pub inputOf : List ℕ → List ℕ → List ℕ → List ℕ → Input
 inputOf ls ss acts f = record { labels = ls; system = ss; actions = acts; formula = f }

@@ -1,4 +1,5 @@
-// Document 01 as definitions: see specs/, in the order of specs/Lib.antt. Here stand the two answers that calls give.
+// Document 01 as definitions: see specs/, in the order of specs/Lib.antt. Here stand the answers that calls give, and
+// the room that a run is lent.
 
 // What a call answers: Done (steps, vertices, edges), Cut (steps, vertices known, edges) or Refused (number, place).
 pub enum Answer {
@@ -11,4 +12,10 @@ pub enum Answer {
 pub enum Check {
     Passed,
     Fault(u32, u32),
+}
+
+// The room lent for a game: so many vertices and edges.
+pub struct Room {
+    pub vertices: u32,
+    pub edges: u32,
 }

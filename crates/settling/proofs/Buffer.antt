@@ -7,12 +7,12 @@ use native.Mathlib.Numerals.{add-one}
 use native.Mathlib.Omega.{arith}
 use lib.Dec.{ltb, lit≤}
 use lib.ListN.{length, set, take, drop, length-take, length-drop, length-set}
-use borrow.Author.Tests.{ltb-true, lt-ltb, le-ltb}
+use borrow.Author.Tests.{ltb-false, lt-ltb, le-ltb}
 use lib.Seq.{drop-set-add, take-suc-set, getD-set-same, getD-set-other}
 use Rattle.rules.specs.Lists.{word}
 use Rattle.words.specs.Regions.{region, putWord}
 use Rattle.words.proofs.Regions.{rise, region-past, rest-put, rest-later}
-use Rattle.settling.specs.Stand.{waitingIn, edgesOf, putEdge, settledIn, countIn, degreeIn}
+use Rattle.settling.specs.Stand.{waitingIn, edgesOf, putEdge, settledIn, countIn}
 
 -- ---- the stack
 
@@ -72,28 +72,20 @@ length-edges w v n h = simp (length-take, length-drop) (omega arith)
 -- ---- one vertex
 
 module _ (w : List ℕ) (v u : ℕ) where
-  pub settled-in : 0 < word (region 5 v w) u → settledIn w v u ≡ true
+  pub settled-in : 0 < word (region 6 v w) u → settledIn w v u ≡ true
   unfolding settledIn
-  settled-in h = lt-ltb 0 (word (region 5 v w) u) h
+  settled-in h = lt-ltb 0 (word (region 6 v w) u) h
 
-  pub start-some : settledIn w v u ≡ true → 0 < word (region 5 v w) u
+  pub unsettled-in : word (region 6 v w) u ≤ 0 → settledIn w v u ≡ false
   unfolding settledIn
-  start-some e = ltb-true 0 (word (region 5 v w) u) e
+  unsettled-in h = le-ltb 0 (word (region 6 v w) u) h
 
-  pub unsettled-in : word (region 5 v w) u ≤ 0 → settledIn w v u ≡ false
+  pub count-unsettled : settledIn w v u ≡ false → countIn w v u ≡ 0
   unfolding settledIn
-  unsettled-in h = le-ltb 0 (word (region 5 v w) u) h
+  count-unsettled e = omega (arith, ltb-false 0 (word (region 6 v w) u) e)
 
-  pub degree-settled : settledIn w v u ≡ true → degreeIn w v u ≡ countIn w v u
-  unfolding degreeIn
-  degree-settled e = rw e refl
-
-  pub degree-unsettled : settledIn w v u ≡ false → degreeIn w v u ≡ 0
-  unfolding degreeIn
-  degree-unsettled e = rw e refl
-
--- whether a vertex is settled goes by the starts alone
-pub settled-same : (w w′ : List ℕ) (v u : ℕ) → word (region 5 v w′) u ≡ word (region 5 v w) u
+-- whether a vertex is settled goes by the counts alone
+pub settled-same : (w w′ : List ℕ) (v u : ℕ) → word (region 6 v w′) u ≡ word (region 6 v w) u
     → settledIn w′ v u ≡ settledIn w v u
 unfolding settledIn
 settled-same w w′ v u e = ap (ltb 0) e

@@ -1,7 +1,7 @@
 -- The end of a step: the edges of the vertex are counted, after one to itself where there are none. Assumes nothing.
 use mathlib.Core.Path.{_≡_, refl, _∙_, ap, ap₂}
 use mathlib.Core.List.{List}
-use Prim.Native.Nat.{ℕ, _+_, _-_, _<_}
+use Prim.Native.Nat.{ℕ, suc, _+_, _-_, _<_}
 use native.Mathlib.Numerals.{add-one}
 use native.Mathlib.Omega.{arith}
 use lib.Dec.{lit<}
@@ -16,19 +16,19 @@ use Rattle.settling.proofs.Buffer.{region-edge, edges-more, edges-put, 
 
 module _ (v e : ℕ) (w w₁ w₂ : List ℕ) (c : Counters) (x start : ℕ) (r : Ready w v e c) (below : x < v) (left : c .settled + c .waiting < c .known) where
   -- no edge yet: one to itself
-  pub close-loop : c .edges ≡ start → c .edges < e → w₁ ≡ putEdge v (c .edges) x w → w₂ ≡ putWord 6 v x 1 w₁
+  pub close-loop : c .edges ≡ start → c .edges < e → w₁ ≡ putEdge v (c .edges) x w → w₂ ≡ putWord 6 v x 2 w₁
       → Closing w v e x start c w₂ (record { known = c .known; settled = c .settled + 1; edges = c .edges + 1; waiting = c .waiting })
   close-loop none room g₁ g₂ =
       let early : (a : ℕ) → a < 8 → region a v w₁ ≡ region a v w = λ a b. ap (region a v) g₁ ∙ region-edge a v (c .edges) x w b in
-      let kept : (a : ℕ) → a < 6 → region a v w₂ ≡ region a v w = λ a b. ap (region a v) g₂ ∙ region-other a 6 v x 1 w₁ below (omega arith) ∙ early a (omega arith) in
-      let one : 1 ≡ c .edges + 1 - start = omega arith in
+      let kept : (a : ℕ) → a < 6 → region a v w₂ ≡ region a v w = λ a b. ap (region a v) g₂ ∙ region-other a 6 v x 2 w₁ below (omega arith) ∙ early a (omega arith) in
+      let two : 2 ≡ suc (c .edges + 1 - start) = omega arith in
       record {
         ready =
             record {
               some = r .some;
               most = r .most;
               most-edges = r .most-edges;
-              whole = omega (arith, r .whole, ap length g₂, length-putWord 6 v x 1 w₁, ap length g₁, length-putEdge v (c .edges) x w);
+              whole = omega (arith, r .whole, ap length g₂, length-putWord 6 v x 2 w₁, ap length g₁, length-putEdge v (c .edges) x w);
               table = table-kept w w₂ v (c .known) (λ a b. kept a (omega arith)) (r .table);
               stack = omega arith;
               buffer = omega arith;
@@ -39,22 +39,22 @@ module _ (v e : ℕ) (w w₁ w₂ : List ℕ) (c : Counters) (x start : ℕ) (r 
         keys = keys-kept w w₂ v (c .known) (λ a b. kept a (omega arith));
         waits = kept 4 (lit< tt);
         starts = kept 5 (lit< tt);
-        counts = ap (region 6 v) g₂ ∙ region-same 6 v x 1 w₁ below ∙ ap₂ (λ (l : List ℕ) (y : ℕ). set l x y) (early 6 (lit< tt)) one;
-        marks = ap (region 7 v) g₂ ∙ region-other 7 6 v x 1 w₁ below (omega arith) ∙ early 7 (lit< tt);
+        counts = ap (region 6 v) g₂ ∙ region-same 6 v x 2 w₁ below ∙ ap₂ (λ (l : List ℕ) (y : ℕ). set l x y) (early 6 (lit< tt)) two;
+        marks = ap (region 7 v) g₂ ∙ region-other 7 6 v x 2 w₁ below (omega arith) ∙ early 7 (lit< tt);
         looped = λ y. (
           add-one (c .edges),
           ap (λ (u : List ℕ). edgesOf u v (c .edges + 1)) g₂
-              ∙ edges-put 6 v x 1 (c .edges + 1) w₁ (lit< tt) below
+              ∙ edges-put 6 v x 2 (c .edges + 1) w₁ (lit< tt) below
               ∙ ap (λ (u : List ℕ). edgesOf u v (c .edges + 1)) g₁
               ∙ edges-more v (c .edges) x w (omega (arith, r .whole)),
         );
         others = λ d. absurd (d none);
       }
 
-  pub close-others : (c .edges ≡ start → ⊥) → w₁ ≡ putWord 6 v x (c .edges - start) w
+  pub close-others : (c .edges ≡ start → ⊥) → w₁ ≡ putWord 6 v x (c .edges - start + 1) w
       → Closing w v e x start c w₁ (record { known = c .known; settled = c .settled + 1; edges = c .edges; waiting = c .waiting })
   close-others some g =
-      let kept : (a : ℕ) → (a ≡ 6 → ⊥) → region a v w₁ ≡ region a v w = λ a b. ap (region a v) g ∙ region-other a 6 v x (c .edges - start) w below b in
+      let kept : (a : ℕ) → (a ≡ 6 → ⊥) → region a v w₁ ≡ region a v w = λ a b. ap (region a v) g ∙ region-other a 6 v x (c .edges - start + 1) w below b in
       let first : (a : ℕ) → a < 4 → region a v w₁ ≡ region a v w = λ a b. kept a (omega arith) in
       record {
         ready =
@@ -62,7 +62,7 @@ module _ (v e : ℕ) (w w₁ w₂ : List ℕ) (c : Counters) (x start : ℕ) (r 
               some = r .some;
               most = r .most;
               most-edges = r .most-edges;
-              whole = omega (arith, r .whole, ap length g, length-putWord 6 v x (c .edges - start) w);
+              whole = omega (arith, r .whole, ap length g, length-putWord 6 v x (c .edges - start + 1) w);
               table = table-kept w w₁ v (c .known) first (r .table);
               stack = omega arith;
               buffer = r .buffer;
@@ -73,8 +73,8 @@ module _ (v e : ℕ) (w w₁ w₂ : List ℕ) (c : Counters) (x start : ℕ) (r 
         keys = keys-kept w w₁ v (c .known) first;
         waits = kept 4 (omega arith);
         starts = kept 5 (omega arith);
-        counts = ap (region 6 v) g ∙ region-same 6 v x (c .edges - start) w below;
+        counts = ap (region 6 v) g ∙ region-same 6 v x (c .edges - start + 1) w below ∙ ap (set (region 6 v w) x) (add-one (c .edges - start));
         marks = kept 7 (omega arith);
         looped = λ y. absurd (some y);
-        others = λ d. (refl, ap (λ (u : List ℕ). edgesOf u v (c .edges)) g ∙ edges-put 6 v x (c .edges - start) (c .edges) w (lit< tt) below);
+        others = λ d. (refl, ap (λ (u : List ℕ). edgesOf u v (c .edges)) g ∙ edges-put 6 v x (c .edges - start + 1) (c .edges) w (lit< tt) below);
       }

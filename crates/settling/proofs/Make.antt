@@ -17,10 +17,8 @@ use Rattle.words.proofs.Regions.{rest-region}
 use Rattle.pairs.specs.Table.{keysOf}
 use Rattle.pairs.proofs.Uses.{keys-kept, table-kept}
 use Rattle.settling.specs.declared.Counters.{Counters}
-use Rattle.settling.specs.declared.Stepped.{Stepped}
-use Rattle.settling.specs.declared.Stepped.the-variants.{Room, Full}
 use Rattle.settling.specs.Stand.{waitingIn, waitingOf, edgesOf, putEdge}
-use Rattle.settling.specs.Made.{Marks, Ready, Meeting, Made, TooMany, Answer}
+use Rattle.settling.specs.Made.{Marks, Ready, Meeting, Made, TooMany}
 use Rattle.settling.proofs.Buffer.{region-edge, edges-more, edges-rest, length-putEdge}
 use Rattle.walks.proofs.Pushes.{push-on}
 
@@ -154,10 +152,3 @@ many-one w v e c t l = inl l
 
 pub marks-rest : (w w′ : List ℕ) (v b : ℕ) → drop (5 * v) w′ ≡ drop (5 * v) w → Marks w v b → Marks w′ v b
 marks-rest w w′ v b e m i h = subst (λ (l : List ℕ). word l i ≤ b) (sym (rest-region 5 7 v w w′ e (lit≤ tt))) (m i h)
-
--- ---- by answers
-
-pub answer-more : (v e : ℕ) (w w₁ w₂ : List ℕ) (c c₁ : Counters) (ts us : List ℕ) → Made w v e c w₁ c₁ ts
-    → (r : Stepped) → Answer w₁ v e c₁ us w₂ r → Answer w v e c (ts ++ us) w₂ r
-answer-more v e w w₁ w₂ c c₁ ts us a (Room c₂) b = made-more v e w w₁ w₂ c c₁ c₂ ts us a b
-answer-more v e w w₁ w₂ c c₁ ts us a Full b = many-more v e w w₁ w₂ c c₁ c₁ ts us a b

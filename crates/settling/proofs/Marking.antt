@@ -1,4 +1,5 @@
--- A target that may have its edge from this step already: the marks tell, and loops over targets keep them. Assumes nothing.
+-- A target that may have its edge from this step already: the marks tell, and loops over targets keep them. Assumes
+-- nothing.
 use mathlib.Core.Path.{_≡_, refl, sym, _∙_, ap, ap₂, subst, subst₂}
 use mathlib.Core.List.{List, [], _∷_, _++_, append-nil}
 use mathlib.Core.Logic.{_⊎_, inl, inr, ⊎-elim}
@@ -20,9 +21,9 @@ use Rattle.words.proofs.Regions.{region-same, region-other, rest-region, length
 use Rattle.pairs.specs.Table.{keysOf}
 use Rattle.pairs.proofs.Uses.{keys-kept, length-keys}
 use Rattle.settling.specs.declared.Counters.{Counters}
-use Rattle.settling.specs.declared.Stepped.the-variants.{Room}
+use Rattle.settling.specs.declared.Stepped.the-variants.{Fits}
 use Rattle.settling.specs.Stand.{edgesOf, putEdge}
-use Rattle.settling.specs.Made.{Marks, Ready, Meeting, Made, TooMany, MarkedIn, Marked, Turned}
+use Rattle.settling.specs.Made.{Marks, Ready, Meeting, Made, TooMany, MarkedIn, Marked, Gathered}
 use Rattle.settling.proofs.Buffer.{region-edge, edges-put, edges-rest}
 use Rattle.settling.proofs.Make.{made-none, made-more, many-more, many-early, many-one, withEdge, edge-made, marks-rest}
 
@@ -115,7 +116,7 @@ module _ (v e : ℕ) (w w₁ : List ℕ) (c : Counters) (t u n m : ℕ) (r : Rea
 
   -- marked: it has its edge
   pub once-old : (ts : List ℕ) → 8 * v + 2 * e ≤ length w₁ → word (region 7 v w₁) u ≡ c .settled + 1 → Marked w v c ts
-      → Turned w v e c ts (t ∷ []) w₁ (Room (record { known = n; settled = c .settled; edges = c .edges; waiting = m }))
+      → Gathered w v e c ts (t ∷ []) w₁ (Fits (record { known = n; settled = c .settled; edges = c .edges; waiting = m }))
   unfolding insertAll positions
   once-old ts size h k =
       let o = k .only u met-below (ap (λ (l : List ℕ). word l u) (sym marks-same) ∙ h ∙ add-one (c .settled)) in
@@ -155,7 +156,7 @@ module _ (v e : ℕ) (w w₁ : List ℕ) (c : Counters) (t u n m : ℕ) (r : Rea
       h (ap (λ (a : List ℕ). word a u) marks-same ∙ k .every u l (subst (λ (q : ℕ). In q ts) (sym (met-stays l)) i) ∙ sym (add-one (c .settled)))
 
   pub once-new : (ts w₂ w₃ : List ℕ) → length w₁ ≡ length w → (word (region 7 v w₁) u ≡ c .settled + 1 → ⊥) → c .edges < e
-      → w₂ ≡ putWord 7 v u (c .settled + 1) w₁ → w₃ ≡ putEdge v (c .edges) u w₂ → Marked w v c ts → Turned w v e c ts (t ∷ []) w₃ (Room (withEdge c n m))
+      → w₂ ≡ putWord 7 v u (c .settled + 1) w₁ → w₃ ≡ putEdge v (c .edges) u w₂ → Marked w v c ts → Gathered w v e c ts (t ∷ []) w₃ (Fits (withEdge c n m))
   once-new ts w₂ w₃ size h room g₂ g₃ k =
       let d = fresh ts h k in
       let s = suc (c .settled) in
@@ -195,8 +196,8 @@ once-crowded v e w c t ts room l k =
 -- ---- targets in stretches, each once: for a loop whose turns each bring a list of targets
 
 -- nothing is done
-pub turned-none : (w : List ℕ) (v e : ℕ) (c : Counters) (ts : List ℕ) → Ready w v e c → Marked w v c ts → Turned w v e c ts [] w (Room c)
-turned-none w v e c ts a k = (rw (added-none number-equality ts) (made-none w v e c a), rw (inserts-none eqb ts) k)
+pub gathered-none : (w : List ℕ) (v e : ℕ) (c : Counters) (ts : List ℕ) → Ready w v e c → Marked w v c ts → Gathered w v e c ts [] w (Fits c)
+gathered-none w v e c ts a k = (rw (added-none number-equality ts) (made-none w v e c a), rw (inserts-none eqb ts) k)
 
 -- before the first turn no vertex is marked
 pub marked-none : (w : List ℕ) (v : ℕ) (c : Counters) → Marks w v (c .settled) → Marked w v c (once eqb [])
@@ -221,16 +222,16 @@ module _ (v e : ℕ) (w₀ : List ℕ) (c₀ : Counters) (w w′ : List ℕ) (c 
   once-whole : once eqb ms ++ added eqb (once eqb ms) us ≡ once eqb (ms ++ us)
   once-whole = added-split number-equality (once eqb ms) us ∙ once-on
 
-  pub turned-made : (c′ : Counters) → Turned w v e c (once eqb ms) us w′ (Room c′) → Made w₀ v e c₀ w′ c′ (once eqb (ms ++ us))
-  turned-made c′ a = subst (Made w₀ v e c₀ w′ c′) once-whole (made-more v e w₀ w w′ c₀ c c′ _ _ made (a .0))
+  pub gathered-made : (c′ : Counters) → Gathered w v e c (once eqb ms) us w′ (Fits c′) → Made w₀ v e c₀ w′ c′ (once eqb (ms ++ us))
+  gathered-made c′ a = subst (Made w₀ v e c₀ w′ c′) once-whole (made-more v e w₀ w w′ c₀ c c′ _ _ made (a .0))
 
-  pub turned-marked : (c′ : Counters) → Turned w v e c (once eqb ms) us w′ (Room c′) → Marked w′ v c′ (once eqb (ms ++ us))
-  turned-marked c′ a = subst (Marked w′ v c′) once-on (a .1)
+  pub gathered-marked : (c′ : Counters) → Gathered w v e c (once eqb ms) us w′ (Fits c′) → Marked w′ v c′ (once eqb (ms ++ us))
+  gathered-marked c′ a = subst (Marked w′ v c′) once-on (a .1)
 
   -- too many at this turn are too many at the end, whatever later turns bring
-  pub turned-many : (later : List ℕ) → TooMany w v e c (added eqb (once eqb ms) us) → TooMany w₀ v e c₀ (once eqb ((ms ++ us) ++ later))
+  pub gathered-many : (later : List ℕ) → TooMany w v e c (added eqb (once eqb ms) us) → TooMany w₀ v e c₀ (once eqb ((ms ++ us) ++ later))
   unfolding once
-  turned-many later f =
+  gathered-many later f =
       let early : TooMany w₀ v e c₀ (once eqb (ms ++ us)) = subst (TooMany w₀ v e c₀) once-whole (many-more v e w₀ w w c₀ c c (once eqb ms) (added eqb (once eqb ms) us) made f) in
       subst (TooMany w₀ v e c₀) (added-split number-equality (once eqb (ms ++ us)) later ∙ sym (inserts-append eqb [] (ms ++ us) later))
       (many-early w₀ v e c₀ (once eqb (ms ++ us)) (added eqb (once eqb (ms ++ us)) later) early)

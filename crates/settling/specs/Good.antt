@@ -1,4 +1,5 @@
--- What holds of the work words and the counters between the steps of a walk over keys, and what a step and a walk answer. Assumes nothing: these are definitions.
+-- What holds of the work words and the counters between the steps of a walk over keys, and what a step and a walk
+-- answer. Assumes nothing: these are definitions.
 use mathlib.Core.Path.{_≡_}
 use mathlib.Core.Bool.{true, false}
 use mathlib.Core.List.{List}
@@ -12,7 +13,7 @@ use Rattle.walks.proofs.Steps.{Sound}
 use Rattle.pairs.specs.Table.{keysOf}
 use Rattle.settling.specs.declared.Counters.{Counters}
 use Rattle.settling.specs.declared.Stepped.{Stepped}
-use Rattle.settling.specs.declared.Stepped.the-variants.{Room, Full}
+use Rattle.settling.specs.declared.Stepped.the-variants.{Fits, Full}
 use Rattle.settling.specs.Stand.{standOf, waitingOf, edgesOf, edgesFor, settledIn, startIn, countIn}
 use Rattle.settling.specs.Made.{Ready, Marks}
 
@@ -46,7 +47,7 @@ pub record StepMade (targets : ℕ → List ℕ) (root : ℕ) (w : List ℕ) (v 
   pub good : Good targets root w′ v e c′
 
 abbrev pub StepAnswer : (ℕ → List ℕ) → ℕ → List ℕ → ℕ → ℕ → Counters → List ℕ → Stepped → Type 0
-StepAnswer targets root w v e c w′ (Room c′) = StepMade targets root w v e c w′ c′
+StepAnswer targets root w v e c w′ (Fits c′) = StepMade targets root w v e c w′ c′
 StepAnswer targets root w v e c w′ Full = Exceeding targets root v e (step eqb targets root (standOf w v c))
 
 -- the walk stands where the definition does after k steps
@@ -55,5 +56,5 @@ pub record WalkMade (targets : ℕ → List ℕ) (root v e k : ℕ) (w′ : List
   pub good : Good targets root w′ v e c′
 
 abbrev pub WalkAnswer : (ℕ → List ℕ) → ℕ → ℕ → ℕ → ℕ → List ℕ → Stepped → Type 0
-WalkAnswer targets root v e k w′ (Room c′) = WalkMade targets root v e k w′ c′
+WalkAnswer targets root v e k w′ (Fits c′) = WalkMade targets root v e k w′ c′
 WalkAnswer targets root v e k w′ Full = Exceeding targets root v e (walk eqb targets root k)

@@ -1,4 +1,5 @@
--- Pairs as keys: the table of known pairs holds a pair as one number, so the code's walk is a walk over keys. Assumes nothing: these are definitions.
+-- Pairs as keys: the table of known pairs holds a pair as one number, so the code's walk is a walk over keys. Assumes
+-- nothing: these are definitions.
 use Prim.Native.Nat.{ℕ, _/_, _%_}
 use mathlib.Core.List.{List, map}
 use Rattle.rules.specs.Words.{Input}

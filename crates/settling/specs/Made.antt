@@ -1,4 +1,5 @@
--- What the parts of a step answer: the words and counters after some targets were numbered, pushed and given edges. Targets are keys. Assumes nothing: these are definitions.
+-- What the parts of a step answer: the words and counters after some targets were numbered, pushed and given edges.
+-- Targets are keys. Assumes nothing: these are definitions.
 use mathlib.Core.Path.{_≡_}
 use mathlib.Core.List.{List, [], _∷_, _++_}
 use mathlib.Core.Logic.{_⊎_}
@@ -14,7 +15,7 @@ use Rattle.settling.specs.declared.Counters.{Counters}
 use Rattle.settling.specs.declared.Met.{Met}
 use Rattle.settling.specs.declared.Met.the-variants.{Meets, Crowded}
 use Rattle.settling.specs.declared.Stepped.{Stepped}
-use Rattle.settling.specs.declared.Stepped.the-variants.{Room, Full}
+use Rattle.settling.specs.declared.Stepped.the-variants.{Fits, Full}
 use Rattle.settling.specs.Stand.{waitingOf, edgesOf}
 
 -- every mark is at most b
@@ -69,7 +70,7 @@ abbrev pub TooMany : List ℕ → ℕ → ℕ → Counters → List ℕ → Type
 TooMany w v e c ts = (v < length (insertAll eqb (keysOf w v (c .known)) ts)) ⊎ (e < c .edges + length ts)
 
 abbrev pub Answer : List ℕ → ℕ → ℕ → Counters → List ℕ → List ℕ → Stepped → Type 0
-Answer w v e c ts w′ (Room c′) = Made w v e c w′ c′ ts
+Answer w v e c ts w′ (Fits c′) = Made w v e c w′ c′ ts
 Answer w v e c ts w′ Full = TooMany w v e c ts
 
 -- of n known keys ks, the vertices with the mark s are those that stand for ts
@@ -83,9 +84,9 @@ abbrev pub Marked : List ℕ → ℕ → Counters → List ℕ → Type 0
 Marked w v c ts = MarkedIn (region 7 v w) (keysOf w v (c .known)) v (c .known) (suc (c .settled)) ts
 
 -- of the targets us each got an edge that is not among ts and was not met before: `added` says which
-abbrev pub Turned : List ℕ → ℕ → ℕ → Counters → List ℕ → List ℕ → List ℕ → Stepped → Type 0
-Turned w v e c ts us w′ (Room c′) = Made w v e c w′ c′ (added eqb ts us) × Marked w′ v c′ (insertAll eqb ts us)
-Turned w v e c ts us w′ Full = TooMany w v e c (added eqb ts us)
+abbrev pub Gathered : List ℕ → ℕ → ℕ → Counters → List ℕ → List ℕ → List ℕ → Stepped → Type 0
+Gathered w v e c ts us w′ (Fits c′) = Made w v e c w′ c′ (added eqb ts us) × Marked w′ v c′ (insertAll eqb ts us)
+Gathered w v e c ts us w′ Full = TooMany w v e c (added eqb ts us)
 
 -- vertex u is closed: its edges from start on are counted, and an edge to itself is added where there are none
 pub record Closing (w : List ℕ) (v e u start : ℕ) (c : Counters) (w′ : List ℕ) (c′ : Counters) : Type 0 where
@@ -96,13 +97,13 @@ pub record Closing (w : List ℕ) (v e u start : ℕ) (c : Counters) (w′ : Lis
   pub keys : keysOf w′ v (c .known) ≡ keysOf w v (c .known)
   pub waits : region 4 v w′ ≡ region 4 v w
   pub starts : region 5 v w′ ≡ region 5 v w
-  pub counts : region 6 v w′ ≡ set (region 6 v w) u (c′ .edges - start)
+  pub counts : region 6 v w′ ≡ set (region 6 v w) u (suc (c′ .edges - start))
   pub marks : region 7 v w′ ≡ region 7 v w
   pub looped : c .edges ≡ start → (c′ .edges ≡ suc (c .edges)) × (edgesOf w′ v (c′ .edges) ≡ edgesOf w v (c .edges) ++ (u ∷ []))
   pub others : (c .edges ≡ start → ⊥) → (c′ .edges ≡ c .edges) × (edgesOf w′ v (c′ .edges) ≡ edgesOf w v (c .edges))
 
 abbrev pub CloseAnswer : List ℕ → ℕ → ℕ → ℕ → ℕ → Counters → List ℕ → Stepped → Type 0
-CloseAnswer w v e u start c w′ (Room c′) = Closing w v e u start c w′ c′
+CloseAnswer w v e u start c w′ (Fits c′) = Closing w v e u start c w′ c′
 CloseAnswer w v e u start c w′ Full = (c .edges ≡ start) × (e ≤ start)
 
 -- every word of a region is 0, and the other regions are as they were

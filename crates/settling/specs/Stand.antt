@@ -1,7 +1,7 @@
 -- What is read off the work words: the known pairs, the waiting vertices, which are settled, and the edges made so far.
 -- Regions of v words: 0 to 2 slots, 3 keys, 4 stack, 5 starts, 6 counts, 7 marks; then the edge buffer.
 -- Assumes nothing: these are definitions.
-use mathlib.Core.Bool.{Bool, cond}
+use mathlib.Core.Bool.{Bool}
 use mathlib.Core.List.{List, [], _∷_}
 use Prim.Native.Nat.{ℕ, zero, suc, _+_, _-_, _*_}
 use lib.Dec.{eqb, ltb}
@@ -40,24 +40,21 @@ unfoldable pub edgesFor : ℕ → List ℕ → List ℕ → List ℕ
 edgesFor u known [] = u ∷ []
 edgesFor u known (t ∷ ts) = positions eqb known (t ∷ ts)
 
--- ---- one vertex. Its word among the starts is 0 until a step takes it, and then one more than where its edges begin
+-- ---- one vertex. Its word among the counts is 0 until it is settled, and then one more than the number of its edges
 
--- vertex u is settled, or a step settles it now
+-- vertex u is settled
 unfoldable pub settledIn : List ℕ → ℕ → ℕ → Bool
-settledIn w v u = ltb 0 (word (region 5 v w) u)
+settledIn w v u = ltb 0 (word (region 6 v w) u)
 
--- where the edges of a settled vertex begin in the buffer, and how many they are
+-- where the edges of a settled vertex begin in the buffer
 abbrev pub startIn : List ℕ → ℕ → ℕ → ℕ
-startIn w v u = word (region 5 v w) u - 1
-
-abbrev pub countIn : List ℕ → ℕ → ℕ → ℕ
-countIn w v u = word (region 6 v w) u
+startIn w v u = word (region 5 v w) u
 
 -- how many edges a vertex has: none before it is settled
-unfoldable pub degreeIn : List ℕ → ℕ → ℕ → ℕ
-degreeIn w v u = cond (settledIn w v u) (countIn w v u) 0
+abbrev pub countIn : List ℕ → ℕ → ℕ → ℕ
+countIn w v u = word (region 6 v w) u - 1
 
 -- how many edges the first n vertices have
 unfoldable pub degreesIn : List ℕ → ℕ → ℕ → ℕ
 degreesIn w v zero = 0
-degreesIn w v (suc n) = degreesIn w v n + degreeIn w v n
+degreesIn w v (suc n) = degreesIn w v n + countIn w v n

@@ -1,6 +1,12 @@
-// The parts of a step that are the same whatever a pair's targets come from: a target is numbered, pushed if it is new, and given an edge in the lent work slice.
+// The parts of a step that are the same whatever a pair's targets come from: a target is numbered, pushed if it is new,
+// and given an edge in the lent work slice.
 use pairs::Numbered;
 use player::VertexIndex;
+use rules::Room;
+use words::COUNTS;
+use words::MARKS;
+use words::REGIONS;
+use words::STACK;
 ghost use mathlib.Core.Path.{_≡_};
 ghost use mathlib.Core.List.{List, [], _∷_};
 ghost use Prim.Native.Nat.{ℕ, _+_, _*_, _≤_, _<_};
@@ -8,14 +14,7 @@ ghost use lib.ListN.{length, take};
 ghost use Rattle.rules.specs.Lists.{word};
 ghost use Rattle.pairs.specs.Slot.{keyOf, Multiples, Scaled};
 ghost use Rattle.settling.specs.Stand.{putEdge};
-ghost use Rattle.settling.specs.Made.{Ready, Fitting, MeetAnswer, Answer, Marked, Turned, CloseAnswer};
-
-// The regions of the work slice that these functions read or write themselves.
-const STACK: u32 = 4;
-
-const COUNTS: u32 = 6;
-
-const MARKS: u32 = 7;
+ghost use Rattle.settling.specs.Made.{Ready, Fitting, MeetAnswer, Answer, Marked, Gathered, CloseAnswer};
 
 // Where a walk stands, in numbers.
 pub struct Counters {
@@ -27,7 +26,7 @@ pub struct Counters {
 
 // What a step, or a part of one, answers: the counters, or that the lent room is too small.
 pub enum Stepped {
-    Room(Counters),
+    Fits(Counters),
     Full,
 }
 
@@ -46,24 +45,24 @@ fn put_edge(work: &mut [u32], v: u32, i: u32, target: VertexIndex)
     requires { ⌜ (v ≤ 1048576) × (8 * v + i < length (now work)) ⌝ }
     ensures { λ _. ⌜ now (work .exit) ≡ putEdge v i (target .0) (now (work .entry)) ⌝ }
 {
-    work[8 * (v as usize) + (i as usize)] = target.0;
+    work[REGIONS * (v as usize) + (i as usize)] = target.0;
 }
 
 // A pair is numbered, and its vertex pushed if it is new.
 pub fn meet(
-    multiples: &[u32; 256],
-    work: &mut [u32],
-    v: u32,
-    e: u32,
     c: Counters,
+    multiples: &[u32],
+    work: &mut [u32],
+    room: Room,
     state: u32,
     item: u32,
     scaled: u32,
 ) -> Met
     requires { ⌜ Scaled (now multiples) item scaled ⌝ }
-    requires { ⌜ Ready (now work) v e c × Fitting state item ⌝ }
-    ensures { λ r. ⌜ MeetAnswer (now (work .entry)) (now (work .exit)) v (c .known) (c .waiting) (keyOf state item) r ⌝ }
+    requires { ⌜ Ready (now work) (room .vertices) (room .edges) c × Fitting state item ⌝ }
+    ensures { λ r. ⌜ MeetAnswer (now (work .entry)) (now (work .exit)) (room .vertices) (c .known) (c .waiting) (keyOf state item) r ⌝ }
 {
+    let v = room.vertices;
     let before = c.known;
     let waiting = c.waiting;
     match pairs::number(multiples, work, v, before, state, item, scaled) {
@@ -89,30 +88,30 @@ pub fn meet(
 // One target is met and gets an edge.
 fn number_target(
     c: Counters,
-    multiples: &[u32; 256],
+    multiples: &[u32],
     work: &mut [u32],
-    v: u32,
-    e: u32,
+    room: Room,
     state: u32,
     item: u32,
     scaled: u32,
 ) -> Stepped
     requires { ⌜ Scaled (now multiples) item scaled ⌝ }
-    requires { ⌜ Ready (now work) v e c × Fitting state item ⌝ }
-    ensures { λ r. ⌜ Answer (now (work .entry)) v e c (keyOf state item ∷ []) (now (work .exit)) r ⌝ }
+    requires { ⌜ Ready (now work) (room .vertices) (room .edges) c × Fitting state item ⌝ }
+    ensures { λ r. ⌜ Answer (now (work .entry)) (room .vertices) (room .edges) c (keyOf state item ∷ []) (now (work .exit)) r ⌝ }
 {
+    let v = room.vertices;
     let edges = c.edges;
-    match meet(multiples, work, v, e, c, state, item, scaled) {
+    match meet(c, multiples, work, room, state, item, scaled) {
         Met::Meets {
             vertex,
             known,
             waiting,
         } => {
-            if edges == e {
+            if edges == room.edges {
                 return Stepped::Full;
             }
             put_edge(work, v, edges, vertex);
-            Stepped::Room(Counters {
+            Stepped::Fits(Counters {
                 known,
                 settled: c.settled,
                 edges: edges + 1,
@@ -123,49 +122,44 @@ fn number_target(
     }
 }
 
-// One target is met and gets an edge, if it has none from this step. The step's number marks its targets, so that each target is told in constant time.
+// One target is met and gets an edge, if it has none from this step. The step's number marks its targets, so that each
+// target is told in constant time.
 pub fn target_once(
     c: Counters,
-    multiples: &[u32; 256],
+    multiples: &[u32],
     work: &mut [u32],
-    v: u32,
-    e: u32,
+    room: Room,
     state: u32,
     item: u32,
     scaled: u32,
 ) -> Stepped
     requires { ⌜ Scaled (now multiples) item scaled ⌝ }
-    requires { ⌜ Ready (now work) v e c × Fitting state item ⌝ }
+    requires { ⌜ Ready (now work) (room .vertices) (room .edges) c × Fitting state item ⌝ }
     requires { ⌜ c .settled < c .known ⌝ }
-    ensures { λ r. ⌜ ((ts : List ℕ) → Marked (now (work .entry)) v c ts → Turned (now (work .entry)) v e c ts (keyOf state item ∷ []) (now (work .exit)) r) ⌝ }
+    ensures { λ r. ⌜ ((ts : List ℕ) → Marked (now (work .entry)) (room .vertices) c ts → Gathered (now (work .entry)) (room .vertices) (room .edges) c ts (keyOf state item ∷ []) (now (work .exit)) r) ⌝ }
 {
+    let v = room.vertices;
     let edges = c.edges;
     let mark = c.settled + 1;
-    match meet(multiples, work, v, e, c, state, item, scaled) {
+    match meet(c, multiples, work, room, state, item, scaled) {
         Met::Meets {
             vertex,
             known,
             waiting,
         } => {
+            let mut next = c;
+            next.known = known;
+            next.waiting = waiting;
             if words::region_word(work, v, MARKS, vertex.0) == mark {
-                return Stepped::Room(Counters {
-                    known,
-                    settled: c.settled,
-                    edges,
-                    waiting,
-                });
+                return Stepped::Fits(next);
             }
-            if edges == e {
+            if edges == room.edges {
                 return Stepped::Full;
             }
             words::put_word(work, v, MARKS, vertex.0, mark);
             put_edge(work, v, edges, vertex);
-            Stepped::Room(Counters {
-                known,
-                settled: c.settled,
-                edges: edges + 1,
-                waiting,
-            })
+            next.edges = edges + 1;
+            Stepped::Fits(next)
         }
         Met::Crowded => Stepped::Full,
     }
@@ -182,31 +176,30 @@ fn operand(left: u32, right: u32, i: usize) -> u32
     right
 }
 
-// The first targets, so many of two with the same state, in order: a target named twice gets two edges. One loop for one operand and for two, so that a target is numbered at
-// one place of the code.
+// The first targets, so many of two with the same state, in order: a target named twice gets two edges. One loop for
+// one operand and for two, so that a target is numbered at one place of the code.
 pub fn settle_operands(
     c: Counters,
-    multiples: &[u32; 256],
+    multiples: &[u32],
     work: &mut [u32],
-    v: u32,
-    e: u32,
+    room: Room,
     state: u32,
     left: u32,
     right: u32,
     count: usize,
 ) -> Stepped
     requires { ⌜ Multiples (now multiples) ⌝ }
-    requires { ⌜ Ready (now work) v e c × Fitting state left × (count ≤ 2) ⌝ }
+    requires { ⌜ Ready (now work) (room .vertices) (room .edges) c × Fitting state left × (count ≤ 2) ⌝ }
     requires { ⌜ (1 < count → Fitting state right) ⌝ }
-    ensures { λ r. ⌜ Answer (now (work .entry)) v e c (take count (keyOf state left ∷ keyOf state right ∷ [])) (now (work .exit)) r ⌝ }
+    ensures { λ r. ⌜ Answer (now (work .entry)) (room .vertices) (room .edges) c (take count (keyOf state left ∷ keyOf state right ∷ [])) (now (work .exit)) r ⌝ }
 {
     let mut so_far = c;
     let mut i = 0;
     while i < count {
         let item = operand(left, right, i);
         let scaled = pairs::product(multiples, item);
-        match number_target(so_far, multiples, work, v, e, state, item, scaled) {
-            Stepped::Room(next) => {
+        match number_target(so_far, multiples, work, room, state, item, scaled) {
+            Stepped::Fits(next) => {
                 so_far = next;
             }
             Stepped::Full => {
@@ -215,37 +208,31 @@ pub fn settle_operands(
         }
         i += 1;
     }
-    Stepped::Room(so_far)
+    Stepped::Fits(so_far)
 }
 
-// The edges of a vertex are counted, after one to itself if it has none.
-pub fn close(
-    c: Counters,
-    work: &mut [u32],
-    v: u32,
-    e: u32,
-    vertex: VertexIndex,
-    start: u32,
-) -> Stepped
-    requires { ⌜ Ready (now work) v e c × (vertex .0 < v) × (start ≤ c .edges) × (c .settled + c .waiting < c .known) ⌝ }
-    ensures { λ r. ⌜ CloseAnswer (now (work .entry)) v e (vertex .0) start c (now (work .exit)) r ⌝ }
+// The edges of a vertex are counted, after one to itself if it has none: with that it is settled.
+pub fn close(c: Counters, work: &mut [u32], room: Room, vertex: VertexIndex, start: u32) -> Stepped
+    requires { ⌜ Ready (now work) (room .vertices) (room .edges) c × (vertex .0 < room .vertices) × (start ≤ c .edges) × (c .settled + c .waiting < c .known) ⌝ }
+    ensures { λ r. ⌜ CloseAnswer (now (work .entry)) (room .vertices) (room .edges) (vertex .0) start c (now (work .exit)) r ⌝ }
 {
+    let v = room.vertices;
     let edges = c.edges;
     if edges == start {
-        if edges == e {
+        if edges == room.edges {
             return Stepped::Full;
         }
         put_edge(work, v, edges, vertex);
-        words::put_word(work, v, COUNTS, vertex.0, 1);
-        return Stepped::Room(Counters {
+        words::put_word(work, v, COUNTS, vertex.0, 2);
+        return Stepped::Fits(Counters {
             known: c.known,
             settled: c.settled + 1,
             edges: edges + 1,
             waiting: c.waiting,
         });
     }
-    words::put_word(work, v, COUNTS, vertex.0, edges - start);
-    Stepped::Room(Counters {
+    words::put_word(work, v, COUNTS, vertex.0, edges - start + 1);
+    Stepped::Fits(Counters {
         known: c.known,
         settled: c.settled + 1,
         edges,

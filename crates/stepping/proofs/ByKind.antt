@@ -4,8 +4,9 @@ use mathlib.Core.List.{List, [], _∷_, map}
 use Prim.Native.Nat.{ℕ, _≤_, _<_}
 use native.Mathlib.Decide.{decLt}
 use native.Mathlib.Omega.{arith}
-use lib.ListN.{length, take}
+use lib.ListN.{take}
 use Rattle.rules.specs.Lists.{word}
+use Rattle.compiled.specs.Stretches.{kindsIn, leftsIn, rightsIn}
 use Rattle.rules.specs.Words.{Input}
 use Rattle.rules.specs.Table.{size}
 use Rattle.rules.specs.Actions.{actionTree}
@@ -24,16 +25,18 @@ key-each : (l : ℕ) (ts : List ℕ) → map pairKey (map (λ t. (t, l)) ts) ≡
 key-each l [] = refl
 key-each l (t ∷ ts) = ap (λ (ks : List ℕ). keyOf t l ∷ ks) (key-each l ts)
 
-module _ (x : Input) (multiples classes samples matched kinds lefts rights : List ℕ) (t : Tables x multiples classes samples matched kinds lefts rights) (s q : ℕ)
-    (i : Inside x (s, q)) where
-  pub kinds-long : q < length kinds
-  kinds-long = omega (arith, i .1, t .items .kinds-room)
+module _ (x : Input) (compiled matched : List ℕ) (t : Tables x compiled matched) (s q : ℕ) (i : Inside x (s, q)) where
+  abbrev kinds : List ℕ
+  kinds = kindsIn compiled
 
-  pub lefts-long : q < length lefts
-  lefts-long = omega (arith, i .1, t .items .lefts-room)
+  abbrev lefts : List ℕ
+  lefts = leftsIn compiled
 
-  pub rights-long : q < length rights
-  rights-long = omega (arith, i .1, t .items .rights-room)
+  abbrev rights : List ℕ
+  rights = rightsIn compiled
+
+  pub item-small : q < 2048
+  item-small = omega (arith, i .1, items-few x (t .input))
 
   state-fits : s < 65535
   state-fits = omega (arith, i .0, t .input .system .states)

@@ -1,4 +1,5 @@
--- Keys say pairs: of pairs inside the system and the items no two have the same key, and the targets of a pair's key are the keys of its targets. Assumes nothing.
+-- Keys say pairs: of pairs inside the system and the items no two have the same key, and the targets of a pair's key
+-- are the keys of its targets. Assumes nothing.
 use mathlib.Core.Path.{_≡_, ap₂}
 use mathlib.Core.List.{map}
 use Prim.Native.Nat.{ℕ, _<_}

@@ -6,5 +6,6 @@ pub mod Walking
 pub mod Starts
 pub mod Offsets
 pub mod Paired
-pub mod Again
+pub mod Aside
+pub mod Lent
 pub mod Lies

@@ -1,5 +1,6 @@
--- Counters that stand in a local, and in memory as a borrow holds them: what a proof needs to lend the local by `&mut` and to take it back.
---     lies-in      the local's cell, and that the counters fit, give `mem .lies`, which `Denote/Lend.antt`'s `lends-ref` lends
+-- Counters that stand in a local, and in memory as a borrow holds them: what a proof needs to lend the local by `&mut`
+-- and to take it back.
+--     lies-in      the local's cell, and that the counters fit, give `mem .lies`, which `lends-ref` lends
 --     lies-out     `mem .lies`, which `ref-back` gives back, is the local's cell again, and the counters fit
 -- Assumes `Given`.
 use Prim.Native.Nat.{ℕ}

@@ -15,9 +15,9 @@ use Rattle.walks.proofs.Sums.{sum-none, sum-waits, sum-settles}
 use Rattle.pairs.specs.Table.{keysOf}
 use Rattle.pairs.proofs.Uses.{length-keys}
 use Rattle.settling.specs.declared.Counters.{Counters}
-use Rattle.settling.specs.Stand.{waitingOf, edgesOf, standOf, settledIn, startIn, countIn, degreeIn, degreesIn}
+use Rattle.settling.specs.Stand.{waitingOf, edgesOf, standOf, settledIn, startIn, countIn, degreesIn}
 use Rattle.settling.specs.Good.{edgesDue, Good}
-use Rattle.settling.proofs.Buffer.{length-edges, degree-settled, degree-unsettled}
+use Rattle.settling.proofs.Buffer.{length-edges, count-unsettled}
 use Rattle.stepping.proofs.Steps.{length-edgesFor}
 
 module _ (targets : ℕ → List ℕ) (root v e : ℕ) (w : List ℕ) (c : Counters) (g : Good targets root w v e c) where
@@ -48,12 +48,11 @@ module _ (targets : ℕ → List ℕ) (root v e : ℕ) (w : List ℕ) (c : Count
     where
       go : Settled (standOf w v c) u ⊎ In u (waitingOf w v (c .waiting))
           → degreesIn w v u ≡ sumBelow (edgesDue targets) root (standOf w v c) u
-          → degreesIn w v u + degreeIn w v u ≡ sumBelow (edgesDue targets) root (standOf w v c) (suc u)
+          → degreesIn w v u + countIn w v u ≡ sumBelow (edgesDue targets) root (standOf w v c) (suc u)
       go (inl s) ih =
-          let d = degree-settled w v u (g .stretches u s .settled) in
-          omega (arith, d, count-settled u s, ih, sum-settles (edgesDue targets) root (standOf w v c) u (s .1))
+          omega (arith, count-settled u s, ih, sum-settles (edgesDue targets) root (standOf w v c) u (s .1))
       go (inr m) ih =
-          let d = degree-unsettled w v u (waits-unsettled u h m) in
+          let d = count-unsettled w v u (waits-unsettled u h m) in
           omega (arith, d, ih, sum-waits (edgesDue targets) root (standOf w v c) u m)
 
   -- the last offset is the number of edges

@@ -13,7 +13,7 @@ use Rattle.words.specs.Regions.{region, putWord}
 use Rattle.pairs.specs.Table.{stateAt, itemAt}
 use Rattle.settling.specs.declared.Counters.{Counters}
 use Rattle.settling.specs.declared.Stepped.{Stepped}
-use Rattle.settling.specs.declared.Stepped.the-variants.{Room, Full}
+use Rattle.settling.specs.declared.Stepped.the-variants.{Fits, Full}
 use Rattle.settling.specs.Keys.{pairKey, keyTargets, rootKey}
 use Rattle.settling.specs.Made.{Ready, Made, TooMany, CloseAnswer}
 use Rattle.settling.specs.Good.{Good, StepAnswer}
@@ -35,7 +35,7 @@ module _ (x : Input) (good : GoodInput x) (v e : ℕ) (w : List ℕ) (c : Counte
       ∙ sym (key-targets x (stateAt w v u, itemAt w v u) (top-item (keyTargets x) (rootKey x) v e w c g some u is))
       ∙ ap (keyTargets x) (sym (top-key (keyTargets x) (rootKey x) v e w c g some u is))
 
-  module _ (w₁ : List ℕ) (g₁ : w₁ ≡ putWord 5 v u (c .edges + 1) w) where
+  module _ (w₁ : List ℕ) (g₁ : w₁ ≡ putWord 5 v u (c .edges) w) where
     pub pop-full : TooMany w₁ v e (popped c) (map pairKey (targets x (s, q))) → StepAnswer (keyTargets x) (rootKey x) w v e c w₁ Full
     pop-full f = step-many (keyTargets x) (rootKey x) v e w c g some u is w₁ g₁ (map pairKey (targets x (s, q))) pop-targets f
 
@@ -49,7 +49,7 @@ module _ (x : Input) (good : GoodInput x) (v e : ℕ) (w : List ℕ) (c : Counte
       )
 
       pub pop-answer : (w₃ : List ℕ) (r : Stepped) → CloseAnswer w₂ v e u (c .edges) c₂ w₃ r → StepAnswer (keyTargets x) (rootKey x) w v e c w₃ r
-      pop-answer w₃ (Room c₃) k =
+      pop-answer w₃ (Fits c₃) k =
           step-made (keyTargets x) (rootKey x) v e w c g some u is w₁ g₁ (map pairKey (targets x (s, q))) pop-targets w₂ c₂ m w₃ c₃ k
       pop-answer w₃ Full k =
           step-loop-many (keyTargets x) (rootKey x) v e w c g some u is w₁ g₁ (map pairKey (targets x (s, q))) pop-targets w₂ c₂ m k

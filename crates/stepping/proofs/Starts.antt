@@ -1,4 +1,4 @@
--- The beginning of a walk: the marks and the starts are cleared, and the root is met. Assumes nothing.
+-- The beginning of a walk: the marks and the counts are cleared, and the root is met. Assumes nothing.
 use mathlib.Core.Path.{_≡_, refl, sym, _∙_, ap, ap₂, subst, subst₂}
 use mathlib.Core.List.{List, [], _∷_}
 use mathlib.Core.Logic.{inl}
@@ -72,9 +72,9 @@ noCounts = record { known = 0; settled = 0; edges = 0; waiting = 0 }
 abbrev pub firstCounts : ℕ → ℕ → Counters
 firstCounts n m = record { known = n; settled = 0; edges = 0; waiting = m }
 
--- the words are started, their marks cleared, and then their starts
+-- the words are started, their marks cleared, and then their counts
 module _ (w w₁ wₘ w₂ : List ℕ) (v e : ℕ) (z : Sized w v e) (s : Started w w₁ v)
-    (k : Cleared w₁ wₘ v 7) (k₅ : Cleared wₘ w₂ v 5) (long : length w₂ ≡ length w) where
+    (k : Cleared w₁ wₘ v 7) (k₆ : Cleared wₘ w₂ v 6) (long : length w₂ ≡ length w) where
   pub empty-ready : Ready w₂ v e noCounts
   empty-ready =
       record {
@@ -82,7 +82,7 @@ module _ (w w₁ wₘ w₂ : List ℕ) (v e : ℕ) (z : Sized w v e) (s : Starte
         most = z .most;
         most-edges = z .most-edges;
         whole = omega (arith, z .whole);
-        table = table-kept w₁ w₂ v 0 (λ r h. k₅ .others r (omega arith) ∙ k .others r (omega arith)) (s .table);
+        table = table-kept w₁ w₂ v 0 (λ r h. k₆ .others r (omega arith) ∙ k .others r (omega arith)) (s .table);
         stack = omega arith;
         buffer = omega arith;
       }
@@ -132,11 +132,11 @@ module _ (w w₁ wₘ w₂ : List ℕ) (v e : ℕ) (z : Sized w v e) (s : Starte
                   balance = omega (arith, p .balance);
                   marks =
                       marks-rest w₂ w₃ v 0 (p .rest)
-                      (λ j h. subst (λ (l : List ℕ). word l j ≤ 0) (sym (k₅ .others 7 (omega arith))) (k .none j h));
+                      (λ j h. subst (λ (l : List ℕ). word l j ≤ 0) (sym (k₆ .others 7 (omega arith))) (k .none j h));
                   total = sym (ap (sumSettled (edgesDue targets) root) stands₃ ∙ no-sum (edgesDue targets) root);
                   stretches = λ y (h, out). absurd (out (subst (In y) (sym waits₃) (inl (omega (arith, one, length-keys w₃ v n)))));
                   unsettled = λ y h out.
-                      let same = sym (rest-region 5 5 v w₂ w₃ (p .rest) (lit≤ tt)) in
-                      unsettled-in w₃ v y (subst (λ (l : List ℕ). word l y ≤ 0) same (k₅ .none y h));
+                      let same = sym (rest-region 5 6 v w₂ w₃ (p .rest) (lit≤ tt)) in
+                      unsettled-in w₃ v y (subst (λ (l : List ℕ). word l y ≤ 0) same (k₆ .none y h));
                 };
           }

@@ -1,4 +1,5 @@
--- One whole step: the vertex numbered last is popped, settled and closed. The walk then stands where the definition says, and all is well again. Assumes nothing.
+-- One whole step: the vertex numbered last is popped, settled and closed. The walk then stands where the definition
+-- says, and all is well again. Assumes nothing.
 use mathlib.Core.Path.{_≡_, refl, sym, _∙_, ap, ap₂, subst, subst₂}
 use mathlib.Core.Bool.{false}
 use mathlib.Core.List.{List, [], _∷_, _++_, append-nil}
@@ -115,20 +116,20 @@ module _ (targets : ℕ → List ℕ) (root v e : ℕ) (w : List ℕ) (c : Count
     unfolding settle
     next-known = ap (λ (st : Stand ℕ). st .known) next
 
-    module _ (w₁ : List ℕ) (g₁ : w₁ ≡ putWord 5 v u (c .edges + 1) w) where
+    module _ (w₁ : List ℕ) (g₁ : w₁ ≡ putWord 5 v u (c .edges) w) where
       kept : (a : ℕ) → (a ≡ 5 → ⊥) → region a v w₁ ≡ region a v w
-      kept a d = ap (region a v) g₁ ∙ region-other a 5 v u (c .edges + 1) w top-below d
+      kept a d = ap (region a v) g₁ ∙ region-other a 5 v u (c .edges) w top-below d
 
       keys₁ : keysOf w₁ v (c .known) ≡ keys
       keys₁ = keys-kept w w₁ v (c .known) (λ a h. kept a (omega arith))
 
-      starts₁ : region 5 v w₁ ≡ set (region 5 v w) u (c .edges + 1)
-      starts₁ = ap (region 5 v) g₁ ∙ region-same 5 v u (c .edges + 1) w top-below
+      starts₁ : region 5 v w₁ ≡ set (region 5 v w) u (c .edges)
+      starts₁ = ap (region 5 v) g₁ ∙ region-same 5 v u (c .edges) w top-below
 
       edges₁ : edgesOf w₁ v (c .edges) ≡ edgesOf w v (c .edges)
       edges₁ =
           ap (λ (l : List ℕ). edgesOf l v (c .edges)) g₁
-          ∙ edges-put 5 v u (c .edges + 1) (c .edges) w (lit< tt) top-below
+          ∙ edges-put 5 v u (c .edges) (c .edges) w (lit< tt) top-below
 
       pub popped-ready : Ready w₁ v e (popped c)
       popped-ready =
@@ -137,7 +138,7 @@ module _ (targets : ℕ → List ℕ) (root v e : ℕ) (w : List ℕ) (c : Count
             some = r .some;
             most = r .most;
             most-edges = r .most-edges;
-            whole = omega (arith, r .whole, ap length g₁, length-putWord 5 v u (c .edges + 1) w);
+            whole = omega (arith, r .whole, ap length g₁, length-putWord 5 v u (c .edges) w);
             table = table-kept w w₁ v (c .known) (λ a h. kept a (omega arith)) (r .table);
             stack = omega (arith, r .stack);
             buffer = r .buffer;
@@ -235,11 +236,11 @@ module _ (targets : ℕ → List ℕ) (root v e : ℕ) (w : List ℕ) (c : Count
             before : length (edgesOf w v (c .edges)) ≡ c .edges
             before = length-edges w v (c .edges) (omega (arith, g .ready .whole, g .ready .buffer))
 
-            starts₃ : region 5 v w₃ ≡ set (region 5 v w) u (c .edges + 1)
+            starts₃ : region 5 v w₃ ≡ set (region 5 v w) u (c .edges)
             starts₃ = b .starts ∙ a .starts ∙ starts₁
 
-            counts₃ : region 6 v w₃ ≡ set (region 6 v w) u (c₃ .edges - c .edges)
-            counts₃ = b .counts ∙ ap (λ (l : List ℕ). set l u (c₃ .edges - c .edges)) (a .counts ∙ kept 6 (omega arith))
+            counts₃ : region 6 v w₃ ≡ set (region 6 v w) u (suc (c₃ .edges - c .edges))
+            counts₃ = b .counts ∙ ap (λ (l : List ℕ). set l u (suc (c₃ .edges - c .edges))) (a .counts ∙ kept 6 (omega arith))
 
             wide : (r : ℕ) → r < 8 → r * v + v ≤ 8 * v → length (region r v w) ≡ v
             wide r h l = length-region r v w (omega (arith, g .ready .whole))
@@ -248,11 +249,11 @@ module _ (targets : ℕ → List ℕ) (root v e : ℕ) (w : List ℕ) (c : Count
             stretch-new : Stretch targets root w₃ v c₃ u
             stretch-new =
                 let within : u < length (region 5 v w) = omega (arith, wide 5 (lit< tt) (omega arith), top-below) in
-                let b : word (region 5 v w₃) u ≡ c .edges + 1 =
-                ap (λ (l : List ℕ). word l u) starts₃ ∙ getD-set-same (region 5 v w) u (c .edges + 1) 0 within in
-                let s : startIn w₃ v u ≡ c .edges = omega (arith, b) in
-                let n : countIn w₃ v u ≡ c₃ .edges - c .edges =
-                ap (λ (l : List ℕ). word l u) counts₃ ∙ getD-set-same (region 6 v w) u (c₃ .edges - c .edges) 0 (omega (arith, wide 6 (lit< tt) (omega arith), top-below)) in
+                let s : startIn w₃ v u ≡ c .edges =
+                ap (λ (l : List ℕ). word l u) starts₃ ∙ getD-set-same (region 5 v w) u (c .edges) 0 within in
+                let b : word (region 6 v w₃) u ≡ suc (c₃ .edges - c .edges) =
+                ap (λ (l : List ℕ). word l u) counts₃ ∙ getD-set-same (region 6 v w) u (suc (c₃ .edges - c .edges)) 0 (omega (arith, wide 6 (lit< tt) (omega arith), top-below)) in
+                let n : countIn w₃ v u ≡ c₃ .edges - c .edges = omega (arith, b) in
                 record {
                   settled = settled-in w₃ v u (omega (arith, b));
                   inside = omega (arith, s, n, edges₃);
@@ -266,18 +267,22 @@ module _ (targets : ℕ → List ℕ) (root v e : ℕ) (w : List ℕ) (c : Count
 
             start-other : (y : ℕ) → (y ≡ u → ⊥) → word (region 5 v w₃) y ≡ word (region 5 v w) y
             start-other y d =
-                ap (λ (l : List ℕ). word l y) starts₃ ∙ getD-set-other (region 5 v w) u y (c .edges + 1) 0 d
+                ap (λ (l : List ℕ). word l y) starts₃ ∙ getD-set-other (region 5 v w) u y (c .edges) 0 d
+
+            count-other : (y : ℕ) → (y ≡ u → ⊥) → word (region 6 v w₃) y ≡ word (region 6 v w) y
+            count-other y d =
+                ap (λ (l : List ℕ). word l y) counts₃
+                ∙ getD-set-other (region 6 v w) u y (suc (c₃ .edges - c .edges)) 0 d
 
             -- one that was settled before
             stretch-old : (y : ℕ) → y < c .known → (y ≡ u → ⊥) → (¬ In y (waitingOf w v (c .waiting))) → Stretch targets root w v c y → Stretch targets root w₃ v c₃ y
             stretch-old y h d out p =
-                let s : startIn w₃ v y ≡ startIn w v y = ap (λ (k : ℕ). k - 1) (start-other y d) in
-                let n : countIn w₃ v y ≡ countIn w v y =
-                ap (λ (l : List ℕ). word l y) counts₃ ∙ getD-set-other (region 6 v w) u y (c₃ .edges - c .edges) 0 d in
+                let s : startIn w₃ v y ≡ startIn w v y = start-other y d in
+                let n : countIn w₃ v y ≡ countIn w v y = ap (λ (k : ℕ). k - 1) (count-other y d) in
                 let st = startIn w v y in
                 let ct = countIn w v y in
                 record {
-                  settled = settled-same w w₃ v y (start-other y d) ∙ p .settled;
+                  settled = settled-same w w₃ v y (count-other y d) ∙ p .settled;
                   inside = omega (arith, s, n, p .inside, edges₃);
                   row =
                       ap₂ (λ (k l : ℕ). take k (drop l (edgesOf w₃ v (c₃ .edges)))) n s
@@ -323,7 +328,7 @@ module _ (targets : ℕ → List ℕ) (root v e : ℕ) (w : List ℕ) (c : Count
             unsettled₃ : (y : ℕ) → y < v → (¬ Settled (standOf w₃ v c₃) y) → settledIn w₃ v y ≡ false
             unsettled₃ y h out =
                 let d : y ≡ u → ⊥ = λ q. out (subst (Settled (standOf w₃ v c₃)) (sym q) settled-top) in
-                settled-same w w₃ v y (start-other y d) ∙ g .unsettled y h (λ s. out (settled-kept y s))
+                settled-same w w₃ v y (count-other y d) ∙ g .unsettled y h (λ s. out (settled-kept y s))
 
             pub step-made : StepMade targets root w v e c w₃ c₃
             step-made =

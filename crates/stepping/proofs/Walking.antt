@@ -1,4 +1,4 @@
--- Steps one after another: the loop of the function `turns`. Assumes nothing.
+-- Steps one after another: the loop of the function `run_steps`. Assumes nothing.
 use mathlib.Core.Path.{_≡_, refl, sym, _∙_, ap, subst}
 use mathlib.Core.List.{List, []}
 use mathlib.Core.Bool.{Bool, true, false, not}
@@ -18,7 +18,7 @@ use Rattle.settling.specs.declared.Counters.{Counters}
 use Rattle.settling.specs.Stand.{standOf}
 use Rattle.settling.specs.Good.{edgesDue, Exceeding, StepMade, WalkMade}
 use Rattle.settling.proofs.Buffer.{none-waits}
-use Rattle.stepping.specs.Answers.{TurnAnswer, TurnsAnswer}
+use Rattle.stepping.specs.Answers.{TriedAnswer, RanAnswer}
 
 -- too many after fewer steps are too many after more
 pub exceeding-later : (targets : ℕ → List ℕ) (root v e i k : ℕ) → i ≤ k → Exceeding targets root v e (walk eqb targets root i) → Exceeding targets root v e (walk eqb targets root k)
@@ -68,23 +68,23 @@ module _ (targets : ℕ → List ℕ) (root v e k : ℕ) (w₀ : List ℕ) where
         let z : i ≡ k = omega (arith, s .until) in
         record { stands = s .made .stands ∙ ap (walk eqb targets root) z; good = s .made .good }
 
-    pub turns-end : k ≤ i → TurnsAnswer targets root v e k w c i
-    turns-end h = record { made = λ _. walking-end h; many = λ f _. absurd (omega (arith, f, h)) }
+    pub walked-all : k ≤ i → RanAnswer targets root v e k w c i
+    walked-all h = record { made = λ _. walking-end h; many = λ f _. absurd (omega (arith, f, h)) }
 
-  -- a turn from where i steps are done
+  -- one more try from where i steps are done
   module _ (w : List ℕ) (c : Counters) (i : ℕ) (s : Walking targets root v e k w₀ w c i) (h : i < k) (w′ : List ℕ) (c′ : Counters) (l : length w′ ≡ length w) where
-    pub turned-on : (r : Bool) → T (not (not r)) → TurnAnswer targets root w v e c w′ c′ r → Walking targets root v e k w₀ w′ c′ (i + 1)
-    turned-on true _ m = walking-on w c i s w′ c′ h l m
-    turned-on false f m = absurd f
+    pub tried-on : (r : Bool) → T (not (not r)) → TriedAnswer targets root w v e c w′ c′ r → Walking targets root v e k w₀ w′ c′ (i + 1)
+    tried-on true _ m = walking-on w c i s w′ c′ h l m
+    tried-on false f m = absurd f
 
-    pub turned-last : (r : Bool) → T (not r) → TurnAnswer targets root w v e c w′ c′ r → TurnsAnswer targets root v e k w′ c′ i
-    turned-last true f m = absurd f
-    turned-last false _ (inl m) =
+    pub tried-last : (r : Bool) → T (not r) → TriedAnswer targets root w v e c w′ c′ r → RanAnswer targets root v e k w′ c′ i
+    tried-last true f m = absurd f
+    tried-last false _ (inl m) =
         record {
           made = λ _. walking-idle w′ c′ (i + 1) (walking-on w c i s w′ c′ h l (m .1)) (m .0);
           many = λ _ p. absurd (omega (arith, p, m .0));
         }
-    turned-last false _ (inr m) =
+    tried-last false _ (inr m) =
         record {
           made = ⊎-elim (λ (p : k ≤ i). absurd (omega (arith, p, h))) (λ (p : c′ .waiting ≤ 0). absurd (omega (arith, p, m .0)));
           many = λ _ _. walking-many w c i s h (m .1);

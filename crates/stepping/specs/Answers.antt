@@ -1,4 +1,4 @@
--- What a turn of the walk answers, and what at most k turns answer. Assumes nothing: these are definitions.
+-- What a try of a step answers, and what at most k steps answer. Assumes nothing: these are definitions.
 use mathlib.Core.Path.{_≡_}
 use mathlib.Core.Bool.{Bool, true, false}
 use mathlib.Core.List.{List}
@@ -10,13 +10,15 @@ use Rattle.settling.specs.declared.Counters.{Counters}
 use Rattle.settling.specs.Stand.{standOf}
 use Rattle.settling.specs.Good.{Exceeding, StepMade, WalkMade}
 
--- where there may be another turn a step was made; else none waits, or a vertex waits and its step would be too much
-abbrev pub TurnAnswer : (ℕ → List ℕ) → ℕ → List ℕ → ℕ → ℕ → Counters → List ℕ → Counters → Bool → Type 0
-TurnAnswer targets root w v e c w′ c′ true = StepMade targets root w v e c w′ c′
-TurnAnswer targets root w v e c w′ c′ false =
-    ((c′ .waiting ≡ 0) × StepMade targets root w v e c w′ c′) ⊎ ((0 < c′ .waiting) × Exceeding targets root v e (step eqb targets root (standOf w v c)))
+-- where there may be another step one was made; else none waits, or a vertex waits and its step would be too much
+abbrev pub TriedAnswer : (ℕ → List ℕ) → ℕ → List ℕ → ℕ → ℕ → Counters → List ℕ → Counters → Bool → Type 0
+TriedAnswer targets root w v e c w′ c′ true = StepMade targets root w v e c w′ c′
+TriedAnswer targets root w v e c w′ c′ false =
+    ((c′ .waiting ≡ 0) × StepMade targets root w v e c w′ c′)
+    ⊎ ((0 < c′ .waiting) × Exceeding targets root v e (step eqb targets root (standOf w v c)))
 
--- k turns, or fewer after which none waits, are the walk of k steps; where fewer end while a vertex waits, that walk is too much
-pub record TurnsAnswer (targets : ℕ → List ℕ) (root v e k : ℕ) (w′ : List ℕ) (c′ : Counters) (i : ℕ) : Type 0 where
+-- k of them, or fewer after which none waits, are the walk of k steps; where fewer end while a vertex waits, that
+-- walk is too much
+pub record RanAnswer (targets : ℕ → List ℕ) (root v e k : ℕ) (w′ : List ℕ) (c′ : Counters) (i : ℕ) : Type 0 where
   pub made : (k ≤ i) ⊎ (c′ .waiting ≤ 0) → WalkMade targets root v e k w′ c′
   pub many : i < k → 0 < c′ .waiting → Exceeding targets root v e (walk eqb targets root k)

@@ -1,332 +1,275 @@
-// One step of the walk over the pairs of an input, and the walk of at most k steps, in the lent work slice.
-// The functions that are `pub` are parts of a run and are called by it alone: what holds of a whole run is said where the run is.
+// One step of the walk over the pairs of an input, and the walk of at most k steps, in the lent work slice. The
+// functions that are `pub` are parts of a run and are called by it alone: what holds of a whole run is said where the
+// run is.
+use compiled::Compiled;
+use match_table::MatchBytes;
+use modalities::Modality;
 use player::VertexIndex;
+use rules::Room;
 use settling::Counters;
 use settling::Met;
 use settling::Stepped;
+use words::COUNTS;
+use words::MARKS;
+use words::STACK;
+use words::STARTS;
 ghost use mathlib.Core.Path.{_≡_};
 ghost use mathlib.Core.List.{map};
-ghost use Prim.Native.Nat.{_*_, _/_, _≤_, _<_};
-ghost use lib.Dec.{eqb};
+ghost use Prim.Native.Nat.{_*_, _≤_, _<_};
 ghost use lib.ListN.{length};
-ghost use Rattle.rules.specs.Lists.{word};
-ghost use Rattle.rules.specs.Words.{inputOf};
+ghost use Rattle.rules.specs.Words.{Input, inputOf};
 ghost use Rattle.rules.specs.Pairs.{targets};
 ghost use Rattle.tables.specs.Good.{GoodInput};
 ghost use Rattle.arena.specs.Arena.{Inside};
+ghost use Rattle.compiled.specs.Stretches.{multiplesIn};
 ghost use Rattle.pairs.specs.Slot.{Multiples};
+ghost use Rattle.pairs.specs.Table.{stateAt, itemAt};
 ghost use Rattle.settling.specs.Keys.{pairKey, keyTargets, rootKey};
-ghost use Rattle.settling.specs.Made.{Marks, Ready, Answer, Cleared, Sized};
+ghost use Rattle.settling.specs.Made.{Answer, Cleared, Sized};
+ghost use Rattle.modalities.specs.Matched.{Unmarked};
 ghost use Rattle.settling.specs.Good.{Good, StepAnswer, WalkMade, WalkAnswer};
 ghost use Rattle.stepping.specs.Tables.{Tables};
-ghost use Rattle.stepping.specs.Answers.{TurnAnswer, TurnsAnswer};
+ghost use Rattle.stepping.specs.Answers.{TriedAnswer, RanAnswer};
 
-// The regions of the work slice.
-const STACK: u32 = 4;
-
-const STARTS: u32 = 5;
-
-const MARKS: u32 = 7;
-
-// What a table has for an item.
-fn entry(table: &[u32], item: u32) -> u32
-    requires { ⌜ item < length (now table) ⌝ }
-    ensures { λ r. ⌜ r ≡ word (now (table .entry)) item ⌝ }
-{
-    table[item as usize]
+// A state and the number of an item.
+pub struct Pair {
+    pub state: u32,
+    pub item: u32,
 }
 
-// Is an item a box or a diamond?
-fn is_modality(kind: u32) -> bool
-    ensures { λ r. ⌜ r ≡ eqb (kind / 2) 2 ⌝ }
+// The pair that a vertex stands for.
+fn pair_of(work: &[u32], v: u32, vertex: VertexIndex) -> Pair
+    requires { ⌜ (8 * v ≤ length (now work)) × (vertex .0 < v) ⌝ }
+    ensures { λ r. ⌜ (r .state ≡ stateAt (now (work .entry)) v (vertex .0))
+        × (r .item ≡ itemAt (now (work .entry)) v (vertex .0)) ⌝ }
 {
-    kind / 2 == 2
-}
-
-// How many operands an item has that is no constant and no modality: `and` and `or` have two.
-fn operand_count(kind: u32) -> usize
-    ensures { λ r. ⌜ (kind < 4 → r ≡ 2) × (4 ≤ kind → r ≡ 1) ⌝ }
-{
-    if kind < 4 {
-        return 2;
+    Pair {
+        state: pairs::state_of(work, v, vertex),
+        item: pairs::item_of(work, v, vertex),
     }
-    1
 }
 
-// The targets of a pair are met and get their edges. Kinds: 0 true, 1 false; 2 and, 3 or; 4 box, 5 diamond; 6 least, 7 greatest, 8 reference.
+// The targets of a pair are met and get their edges, by the item's kind: crate `kinds` has the rules.
 fn settle(
     c: Counters,
-    multiples: &[u32; 256],
+    compiled: &Compiled,
     work: &mut [u32],
+    room: Room,
     labels: &[u32],
     system: &[u32],
     actions: &[u32],
     formula: &[u32],
-    classes: &[u32],
-    samples: &[u32; 4096],
-    matched: &[u8; 17408],
-    kinds: &[u32],
-    lefts: &[u32],
-    rights: &[u32],
-    v: u32,
-    e: u32,
-    state: u32,
-    item: u32,
+    matched: &MatchBytes,
+    pair: Pair,
 ) -> Stepped
-    requires { ⌜ Tables (inputOf (now labels) (now system) (now actions) (now formula)) (now multiples) (now classes) (now samples) (now matched) (now kinds) (now lefts) (now rights) ⌝ }
-    requires { ⌜ Ready (now work) v e c × (c .settled < c .known) × Marks (now work) v (c .settled) ⌝ }
-    requires { ⌜ Inside (inputOf (now labels) (now system) (now actions) (now formula)) (state, item) ⌝ }
-    ensures { λ r. ⌜ Answer (now (work .entry)) v e c
-        (map pairKey (targets (inputOf (now (labels .entry)) (now (system .entry)) (now (actions .entry)) (now (formula .entry))) (state, item))) (now (work .exit)) r ⌝ }
+    ghost { Input }
+    requires { λ x. ⌜ inputOf (now labels) (now system) (now actions) (now formula) ≡ x ⌝ }
+    requires { λ x. ⌜ Tables x (now compiled) (now matched) × Inside x (pair .state, pair .item) ⌝ }
+    requires { λ x. ⌜ Unmarked (now work) room c ⌝ }
+    ensures { λ x r. ⌜ Answer (now (work .entry)) (room .vertices) (room .edges) c
+        (map pairKey (targets x (pair .state, pair .item))) (now (work .exit)) r ⌝ }
 {
-    let kind = entry(kinds, item);
+    let kind = compiled::kind_of(compiled, pair.item);
     if kind < 2 {
-        return Stepped::Room(c);
+        return Stepped::Fits(c);
     }
-    let left = entry(lefts, item);
-    let right = entry(rights, item);
-    if is_modality(kind) {
+    let left = compiled::left_of(compiled, pair.item);
+    let right = compiled::right_of(compiled, pair.item);
+    if kinds::is_modality(kind) {
+        let modality = Modality {
+            state: pair.state,
+            action: right,
+            operand: left,
+        };
         return modalities::settle_modality(
             c,
-            multiples,
+            compiled,
             work,
+            room,
             labels,
             system,
             actions,
-            formula,
-            classes,
-            samples,
             matched,
-            v,
-            e,
-            state,
-            right,
-            left,
+            modality,
         );
     }
-    let count = operand_count(kind);
-    settling::settle_operands(c, multiples, work, v, e, state, left, right, count)
+    let count = kinds::operand_count(kind);
+    let multiples = compiled::multiples(compiled);
+    settling::settle_operands(c, multiples, work, room, pair.state, left, right, count)
 }
 
 // The waiting vertex that was numbered last is settled.
 pub fn step(
     c: Counters,
-    multiples: &[u32; 256],
+    compiled: &Compiled,
     work: &mut [u32],
+    room: Room,
     labels: &[u32],
     system: &[u32],
     actions: &[u32],
     formula: &[u32],
-    classes: &[u32],
-    samples: &[u32; 4096],
-    matched: &[u8; 17408],
-    kinds: &[u32],
-    lefts: &[u32],
-    rights: &[u32],
-    v: u32,
-    e: u32,
+    matched: &MatchBytes,
 ) -> Stepped
-    requires { ⌜ Tables (inputOf (now labels) (now system) (now actions) (now formula)) (now multiples) (now classes) (now samples) (now matched) (now kinds) (now lefts) (now rights) ⌝ }
-    requires { ⌜ Good (keyTargets (inputOf (now labels) (now system) (now actions) (now formula))) (rootKey (inputOf (now labels) (now system) (now actions) (now formula))) (now work) v e c ⌝ }
-    ensures { λ r. ⌜ StepAnswer (keyTargets (inputOf (now (labels .entry)) (now (system .entry)) (now (actions .entry)) (now (formula .entry))))
-        (rootKey (inputOf (now (labels .entry)) (now (system .entry)) (now (actions .entry)) (now (formula .entry)))) (now (work .entry)) v e c (now (work .exit)) r ⌝ }
+    ghost { Input }
+    requires { λ x. ⌜ inputOf (now labels) (now system) (now actions) (now formula) ≡ x ⌝ }
+    requires { λ x. ⌜ Tables x (now compiled) (now matched) ⌝ }
+    requires { λ x. ⌜ Good (keyTargets x) (rootKey x) (now work) (room .vertices) (room .edges) c ⌝ }
+    ensures { λ x r. ⌜ StepAnswer (keyTargets x) (rootKey x) (now (work .entry)) (room .vertices) (room .edges) c
+        (now (work .exit)) r ⌝ }
 {
     let waiting = c.waiting;
     if waiting == 0 {
-        return Stepped::Room(c);
+        return Stepped::Fits(c);
     }
+    let v = room.vertices;
     let start = c.edges;
     let top = waiting - 1;
-    let vertex = words::region_word(work, v, STACK, top);
-    let state = pairs::state_of(work, v, vertex);
-    let item = pairs::item_of(work, v, vertex);
-    words::put_word(work, v, STARTS, vertex, start + 1);
-    let popped = Counters {
-        known: c.known,
-        settled: c.settled,
-        edges: start,
-        waiting: top,
-    };
+    let vertex = VertexIndex(words::region_word(work, v, STACK, top));
+    let pair = pair_of(work, v, vertex);
+    words::put_word(work, v, STARTS, vertex.0, start);
+    let mut popped = c;
+    popped.waiting = top;
     match settle(
         popped,
-        multiples,
+        compiled,
         work,
+        room,
         labels,
         system,
         actions,
         formula,
-        classes,
-        samples,
         matched,
-        kinds,
-        lefts,
-        rights,
-        v,
-        e,
-        state,
-        item,
+        pair,
     ) {
-        Stepped::Room(made) => settling::close(made, work, v, e, VertexIndex(vertex), start),
+        Stepped::Fits(made) => settling::close(made, work, room, vertex, start),
         Stepped::Full => Stepped::Full,
     }
 }
 
-// The counters after a turn of the walk, and whether there may be another.
-pub struct Turned {
+// The counters after a try, and whether there may be another step.
+pub struct Tried {
     pub counters: Counters,
     pub more: bool,
 }
 
 // A step, where a vertex waits and there is room for its targets. Elsewhere the counters stay as they are.
-fn turn(
+fn try_step(
     c: Counters,
     work: &mut [u32],
-    multiples: &[u32; 256],
     labels: &[u32],
     system: &[u32],
     actions: &[u32],
     formula: &[u32],
-    classes: &[u32],
-    samples: &[u32; 4096],
-    matched: &[u8; 17408],
-    kinds: &[u32],
-    lefts: &[u32],
-    rights: &[u32],
-    v: u32,
-    e: u32,
-) -> Turned
-    requires { ⌜ Tables (inputOf (now labels) (now system) (now actions) (now formula)) (now multiples) (now classes) (now samples) (now matched) (now kinds) (now lefts) (now rights)
-        × Good (keyTargets (inputOf (now labels) (now system) (now actions) (now formula))) (rootKey (inputOf (now labels) (now system) (now actions) (now formula))) (now work) v e c ⌝ }
-    ensures { λ r. ⌜ TurnAnswer (keyTargets (inputOf (now (labels .entry)) (now (system .entry)) (now (actions .entry)) (now (formula .entry))))
-        (rootKey (inputOf (now (labels .entry)) (now (system .entry)) (now (actions .entry)) (now (formula .entry)))) (now (work .entry)) v e c (now (work .exit)) (r .counters) (r .more) ⌝ }
+    compiled: &Compiled,
+    matched: &MatchBytes,
+    room: Room,
+) -> Tried
+    ghost { Input }
+    requires { λ x. ⌜ inputOf (now labels) (now system) (now actions) (now formula) ≡ x ⌝ }
+    requires { λ x. ⌜ Tables x (now compiled) (now matched)
+        × Good (keyTargets x) (rootKey x) (now work) (room .vertices) (room .edges) c ⌝ }
+    ensures { λ x r. ⌜ TriedAnswer (keyTargets x) (rootKey x) (now (work .entry)) (room .vertices) (room .edges) c
+        (now (work .exit)) (r .counters) (r .more) ⌝ }
 {
+    let same = Tried {
+        counters: c,
+        more: false,
+    };
     if c.waiting == 0 {
-        return Turned {
-            counters: c,
-            more: false,
-        };
+        return same;
     }
     match step(
         c,
-        multiples,
+        compiled,
         work,
+        room,
         labels,
         system,
         actions,
         formula,
-        classes,
-        samples,
         matched,
-        kinds,
-        lefts,
-        rights,
-        v,
-        e,
     ) {
-        Stepped::Room(next) => Turned {
+        Stepped::Fits(next) => Tried {
             counters: next,
             more: true,
         },
-        Stepped::Full => Turned {
-            counters: c,
-            more: false,
-        },
+        Stepped::Full => same,
     }
 }
 
-// The same where the counters stand. It answers whether there may be another turn.
+// The same where the counters stand. It answers whether there may be another step.
 pub fn step_in_place(
     c: &mut Counters,
     work: &mut [u32],
-    multiples: &[u32; 256],
     labels: &[u32],
     system: &[u32],
     actions: &[u32],
     formula: &[u32],
-    classes: &[u32],
-    samples: &[u32; 4096],
-    matched: &[u8; 17408],
-    kinds: &[u32],
-    lefts: &[u32],
-    rights: &[u32],
-    v: u32,
-    e: u32,
+    compiled: &Compiled,
+    matched: &MatchBytes,
+    room: Room,
 ) -> bool
-    requires { ⌜ Tables (inputOf (now labels) (now system) (now actions) (now formula)) (now multiples) (now classes) (now samples) (now matched) (now kinds) (now lefts) (now rights)
-        × Good (keyTargets (inputOf (now labels) (now system) (now actions) (now formula))) (rootKey (inputOf (now labels) (now system) (now actions) (now formula))) (now work) v e (now c) ⌝ }
-    ensures { λ r. ⌜ TurnAnswer (keyTargets (inputOf (now (labels .entry)) (now (system .entry)) (now (actions .entry)) (now (formula .entry))))
-        (rootKey (inputOf (now (labels .entry)) (now (system .entry)) (now (actions .entry)) (now (formula .entry)))) (now (work .entry)) v e (now (c .entry)) (now (work .exit)) (now (c .exit)) r ⌝ }
+    ghost { Input }
+    requires { λ x. ⌜ inputOf (now labels) (now system) (now actions) (now formula) ≡ x ⌝ }
+    requires { λ x. ⌜ Tables x (now compiled) (now matched)
+        × Good (keyTargets x) (rootKey x) (now work) (room .vertices) (room .edges) (now c) ⌝ }
+    ensures { λ x r. ⌜ TriedAnswer (keyTargets x) (rootKey x) (now (work .entry)) (room .vertices) (room .edges)
+        (now (c .entry)) (now (work .exit)) (now (c .exit)) r ⌝ }
 {
-    let s = turn(
+    let tried = try_step(
         *c,
         work,
-        multiples,
         labels,
         system,
         actions,
         formula,
-        classes,
-        samples,
+        compiled,
         matched,
-        kinds,
-        lefts,
-        rights,
-        v,
-        e,
+        room,
     );
-    *c = s.counters;
-    s.more
+    *c = tried.counters;
+    tried.more
 }
 
-// Where the turns end: the counters, and how many turns there were.
+// Where the steps end: the counters, and how many steps there were.
 pub struct Ran {
     pub counters: Counters,
     pub steps: u32,
 }
 
-// At most k turns. The counters stand in one place, and each turn updates them there.
-fn turns(
+// At most `limit` steps. The counters stand in one place, and each step updates them there.
+fn run_steps(
     work: &mut [u32],
-    multiples: &[u32; 256],
     labels: &[u32],
     system: &[u32],
     actions: &[u32],
     formula: &[u32],
-    classes: &[u32],
-    samples: &[u32; 4096],
-    matched: &[u8; 17408],
-    kinds: &[u32],
-    lefts: &[u32],
-    rights: &[u32],
-    v: u32,
-    e: u32,
-    k: u32,
+    compiled: &Compiled,
+    matched: &MatchBytes,
+    room: Room,
+    limit: u32,
     c: Counters,
 ) -> Ran
-    requires { ⌜ Tables (inputOf (now labels) (now system) (now actions) (now formula)) (now multiples) (now classes) (now samples) (now matched) (now kinds) (now lefts) (now rights)
-        × WalkMade (keyTargets (inputOf (now labels) (now system) (now actions) (now formula))) (rootKey (inputOf (now labels) (now system) (now actions) (now formula))) v e 0 (now work) c ⌝ }
-    ensures { λ r. ⌜ TurnsAnswer (keyTargets (inputOf (now (labels .entry)) (now (system .entry)) (now (actions .entry)) (now (formula .entry))))
-        (rootKey (inputOf (now (labels .entry)) (now (system .entry)) (now (actions .entry)) (now (formula .entry)))) v e k (now (work .exit)) (r .counters) (r .steps) ⌝ }
+    ghost { Input }
+    requires { λ x. ⌜ inputOf (now labels) (now system) (now actions) (now formula) ≡ x ⌝ }
+    requires { λ x. ⌜ Tables x (now compiled) (now matched)
+        × WalkMade (keyTargets x) (rootKey x) (room .vertices) (room .edges) 0 (now work) c ⌝ }
+    ensures { λ x r. ⌜ RanAnswer (keyTargets x) (rootKey x) (room .vertices) (room .edges) limit (now (work .exit))
+        (r .counters) (r .steps) ⌝ }
 {
     let mut at = c;
     let mut i: u32 = 0;
-    while i < k {
+    while i < limit {
         if !step_in_place(
             &mut at,
             work,
-            multiples,
             labels,
             system,
             actions,
             formula,
-            classes,
-            samples,
+            compiled,
             matched,
-            kinds,
-            lefts,
-            rights,
-            v,
-            e,
+            room,
         ) {
             break;
         }
@@ -338,55 +281,45 @@ fn turns(
     }
 }
 
-// At most k steps from the beginning.
+// At most `limit` steps from the beginning.
 pub fn walk(
     c: Counters,
-    multiples: &[u32; 256],
+    compiled: &Compiled,
     work: &mut [u32],
+    room: Room,
     labels: &[u32],
     system: &[u32],
     actions: &[u32],
     formula: &[u32],
-    classes: &[u32],
-    samples: &[u32; 4096],
-    matched: &[u8; 17408],
-    kinds: &[u32],
-    lefts: &[u32],
-    rights: &[u32],
-    v: u32,
-    e: u32,
-    k: u32,
+    matched: &MatchBytes,
+    limit: u32,
 ) -> Stepped
-    requires { ⌜ Tables (inputOf (now labels) (now system) (now actions) (now formula)) (now multiples) (now classes) (now samples) (now matched) (now kinds) (now lefts) (now rights) ⌝ }
-    requires { ⌜ WalkMade (keyTargets (inputOf (now labels) (now system) (now actions) (now formula))) (rootKey (inputOf (now labels) (now system) (now actions) (now formula))) v e 0 (now work) c ⌝ }
-    ensures { λ r. ⌜ WalkAnswer (keyTargets (inputOf (now (labels .entry)) (now (system .entry)) (now (actions .entry)) (now (formula .entry))))
-        (rootKey (inputOf (now (labels .entry)) (now (system .entry)) (now (actions .entry)) (now (formula .entry)))) v e k (now (work .exit)) r ⌝ }
+    ghost { Input }
+    requires { λ x. ⌜ inputOf (now labels) (now system) (now actions) (now formula) ≡ x ⌝ }
+    requires { λ x. ⌜ Tables x (now compiled) (now matched) ⌝ }
+    requires { λ x. ⌜ WalkMade (keyTargets x) (rootKey x) (room .vertices) (room .edges) 0 (now work) c ⌝ }
+    ensures { λ x r. ⌜ WalkAnswer (keyTargets x) (rootKey x) (room .vertices) (room .edges) limit
+        (now (work .exit)) r ⌝ }
 {
-    let ran = turns(
+    let ran = run_steps(
         work,
-        multiples,
         labels,
         system,
         actions,
         formula,
-        classes,
-        samples,
+        compiled,
         matched,
-        kinds,
-        lefts,
-        rights,
-        v,
-        e,
-        k,
+        room,
+        limit,
         c,
     );
     let counters = ran.counters;
-    if ran.steps < k {
+    if ran.steps < limit {
         if 0 < counters.waiting {
             return Stepped::Full;
         }
     }
-    Stepped::Room(counters)
+    Stepped::Fits(counters)
 }
 
 // Every word of a region becomes 0.
@@ -403,23 +336,24 @@ fn clear_region(work: &mut [u32], v: u32, area: u32)
 
 // The walk before its first step, whatever the work words hold.
 pub fn begin(
-    multiples: &[u32; 256],
+    compiled: &Compiled,
     work: &mut [u32],
+    room: Room,
     labels: &[u32],
     system: &[u32],
     actions: &[u32],
     formula: &[u32],
-    v: u32,
-    e: u32,
 ) -> Stepped
-    requires { ⌜ Multiples (now multiples) × GoodInput (inputOf (now labels) (now system) (now actions) (now formula)) ⌝ }
-    requires { ⌜ Sized (now work) v e ⌝ }
-    ensures { λ r. ⌜ WalkAnswer (keyTargets (inputOf (now (labels .entry)) (now (system .entry)) (now (actions .entry)) (now (formula .entry))))
-        (rootKey (inputOf (now (labels .entry)) (now (system .entry)) (now (actions .entry)) (now (formula .entry)))) v e 0 (now (work .exit)) r ⌝ }
+    ghost { Input }
+    requires { λ x. ⌜ inputOf (now labels) (now system) (now actions) (now formula) ≡ x ⌝ }
+    requires { λ x. ⌜ Multiples (multiplesIn (now compiled)) × GoodInput x ⌝ }
+    requires { λ x. ⌜ Sized (now work) (room .vertices) (room .edges) ⌝ }
+    ensures { λ x r. ⌜ WalkAnswer (keyTargets x) (rootKey x) (room .vertices) (room .edges) 0 (now (work .exit)) r ⌝ }
 {
+    let v = room.vertices;
     pairs::start(work, v);
     clear_region(work, v, MARKS);
-    clear_region(work, v, STARTS);
+    clear_region(work, v, COUNTS);
     let initial = system[2];
     let none = Counters {
         known: 0,
@@ -427,13 +361,14 @@ pub fn begin(
         edges: 0,
         waiting: 0,
     };
+    let multiples = compiled::multiples(compiled);
     let scaled = pairs::product(multiples, 0);
-    match settling::meet(multiples, work, v, e, none, initial, 0, scaled) {
+    match settling::meet(none, multiples, work, room, initial, 0, scaled) {
         Met::Meets {
             vertex: _,
             known,
             waiting,
-        } => Stepped::Room(Counters {
+        } => Stepped::Fits(Counters {
             known,
             settled: 0,
             edges: 0,

@@ -1,4 +1,5 @@
--- Words are read from bytes one after the other: what holds after one more, and at the end. Words that are not 0 are counted. Assumes nothing.
+-- Words are read from bytes one after the other: what holds after one more, and at the end. Words that are not 0 are
+-- counted. Assumes nothing.
 use mathlib.Core.Path.{_≡_, refl, sym, ap, _∙_}
 use mathlib.Core.List.{List, [], _∷_, _++_}
 use Prim.Native.Nat.{ℕ, zero, suc, _+_, _*_, _≤_, _<_}

@@ -1,4 +1,5 @@
--- How stored bytes are read: words, the lowest byte first (as the thin program reads them), and lengths. Assumes nothing: these are definitions.
+-- How stored bytes are read: words, the lowest byte first (as the thin program reads them), and lengths. Assumes
+-- nothing: these are definitions.
 use Prim.Native.Nat.{ℕ, zero, suc, _+_, _*_}
 use mathlib.Core.List.{List, [], _∷_, _++_}
 use Rattle.rules.specs.Lists.{word}

@@ -1,4 +1,5 @@
-// What the programs that run stored inputs share: words and lengths read from bytes, outcomes printed, games restricted in slices of any lengths.
+// What the programs that run stored inputs share: words and lengths read from bytes, outcomes printed, games restricted
+// in slices of any lengths.
 use libc::STDOUT_FILENO;
 use rules::Answer;
 ghost use Prim.Native.Nat.{_+_, _*_, _≤_, _<_, min};

@@ -1,4 +1,5 @@
--- The refusals 21 to 24 of the system words, one law for each answer of the code, and the sum of the degrees as a loop adds it up. Assumes nothing.
+-- The refusals 21 to 24 of the system words, one law for each answer of the code, and the sum of the degrees as a loop
+-- adds it up. Assumes nothing.
 use Prim.Native.Nat.{ℕ, _+_, _*_, _<_, _≤_}
 use native.Mathlib.Omega.{arith}
 use mathlib.Core.Path.{_≡_}

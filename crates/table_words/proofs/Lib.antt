@@ -1,2 +1,4 @@
 pub mod Arity
 pub mod Row
+pub mod Checks
+pub mod Judged

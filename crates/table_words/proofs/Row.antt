@@ -20,7 +20,8 @@ blank zero (suc v) = refl
 blank (suc n) zero = refl
 blank (suc n) (suc v) = blank n v
 
--- the walk is at node u: what is marked before u is right, and nothing is marked from u on, where the rest of the row decides
+-- the walk is at node u: what is marked before u is right, and nothing is marked from u on, where the rest of the row
+-- decides
 abbrev pub FirstsTo : (ℕ → ℕ) → ℕ → ℕ → List Bool → Type 0
 FirstsTo c n u fs = (v : ℕ) → v ≤ n → (v < u → getD fs v false ≡ onRow c n v) × (u ≤ v → (getD fs v false ≡ false) × (onRow c n v ≡ onRowFrom c n u v))
 

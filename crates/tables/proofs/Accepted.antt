@@ -11,7 +11,8 @@ use lib.Dec.{eqb, ltb, leb}
 use borrow.Author.Tests.{ltb-true, ltb-false, leb-false, eqb-true, not-false, lt-ltb}
 use Rattle.rules.specs.declared.Check.the-variants.{Passed}
 use Rattle.rules.specs.Lists.{word, sumWords}
-use Rattle.rules.specs.Words.{Input, Room, mostLabels, mostActions, mostStates, mostTransitions, mostNodes, mostVertices, mostEdges, gameLength, workLength}
+use Rattle.rules.specs.declared.Room.{Room}
+use Rattle.rules.specs.Words.{Input, mostLabels, mostActions, mostStates, mostTransitions, mostNodes, mostVertices, mostEdges, gameLength, workLength}
 use Rattle.rules.specs.Answers.{faultIf}
 use Rattle.rules.specs.Labels.{labelCount, actionCount, labelAt}
 use Rattle.rules.specs.System.{stateCount, transitionCount, initialState, transitionLabel, transitionTarget}

@@ -5,9 +5,9 @@ use native.Mathlib.Omega.{arith}
 use native.Mathlib.Decide.{decLt, ℕ-discrete}
 use mathlib.Core.Path.{_≡_, refl, sym, ap, _∙_}
 use mathlib.Core.Bool.{true, false, cond, _&&_, true≢false}
-use mathlib.Core.List.{List, []}
+use mathlib.Core.List.{List, [], _∷_}
 use mathlib.Core.Option.{none, some}
-use lib.ListN.{getD}
+use lib.ListN.{length, getD}
 use lib.Dec.{eqb, ltb, leb}
 use borrow.Author.Tests.{lt-ltb, le-ltb, lt-leb, le-leb, leb-true, eq-eqb, ne-eqb}
 use Rattle.rules.specs.Table.{size, kind, operand, zeroOperand, rightChild, outsideName, notJudged, Shape}
@@ -21,9 +21,43 @@ use Rattle.rules.specs.Table.{fixpointOf, referenceOf}
 use Rattle.rules.specs.Formula.{isFixpoint}
 use Rattle.lists.proofs.Tests.{and-true, and-false}
 
-none-left : {A : Type 0} (k : ℕ) (d : A) → getD [] k d ≡ d
-none-left zero d = refl
-none-left (suc k) d = refl
+-- ---- laws that both tables share
+
+-- what holds of each place with what the list has there
+abbrev AllAt : {A : Type 0} → (ℕ → A → Type 0) → List A → Type 0
+AllAt P [] = Unit {0}
+AllAt P (x ∷ xs) = P 0 x × AllAt (λ i. P (suc i)) xs
+
+-- it holds at every number, with what is read from the list there, if it holds past the list with the default
+each-read : {A : Type 0} (d : A) (P : ℕ → A → Type 0) (xs : List A) → AllAt P xs → ((k : ℕ) → length xs ≤ k → P k d)
+    → (k : ℕ) → P k (getD xs k d)
+each-read d P [] ps past zero = past 0 (omega arith)
+each-read d P [] ps past (suc k) = past (suc k) (omega arith)
+each-read d P (x ∷ xs) ps past zero = ps .0
+each-read d P (x ∷ xs) ps past (suc k) =
+    each-read d (λ i. P (suc i)) xs (ps .1) (λ i l. past (suc i) (omega arith)) k
+
+-- a shape by four ranges of kinds, one after the other; the operand of a kind past them is not judged
+abbrev ranged : (a b c d : ℕ) (p q r s : Shape) → ℕ → Shape
+ranged a b c d p q r s k =
+    cond (ltb k a) p (cond (ltb k b) q (cond (ltb k c) r (cond (ltb k d) s (record { children = 0; rule = notJudged }))))
+
+module _ (a b c d : ℕ) (p q r s : Shape) (k : ℕ) where
+  range-1 : k < a → ranged a b c d p q r s k ≡ p
+  range-1 h = rw (lt-ltb k a h)
+
+  range-2 : a ≤ k → k < b → ranged a b c d p q r s k ≡ q
+  range-2 h l = rw (le-ltb k a h, lt-ltb k b l)
+
+  range-3 : a ≤ b → b ≤ k → k < c → ranged a b c d p q r s k ≡ r
+  range-3 i h l = rw (le-ltb k a (omega arith), le-ltb k b h, lt-ltb k c l)
+
+  range-4 : a ≤ b → b ≤ c → c ≤ k → k < d → ranged a b c d p q r s k ≡ s
+  range-4 i j h l = rw (le-ltb k a (omega arith), le-ltb k b (omega arith), le-ltb k c h, lt-ltb k d l)
+
+  range-past : a ≤ b → b ≤ c → c ≤ d → d ≤ k → ranged a b c d p q r s k ≡ record { children = 0; rule = notJudged }
+  range-past i j m h =
+      rw (le-ltb k a (omega arith), le-ltb k b (omega arith), le-ltb k c (omega arith), le-ltb k d h)
 
 -- ---- action formulas
 
@@ -34,27 +68,22 @@ pub action-kinds : (o : ℕ) (P : ℕ → ActionNode → Type 0)
     → P 5 negationNode
     → ((k : ℕ) → 6 ≤ k → P k noActionNode) → (k : ℕ) → P k (decodeAction k o)
 unfolding decodeAction
-action-kinds o P a b c d e f z zero = a
-action-kinds o P a b c d e f z (suc zero) = b
-action-kinds o P a b c d e f z (suc (suc zero)) = c
-action-kinds o P a b c d e f z (suc (suc (suc zero))) = d
-action-kinds o P a b c d e f z (suc (suc (suc (suc zero)))) = e
-action-kinds o P a b c d e f z (suc (suc (suc (suc (suc zero))))) = f
-action-kinds o P a b c d e f z (suc (suc (suc (suc (suc (suc k)))))) = rw (none-left k noActionNode) (z _ (omega arith))
+action-kinds o P a b c d e f past =
+    each-read noActionNode P
+    (trueNode ∷ falseNode ∷ multiActionNode o ∷ unionNode o ∷ intersectionNode o ∷ negationNode ∷ [])
+    (a, (b, (c, (d, (e, (f, tt)))))) past
 
 -- the shape of a node, by ranges of its kind
 abbrev pub actionKindShape : ℕ → Shape
-actionKindShape k =
-    cond (ltb k 2) (record { children = 0; rule = zeroOperand })
-    (cond (ltb k 3) (record { children = 0; rule = outsideName })
-    (cond (ltb k 5) (record { children = 2; rule = rightChild })
-    (cond (ltb k 6) (record { children = 1; rule = zeroOperand }) (record { children = 0; rule = notJudged }))))
+actionKindShape =
+    ranged 2 3 5 6 (record { children = 0; rule = zeroOperand }) (record { children = 0; rule = outsideName })
+    (record { children = 2; rule = rightChild }) (record { children = 1; rule = zeroOperand })
 
 action-kind-shape : (o k : ℕ) → actionShape (decodeAction k o) ≡ actionKindShape k
 unfolding actionShape
 action-kind-shape o =
     action-kinds o (λ k n. actionShape n ≡ actionKindShape k) refl refl refl refl refl refl
-    (λ k h. rw (le-ltb k 2 (omega arith), le-ltb k 3 (omega arith), le-ltb k 5 (omega arith), le-ltb k 6 h))
+    (λ k h. sym (range-past 2 3 5 6 _ _ _ _ k (omega arith) (omega arith) (omega arith) h))
 
 module _ (acts : List ℕ) (v : ℕ) where
   pub action-at : v < size acts → actionNode acts v ≡ decodeAction (kind acts v) (operand acts v)
@@ -74,16 +103,14 @@ module _ (acts : List ℕ) (v : ℕ) where
 
     pub action-constant : kind acts v ≤ 1 → actionShape (actionNode acts v)
         ≡ record { children = 0; rule = zeroOperand }
-    action-constant l = action-shape ∙ rw (lt-ltb (kind acts v) 2 (omega arith))
+    action-constant l = action-shape ∙ range-1 2 3 5 6 _ _ _ _ (kind acts v) (omega arith)
 
     pub action-multi : kind acts v ≡ 2 → actionShape (actionNode acts v) ≡ record { children = 0; rule = outsideName }
     action-multi e = action-shape ∙ rw e
 
     pub action-two : 3 ≤ kind acts v → kind acts v ≤ 4 → actionShape (actionNode acts v)
         ≡ record { children = 2; rule = rightChild }
-    action-two a b =
-        action-shape
-        ∙ rw (le-ltb (kind acts v) 2 (omega arith), le-ltb (kind acts v) 3 a, lt-ltb (kind acts v) 5 (omega arith))
+    action-two a b = action-shape ∙ range-3 2 3 5 6 _ _ _ _ (kind acts v) (omega arith) a (omega arith)
 
     pub action-negation : kind acts v ≡ 5 → actionShape (actionNode acts v)
         ≡ record { children = 1; rule = zeroOperand }
@@ -91,13 +118,7 @@ module _ (acts : List ℕ) (v : ℕ) where
 
     pub action-unknown : 6 ≤ kind acts v → actionShape (actionNode acts v) ≡ record { children = 0; rule = notJudged }
     action-unknown l =
-        action-shape
-        ∙ rw (
-          le-ltb (kind acts v) 2 (omega arith),
-          le-ltb (kind acts v) 3 (omega arith),
-          le-ltb (kind acts v) 5 (omega arith),
-          le-ltb (kind acts v) 6 l,
-        )
+        action-shape ∙ range-past 2 3 5 6 _ _ _ _ (kind acts v) (omega arith) (omega arith) (omega arith) l
 
     -- how many children, by ranges of the kind
     pub action-children-none : kind acts v ≤ 2 → actionChildren acts v ≡ 0
@@ -123,30 +144,22 @@ pub formula-kinds : (o : ℕ) (P : ℕ → FormulaNode → Type 0)
     → P 6 leastNode → P 7 greatestNode → P 8 (referenceNode o) → ((k : ℕ) → 9 ≤ k → P k noFormulaNode)
     → (k : ℕ) → P k (decodeFormula k o)
 unfolding decodeFormula
-formula-kinds o P a b c d e f g h i z zero = a
-formula-kinds o P a b c d e f g h i z (suc zero) = b
-formula-kinds o P a b c d e f g h i z (suc (suc zero)) = c
-formula-kinds o P a b c d e f g h i z (suc (suc (suc zero))) = d
-formula-kinds o P a b c d e f g h i z (suc (suc (suc (suc zero)))) = e
-formula-kinds o P a b c d e f g h i z (suc (suc (suc (suc (suc zero))))) = f
-formula-kinds o P a b c d e f g h i z (suc (suc (suc (suc (suc (suc zero)))))) = g
-formula-kinds o P a b c d e f g h i z (suc (suc (suc (suc (suc (suc (suc zero))))))) = h
-formula-kinds o P a b c d e f g h i z (suc (suc (suc (suc (suc (suc (suc (suc zero)))))))) = i
-formula-kinds o P a b c d e f g h i z (suc (suc (suc (suc (suc (suc (suc (suc (suc k))))))))) =
-    rw (none-left k noFormulaNode) (z _ (omega arith))
+formula-kinds o P a b c d e f g h i past =
+    each-read noFormulaNode P
+    (truthNode ∷ falsityNode ∷ andNode o ∷ orNode o ∷ boxNode o ∷ diamondNode o ∷ leastNode ∷ greatestNode
+    ∷ referenceNode o ∷ [])
+    (a, (b, (c, (d, (e, (f, (g, (h, (i, tt))))))))) past
 
 abbrev formulaKindShape : ℕ → Shape
-formulaKindShape k =
-    cond (ltb k 2) (record { children = 0; rule = zeroOperand })
-    (cond (ltb k 4) (record { children = 2; rule = rightChild })
-    (cond (ltb k 6) (record { children = 1; rule = outsideName })
-    (cond (ltb k 8) (record { children = 1; rule = zeroOperand }) (record { children = 0; rule = notJudged }))))
+formulaKindShape =
+    ranged 2 4 6 8 (record { children = 0; rule = zeroOperand }) (record { children = 2; rule = rightChild })
+    (record { children = 1; rule = outsideName }) (record { children = 1; rule = zeroOperand })
 
 formula-kind-shape : (o k : ℕ) → formulaShape (decodeFormula k o) ≡ formulaKindShape k
 unfolding formulaShape
 formula-kind-shape o =
     formula-kinds o (λ k n. formulaShape n ≡ formulaKindShape k) refl refl refl refl refl refl refl refl refl
-    (λ k h. rw (le-ltb k 2 (omega arith), le-ltb k 4 (omega arith), le-ltb k 6 (omega arith), le-ltb k 8 (omega arith)))
+    (λ k h. sym (range-past 2 4 6 8 _ _ _ _ k (omega arith) (omega arith) (omega arith) (omega arith)))
 
 -- a fixpoint exactly if the kind is 6 or 7
 fixpoint-test : (o k : ℕ) → isFixpoint (decodeFormula k o) ≡ (leb 6 k && leb k 7)
@@ -179,37 +192,22 @@ module _ (f : List ℕ) (v : ℕ) where
     formula-shape = ap formulaShape (formula-at h) ∙ formula-kind-shape (operand f v) (kind f v)
 
     pub formula-constant : kind f v ≤ 1 → formulaShape (formulaNode f v) ≡ record { children = 0; rule = zeroOperand }
-    formula-constant l = formula-shape ∙ rw (lt-ltb (kind f v) 2 (omega arith))
+    formula-constant l = formula-shape ∙ range-1 2 4 6 8 _ _ _ _ (kind f v) (omega arith)
 
     pub formula-two : 2 ≤ kind f v → kind f v ≤ 3 → formulaShape (formulaNode f v)
         ≡ record { children = 2; rule = rightChild }
-    formula-two a b = formula-shape ∙ rw (le-ltb (kind f v) 2 a, lt-ltb (kind f v) 4 (omega arith))
+    formula-two a b = formula-shape ∙ range-2 2 4 6 8 _ _ _ _ (kind f v) a (omega arith)
 
     pub formula-modal : 4 ≤ kind f v → kind f v ≤ 5 → formulaShape (formulaNode f v)
         ≡ record { children = 1; rule = outsideName }
-    formula-modal a b =
-        formula-shape ∙ rw (le-ltb (kind f v) 2 (omega arith), le-ltb (kind f v) 4 a, lt-ltb (kind f v) 6 (omega arith))
+    formula-modal a b = formula-shape ∙ range-3 2 4 6 8 _ _ _ _ (kind f v) (omega arith) a (omega arith)
 
     pub fixpoint-shape : 6 ≤ kind f v → kind f v ≤ 7
         → formulaShape (formulaNode f v) ≡ record { children = 1; rule = zeroOperand }
-    fixpoint-shape a b =
-        formula-shape
-        ∙ rw (
-          le-ltb (kind f v) 2 (omega arith),
-          le-ltb (kind f v) 4 (omega arith),
-          le-ltb (kind f v) 6 a,
-          lt-ltb (kind f v) 8 (omega arith),
-        )
+    fixpoint-shape a b = formula-shape ∙ range-4 2 4 6 8 _ _ _ _ (kind f v) (omega arith) (omega arith) a (omega arith)
 
     pub formula-last : 8 ≤ kind f v → formulaShape (formulaNode f v) ≡ record { children = 0; rule = notJudged }
-    formula-last a =
-        formula-shape
-        ∙ rw (
-          le-ltb (kind f v) 2 (omega arith),
-          le-ltb (kind f v) 4 (omega arith),
-          le-ltb (kind f v) 6 (omega arith),
-          le-ltb (kind f v) 8 a,
-        )
+    formula-last a = formula-shape ∙ range-past 2 4 6 8 _ _ _ _ (kind f v) (omega arith) (omega arith) (omega arith) a
 
     -- how many children, by ranges of the kind
     pub formula-children-none : kind f v ≤ 1 → formulaChildren f v ≡ 0

@@ -1,4 +1,5 @@
--- Where trees in prefix order end: the end of a node's tree from its children's, its bounds, and the row of trees. Assumes nothing.
+-- Where trees in prefix order end: the end of a node's tree from its children's, its bounds, and the row of trees.
+-- Assumes nothing.
 use Prim.Native.Nat.{ℕ, zero, suc, _+_, _-_, _≤_, _<_}
 use native.Mathlib.Nat.{zero-add, suc-add, add-assoc, add-zero}
 use native.Mathlib.Omega.{arith}

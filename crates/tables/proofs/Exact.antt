@@ -1,5 +1,6 @@
--- Refusals are exact: a run is refused before it begins with fault n at place p exactly if that is the first fault of its input, slices and room, in the order of
--- numbers and then of places; it is not refused exactly if there is no fault. Assumes nothing.
+-- Refusals are exact: a run is refused before it begins with fault n at place p exactly if that is the first fault of
+-- its input, slices and room, in the order of numbers and then of places; it is not refused exactly if there is no
+-- fault. Assumes nothing.
 use Prim.Native.Nat.{ℕ}
 use native.Mathlib.Omega.{arith}
 use mathlib.Core.Path.{_≡_, ap}
@@ -7,7 +8,8 @@ use mathlib.Core.List.{List, _++_}
 use mathlib.Core.Logic.{_⊎_, _↔_}
 use Rattle.rules.specs.declared.Check.{Check}
 use Rattle.rules.specs.declared.Check.the-variants.{Passed, Fault}
-use Rattle.rules.specs.Words.{Input, Room}
+use Rattle.rules.specs.declared.Room.{Room}
+use Rattle.rules.specs.Words.{Input}
 use Rattle.rules.specs.Answers.{andThen, firstFault}
 use Rattle.rules.specs.Labels.{labelCount}
 use Rattle.rules.specs.Refusal.{refusal1, refusal2, refusal11, refusal12, refusal13, refusal21, refusal22, refusal23, refusal24, refusal25, refusal26, refusal31, refusal32, refusal33, refusal34}

@@ -1,4 +1,5 @@
--- Laws of checks: a scan of places gives its fault at the first bad one, several checks that of the first that has one. Assumes nothing.
+-- Laws of checks: a scan of places gives its fault at the first bad one, several checks that of the first that has one.
+-- Assumes nothing.
 use Prim.Native.Nat.{ℕ, zero, suc, _+_, _-_, _≤_, _<_, min}
 use native.Mathlib.Omega.{arith}
 use native.Mathlib.Numerals.{add-one}

@@ -10,7 +10,8 @@ use lib.Dec.{ltb, leb}
 use borrow.Author.Tests.{ltb-true, leb-true, lt-ltb, le-leb}
 use Rattle.rules.specs.declared.Check.{Check}
 use Rattle.rules.specs.Lists.{word, sumWords}
-use Rattle.rules.specs.Words.{Room, mostLabels, mostActions, mostStates, mostTransitions, mostVertices, mostEdges, gameLength, workLength}
+use Rattle.rules.specs.declared.Room.{Room}
+use Rattle.rules.specs.Words.{mostLabels, mostActions, mostStates, mostTransitions, mostVertices, mostEdges, gameLength, workLength}
 use Rattle.rules.specs.Labels.{labelCount, actionCount}
 use Rattle.rules.specs.System.{stateCount, transitionCount, initialState, transitionLabel, transitionTarget}
 use Rattle.rules.specs.Refusal.{outside, differ, badLabel, tooLarge}

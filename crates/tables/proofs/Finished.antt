@@ -1,4 +1,5 @@
--- Where a tree or a row of trees is finished, so is every tree inside: its children stand inside the table. Assumes nothing.
+-- Where a tree or a row of trees is finished, so is every tree inside: its children stand inside the table. Assumes
+-- nothing.
 use Prim.Native.Nat.{ℕ, zero, suc, _+_, _-_, _≤_, _<_}
 use native.Mathlib.Omega.{arith}
 use native.Mathlib.Decide.{decLt, ℕ-discrete}

@@ -1,4 +1,5 @@
--- 34 and 44 as a scan of the nodes and then a test of the end: the form in which a program checks them. Assumes nothing.
+-- 34 and 44 as a scan of the nodes and then a test of the end: the form in which a program checks them. Assumes
+-- nothing.
 use Prim.Native.Nat.{ℕ, _+_, _≤_, _<_}
 use native.Mathlib.Omega.{arith}
 use native.Mathlib.Decide.{decLt}
@@ -40,7 +41,8 @@ or-fault n p e q bad next a l =
         let z : _≡_ {A = ℕ} 0 1 = cc in
         omega arith
 
--- the node at which the formula's tree ends is left over, if it is one: `endOf` is its number, n + 1 if the tree is unfinished
+-- the node at which the formula's tree ends is left over, if it is one: `endOf` is its number, n + 1 if the tree is
+-- unfinished
 pub refusal44-scan : (noTree : ℕ → Bool) (f : List ℕ)
     → refusal44 noTree f
     ≡ andThen (faultFrom 44 0 (size f)

@@ -1,4 +1,5 @@
--- The first nodes of a row's trees are 0 and the end of each tree that begins at one; a row is unfinished exactly if one of its trees is. Assumes nothing.
+-- The first nodes of a row's trees are 0 and the end of each tree that begins at one; a row is unfinished exactly if
+-- one of its trees is. Assumes nothing.
 use Prim.Native.Nat.{ℕ, zero, suc, _+_, _-_, _≤_, _<_}
 use native.Mathlib.Omega.{arith}
 use native.Mathlib.Decide.{decLt}

@@ -1,4 +1,5 @@
--- What holds of the words of an input that is not refused (theorem `accepted`): the functions that read them ask for it. Assumes nothing: these are statements.
+-- What holds of the words of an input that is not refused (theorem `accepted`): the functions that read them ask for
+-- it. Assumes nothing: these are statements.
 use mathlib.Core.Path.{_≡_}
 use mathlib.Core.Bool.{true}
 use mathlib.Core.List.{List}

@@ -85,9 +85,9 @@ pub fn put_line(text: &mut [u8], start: usize, name: &[u8], numbers: &[u32]) -> 
     ensures { λ r. ⌜ Wrote start (line (now (name .entry)) (now (numbers .entry)))
         (now (text .entry)) (now (text .exit)) r ⌝ }
 {
-    let p = put_bytes(text, start, name);
-    let q = put_numbers(text, p, numbers, 0, numbers.len());
-    put_byte(text, q, 10)
+    let past_name = put_bytes(text, start, name);
+    let past_numbers = put_numbers(text, past_name, numbers, 0, numbers.len());
+    put_byte(text, past_numbers, 10)
 }
 
 // ---- the end of a call

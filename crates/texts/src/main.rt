@@ -1,7 +1,10 @@
-// Runs the thin program's function on stored inputs and compares its answer and what it writes with stored texts; a
-// slice that is too short must be refused and stay as it is. Standard input holds records: two little-endian words, the
-// lengths of an input and of its text in bytes, then the input, then the text. Prints a line for each record that
-// differs and, last, how many records and differences there were. docs/STORED-RUNS.md says how they were made.
+// Runs the thin program's functions on stored inputs, on the whole input and on what the program's buffer holds of it,
+// and compares answers and what they write with stored texts; a slice that is too short must be refused and stay as it
+// is. Standard input holds records: two little-endian words, the lengths of an input and of its text in bytes, then the
+// input, then the text. Prints a line for each record that differs and, last, how many records and differences there
+// were. docs/STORED-RUNS.md says how they were made.
+use gate_text::Buffer;
+use gate_text::READ;
 use libc::STDIN_FILENO;
 use libc::STDOUT_FILENO;
 use rules::Answer;
@@ -115,6 +118,36 @@ fn judge_short(number: u64, input: &[u8]) -> Seen {
     differs_short(number, answer)
 }
 
+// What the thin program reads of an input: as many bytes as its buffer holds. Answers how many.
+fn read_front(input: &[u8], buffer: &mut Buffer) -> usize
+    ensures { λ r. ⌜ r ≤ 8193 ⌝ }
+{
+    let mut i = 0;
+    while i < input.len() {
+        if i == READ {
+            return i;
+        }
+        buffer[i] = input[i];
+        i += 1;
+    }
+    i
+}
+
+// As `judge`, of the input as the thin program reads it.
+fn judge_buffer(number: u64, input: &[u8], want: &[u8], stored: usize) -> Seen {
+    let mut buffer = [0u8; READ];
+    let count = read_front(input, &mut buffer);
+    let mut text = hashes();
+    let answer = gate_text::gate_buffer(&buffer, count, &mut text);
+    if !wrote(answer, stored) {
+        return differs(number, answer, stored);
+    }
+    if check::same(&text, want) {
+        return judge_short(number, input);
+    }
+    differs(number, answer, stored)
+}
+
 // Are the bytes written those stored, with zeros past them, and does the answer say how many? `want` holds zeros past
 // the text, so that both slices are compared whole.
 fn judge(number: u64, input: &[u8], want: &[u8], stored: usize) -> Seen {
@@ -124,7 +157,7 @@ fn judge(number: u64, input: &[u8], want: &[u8], stored: usize) -> Seen {
         return differs(number, answer, stored);
     }
     if check::same(&text, want) {
-        return judge_short(number, input);
+        return judge_buffer(number, input, want, stored);
     }
     differs(number, answer, stored)
 }

@@ -1,4 +1,5 @@
--- The cut theorem of the rules: what a run that is not refused leaves satisfies `CutTheorem`, for every ranking, limit and room. Assumes nothing.
+-- The cut theorem of the rules: what a run that is not refused leaves satisfies `CutTheorem`, for every ranking, limit
+-- and room. Assumes nothing.
 use mathlib.Core.Path.{_≡_, refl, sym, ap, _∙_, subst}
 use mathlib.Core.Bool.{Bool, true, false, cond}
 use mathlib.Core.List.{List, [], _∷_, _++_, map, append-nil}

@@ -1,8 +1,8 @@
--- Demand 3 of the rules' run, and what it rests on: the reachable pairs of an accepted input are within states times items, so the facts of every walk hold of it.
--- Assumes nothing.
+-- Demand 3 of the rules' run, and what it rests on: the reachable pairs of an accepted input are within states times
+-- items, so the facts of every walk hold of it. Assumes nothing.
 use mathlib.Core.Path.{_≡_, refl, sym, subst}
 use mathlib.Core.Bool.{Bool, true, false}
-use mathlib.Core.List.{List, []}
+use mathlib.Core.List.{List}
 use mathlib.Core.Logic.{_⊎_, inl, inr, ⊎-elim}
 use Prim.Native.Nat.{ℕ, _≤_}
 use native.Mathlib.Omega.{arith}
@@ -10,7 +10,8 @@ use lib.ListN.{length}
 use Rattle.rules.specs.declared.Check.{Check}
 use Rattle.rules.specs.declared.Check.the-variants.{Passed, Fault}
 use Rattle.rules.specs.Lists.{In}
-use Rattle.rules.specs.Words.{Input, Room, gameLength}
+use Rattle.rules.specs.declared.Room.{Room}
+use Rattle.rules.specs.Words.{Input, gameLength}
 use Rattle.rules.specs.Answers.{Accepted}
 use Rattle.rules.specs.Depth.{Ranking}
 use Rattle.rules.specs.Pairs.{Pair, samePair, initialPair, targets}

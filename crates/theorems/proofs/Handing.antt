@@ -1,4 +1,5 @@
--- A finished game, handed over, passes the check of games; a cut one is refused 53 at the owner of its first waiting vertex. Assumes nothing.
+-- A finished game, handed over, passes the check of games; a cut one is refused 53 at the owner of its first waiting
+-- vertex. Assumes nothing.
 use mathlib.Core.Path.{_≡_, sym, ap, _∙_, subst}
 use mathlib.Core.Bool.{false}
 use mathlib.Core.List.{List, [], _∷_}
@@ -9,7 +10,8 @@ use lib.ListN.{length, getD}
 use Rattle.player.specs.Player.{playerIndex}
 use Rattle.rules.specs.declared.Check.the-variants.{Passed, Fault}
 use Rattle.rules.specs.Lists.{In, position}
-use Rattle.rules.specs.Words.{Input, Room}
+use Rattle.rules.specs.declared.Room.{Room}
+use Rattle.rules.specs.Words.{Input}
 use Rattle.rules.specs.Depth.{Ranking}
 use Rattle.rules.specs.Pairs.{Pair, samePair, initialPair, owner, priority, targets}
 use Rattle.rules.specs.Walk.{Stand}

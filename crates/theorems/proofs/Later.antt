@@ -1,5 +1,5 @@
--- A cut game is part of every later one: each vertex keeps its pair, and one that is settled after k steps has the same owner, priority and
--- edges after any more. Assumes nothing.
+-- A cut game is part of every later one: each vertex keeps its pair, and one that is settled after k steps has the same
+-- owner, priority and edges after any more. Assumes nothing.
 use mathlib.Core.Path.{_≡_, refl, sym, ap, _∙_, subst}
 use mathlib.Core.Bool.{Bool}
 use mathlib.Core.List.{List, [], _∷_, map}

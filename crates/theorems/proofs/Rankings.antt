@@ -1,4 +1,5 @@
--- Two rankings give the same answer, and games that differ at most in the priorities of equations' vertices. Assumes nothing.
+-- Two rankings give the same answer, and games that differ at most in the priorities of equations' vertices. Assumes
+-- nothing.
 use mathlib.Core.Path.{_≡_, refl, sym, ap, ap₂, _∙_, subst}
 use mathlib.Core.Bool.{Bool, true, false, _||_}
 use mathlib.Core.List.{List, [], _∷_, map}
@@ -12,7 +13,8 @@ use Rattle.rules.specs.declared.Answer.the-variants.{Refused}
 use Rattle.rules.specs.declared.Check.{Check}
 use Rattle.rules.specs.declared.Check.the-variants.{Passed, Fault}
 use Rattle.rules.specs.Lists.{In, position}
-use Rattle.rules.specs.Words.{Input, Room}
+use Rattle.rules.specs.declared.Room.{Room}
+use Rattle.rules.specs.Words.{Input}
 use Rattle.rules.specs.Formula.{equationCount}
 use Rattle.rules.specs.Depth.{Ranking}
 use Rattle.rules.specs.Pairs.{Pair, samePair, initialPair, owner, priority, targets}

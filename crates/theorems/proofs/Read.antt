@@ -1,4 +1,5 @@
--- What is read from the words of a run's game: of each vertex, by whether it waits; and that the words are a whole game. Assumes nothing.
+-- What is read from the words of a run's game: of each vertex, by whether it waits; and that the words are a whole
+-- game. Assumes nothing.
 use mathlib.Core.Path.{_≡_, refl, sym, ap, _∙_, subst}
 use mathlib.Core.Bool.{Bool}
 use mathlib.Core.List.{List, [], _∷_, _++_, map}

@@ -1,4 +1,5 @@
--- A run by cases, and demand 1: refused exactly on the listed conditions, and what a refusal leaves, for every input, room, limit and ranking. Assumes nothing.
+-- A run by cases, and demand 1: refused exactly on the listed conditions, and what a refusal leaves, for every input,
+-- room, limit and ranking. Assumes nothing.
 use mathlib.Core.Path.{_≡_, refl, sym, ap, _∙_, subst}
 use mathlib.Core.Bool.{Bool, true, false, _||_, true≢false}
 use mathlib.Core.List.{List, [], _∷_}
@@ -10,7 +11,8 @@ use borrow.Author.Tests.{lt-ltb, ltb-true, ltb-false}
 use Rattle.rules.specs.declared.Answer.the-variants.{Refused}
 use Rattle.rules.specs.declared.Check.the-variants.{Passed, Fault}
 use Rattle.rules.specs.Lists.{zeros}
-use Rattle.rules.specs.Words.{Input, Room}
+use Rattle.rules.specs.declared.Room.{Room}
+use Rattle.rules.specs.Words.{Input}
 use Rattle.rules.specs.Answers.{Accepted}
 use Rattle.rules.specs.Depth.{Ranking}
 use Rattle.rules.specs.Pairs.{Pair, samePair, initialPair, owner, priority, targets}

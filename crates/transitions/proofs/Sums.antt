@@ -1,4 +1,5 @@
--- Sums of out-degrees: one state more, never more than there are transitions, and the samples as a loop writes them. Assumes nothing.
+-- Sums of out-degrees: one state more, never more than there are transitions, and the samples as a loop writes them.
+-- Assumes nothing.
 use mathlib.Core.Path.{_≡_, refl, _∙_}
 use mathlib.Core.List.{List}
 use Prim.Native.Nat.{ℕ, _+_, _*_, _/_, _%_, _≤_, _<_}

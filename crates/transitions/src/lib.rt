@@ -1,18 +1,19 @@
-// The first transition of a state: a sum of out-degrees, of which every sixteenth is kept, so that no state's is a long sum.
+// The first transition of a state: a sum of out-degrees, of which every sixteenth is kept, so that no state's is a long
+// sum.
 use words::at;
 ghost use mathlib.Core.Path.{_≡_};
-ghost use Prim.Native.Nat.{_<_};
+ghost use Prim.Native.Nat.{_≤_, _<_};
 ghost use lib.ListN.{length};
 ghost use Rattle.rules.specs.System.{stateCount, firstTransition};
-ghost use Rattle.transitions.specs.Samples.{System, Samples};
+ghost use Rattle.transitions.specs.Samples.{System, Samples, sampleCount};
 
-// 4,096 samples reach past the last of 65,535 states.
+// Of how many states one is kept: 4,096 samples reach past the last of 65,535 states.
 const STRIDE: usize = 16;
 
 // Writes the first transition of every sixteenth state.
-pub fn sample_transitions(system: &[u32], samples: &mut [u32; 4096])
+pub fn sample_transitions(system: &[u32], samples: &mut [u32])
     requires { ⌜ System (now system) ⌝ }
-    requires { ⌜ length (now samples) ≡ 4096 ⌝ }
+    requires { ⌜ sampleCount ≤ length (now samples) ⌝ }
     ensures { λ _. ⌜ Samples (now (system .entry)) (now (samples .exit)) ⌝ }
 {
     let states = at(system, 0);
@@ -28,7 +29,7 @@ pub fn sample_transitions(system: &[u32], samples: &mut [u32; 4096])
 }
 
 // The first transition of a state: the sample before it and the out-degrees from there on.
-pub fn first_transition(system: &[u32], samples: &[u32; 4096], state: usize) -> usize
+pub fn first_transition(system: &[u32], samples: &[u32], state: usize) -> usize
     requires { ⌜ System (now system) ⌝ }
     requires { ⌜ Samples (now system) (now samples) ⌝ }
     requires { ⌜ state < stateCount (now system) ⌝ }

@@ -11,7 +11,8 @@ use Rattle.rules.specs.declared.Answer.{Answer}
 use Rattle.rules.specs.declared.Answer.the-variants.{Done, Cut, Refused}
 use Rattle.rules.specs.declared.Check.the-variants.{Passed, Fault}
 use Rattle.rules.specs.Lists.{zeros, In}
-use Rattle.rules.specs.Words.{Input, Room, roomOf, gameLength, workLength}
+use Rattle.rules.specs.declared.Room.{Room}
+use Rattle.rules.specs.Words.{Input, roomOf, gameLength, workLength}
 use Rattle.rules.specs.Answers.{said}
 use Rattle.rules.specs.Depth.{Ranking}
 use Rattle.rules.specs.Items.{items}
@@ -118,10 +119,8 @@ module _ (x : Input) (v e k : ℕ) (game work : List ℕ) (passed : refusal x (r
       ∙ sym (run-exceeds rank x (roomOf v e) k game work passed (full-exceeds x good rank k v e f))
 
   -- what writing the game asks
-  module _ (kinds lefts rights priorities : List ℕ)
-      (table : ItemTable x kinds lefts rights) (room : length (items x) ≤ length priorities)
-      (c : Counters) (made : WalkMade (keyTargets x) (rootKey x) v e k work c) where
-    pub showable : Showable kinds priorities work v (c .known) (c .edges) (length game)
+  module _ (c : Counters) (made : WalkMade (keyTargets x) (rootKey x) v e k work c) where
+    pub showable : Showable work v (c .known) (c .edges) (length game)
     unfolding gameLength
     showable =
         let n = made .good .ready .table .slots .room in
@@ -131,17 +130,11 @@ module _ (x : Input) (v e k : ℕ) (game work : List ℕ) (passed : refusal x (r
         record {
           known = n;
           whole = omega arith;
-          items = λ u h p. items u (omega (arith, known-count x good k v e work c made));
           stretches = λ u h p. stretches u (omega (arith, known-count x good k v e work c made)) p (in-or number-equality u (walkOf x k .waiting));
           total = offset-last (keyTargets x) (rootKey x) v e work c (made .good);
           room = omega (arith, l);
         }
       where
-        items : (u : ℕ) → u < length (walkOf x k .known) → (itemIn work v u < length kinds) × (itemIn work v u < length priorities)
-        items u h =
-            let i = pair-inside x good k v e work c made u h .1 in
-            (omega (arith, item-at x good k v e work c made u h, table .kinds-room), omega (arith, item-at x good k v e work c made u h, room))
-
         stretches : (u : ℕ) → u < length (walkOf x k .known) → settledIn work v u ≡ true
             → In u (walkOf x k .waiting) ⊎ (¬ In u (walkOf x k .waiting))
             → startIn work v u + countIn work v u ≤ c .edges

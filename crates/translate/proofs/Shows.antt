@@ -1,4 +1,5 @@
--- The vertices that the work words and the item table show are those of the walk: once the keys in the work words are those of the walk's pairs. Assumes nothing.
+-- The vertices that the work words and the item table show are those of the walk: once the keys in the work words are
+-- those of the walk's pairs. Assumes nothing.
 use mathlib.Core.Path.{_≡_, refl, sym, ap, _∙_, subst}
 use mathlib.Core.Bool.{true, false, cond}
 use mathlib.Core.List.{List, [], _∷_, map}

@@ -1,106 +1,93 @@
-// The run: from a model and a formula to a parity game (translate.rs, Translation::translate and from_edges with make_total).
-// `translate` is the one function for users; the others are its parts.
+// The run: from a model and a formula to a parity game (translate.rs, Translation::translate and from_edges with
+// make_total). `translate` is the one function for users; the others are its parts.
+use compiled::Compiled;
+use compiled::WORDS;
+use match_table::MATCHED;
+use match_table::MatchBytes;
 use rules::Answer;
 use rules::Check;
-use settling::Counters;
+use rules::Room;
 use settling::Stepped;
 ghost use mathlib.Core.Path.{_≡_};
-ghost use Prim.Native.Nat.{_≤_};
 ghost use lib.ListN.{length};
 ghost use Rattle.rules.specs.declared.Check.the-variants.{Passed};
-ghost use Rattle.rules.specs.Words.{inputOf, roomOf};
+ghost use Rattle.rules.specs.Words.{Input, inputOf, roomOf};
 ghost use Rattle.rules.specs.Answers.{said};
 ghost use Rattle.rules.specs.Depth.{byDepth};
-ghost use Rattle.rules.specs.Items.{items};
 ghost use Rattle.rules.specs.Refusal.{refusal};
 ghost use Rattle.rules.specs.Run.{Outcome, run};
 ghost use Rattle.rules.specs.Demands.{Demand1, Demand3};
+ghost use Rattle.compiled.specs.Stretches.{kindsIn, leftsIn, rightsIn, prioritiesIn};
 ghost use Rattle.settling.specs.Keys.{keyTargets, rootKey};
 ghost use Rattle.settling.specs.Made.{Sized};
 ghost use Rattle.settling.specs.Good.{WalkAnswer};
 ghost use Rattle.item_table.specs.Entries.{ItemTable};
-ghost use Rattle.labels.specs.Classes.{Classes};
 ghost use Rattle.stepping.specs.Tables.{Tables};
-ghost use Rattle.translate.specs.Runs.{RunBy, RunByRanks};
+ghost use Rattle.translate.specs.Runs.{Prepared, RunBy, RunByRanks};
 
-// The walk of at most k steps, whatever the work words hold.
+// The walk of at most `limit` steps, whatever the work words hold.
 fn explore(
-    multiples: &[u32; 256],
+    compiled: &Compiled,
     work: &mut [u32],
+    room: Room,
     labels: &[u32],
     system: &[u32],
     actions: &[u32],
     formula: &[u32],
-    classes: &[u32],
-    samples: &[u32; 4096],
-    matched: &[u8; 17408],
-    kinds: &[u32],
-    lefts: &[u32],
-    rights: &[u32],
-    v: u32,
-    e: u32,
-    k: u32,
+    matched: &MatchBytes,
+    limit: u32,
 ) -> Stepped
-    requires { ⌜ Tables (inputOf (now labels) (now system) (now actions) (now formula)) (now multiples) (now classes) (now samples) (now matched) (now kinds) (now lefts) (now rights) ⌝ }
-    requires { ⌜ Sized (now work) v e ⌝ }
-    ensures { λ r. ⌜ WalkAnswer (keyTargets (inputOf (now (labels .entry)) (now (system .entry)) (now (actions .entry)) (now (formula .entry))))
-        (rootKey (inputOf (now (labels .entry)) (now (system .entry)) (now (actions .entry)) (now (formula .entry)))) v e k (now (work .exit)) r ⌝ }
+    ghost { Input }
+    requires { λ x. ⌜ inputOf (now labels) (now system) (now actions) (now formula) ≡ x ⌝ }
+    requires { λ x. ⌜ Tables x (now compiled) (now matched) ⌝ }
+    requires { λ x. ⌜ Sized (now work) (room .vertices) (room .edges) ⌝ }
+    ensures { λ x r. ⌜ WalkAnswer (keyTargets x) (rootKey x) (room .vertices) (room .edges) limit (now (work .exit)) r ⌝ }
 {
-    match stepping::begin(multiples, work, labels, system, actions, formula, v, e) {
-        Stepped::Room(c) => stepping::walk(
+    match stepping::begin(compiled, work, room, labels, system, actions, formula) {
+        Stepped::Fits(c) => stepping::walk(
             c,
-            multiples,
+            compiled,
             work,
+            room,
             labels,
             system,
             actions,
             formula,
-            classes,
-            samples,
             matched,
-            kinds,
-            lefts,
-            rights,
-            v,
-            e,
-            k,
+            limit,
         ),
         Stepped::Full => Stepped::Full,
     }
 }
 
 // The walk's game is written out and the work slice cleared, or both are cleared where there was no room. It is the
-// game by whatever ranking the priorities show.
+// game by whatever ranking the priorities show. The four slices of the input are not read: the contract speaks of them.
 fn write_out(
     walked: Stepped,
+    compiled: &Compiled,
+    room: Room,
     labels: &[u32],
     system: &[u32],
     actions: &[u32],
     formula: &[u32],
-    kinds: &[u32],
-    lefts: &[u32],
-    rights: &[u32],
-    priorities: &[u32],
-    v: u32,
-    e: u32,
-    k: u32,
+    limit: u32,
     game: &mut [u32],
     work: &mut [u32],
 ) -> Answer
-    requires { ⌜ ItemTable (inputOf (now labels) (now system) (now actions) (now formula)) (now kinds) (now lefts) (now rights) ⌝ }
-    requires { ⌜ length (items (inputOf (now labels) (now system) (now actions) (now formula)))
-        ≤ length (now priorities) ⌝ }
-    requires { ⌜ refusal (inputOf (now labels) (now system) (now actions) (now formula)) (roomOf v e) (length (now game)) (length (now work)) ≡ Passed ⌝ }
-    requires { ⌜ WalkAnswer (keyTargets (inputOf (now labels) (now system) (now actions) (now formula))) (rootKey (inputOf (now labels) (now system) (now actions) (now formula))) v e k (now work) walked ⌝ }
-    ensures { λ r. ⌜ RunByRanks (now (priorities .entry))
-        (inputOf (now (labels .entry)) (now (system .entry)) (now (actions .entry)) (now (formula .entry)))
-        (roomOf v e) k (now (game .entry)) (now (work .entry)) r (now (game .exit)) (now (work .exit)) ⌝ }
+    ghost { Input }
+    requires { λ x. ⌜ inputOf (now labels) (now system) (now actions) (now formula) ≡ x ⌝ }
+    requires { λ x. ⌜ ItemTable x (kindsIn (now compiled)) (leftsIn (now compiled)) (rightsIn (now compiled)) ⌝ }
+    requires { λ x. ⌜ refusal x room (length (now game)) (length (now work)) ≡ Passed ⌝ }
+    requires { λ x. ⌜ WalkAnswer (keyTargets x) (rootKey x) (room .vertices) (room .edges) limit (now work) walked ⌝ }
+    ensures { λ x r. ⌜ RunByRanks (prioritiesIn (now (compiled .entry))) x room limit
+        (now (game .entry)) (now (work .entry)) r (now (game .exit)) (now (work .exit)) ⌝ }
 {
     match walked {
-        Stepped::Room(c) => {
+        Stepped::Fits(c) => {
             let known = c.known;
             let edges = c.edges;
-            game_writer::write_game(game, work, kinds, priorities, v, known, edges);
+            let v = room.vertices;
+            game_writer::write_game(game, work, compiled, v, known, edges);
             words::clear(work); // nothing of the walk stays
             if c.waiting == 0 {
                 return Answer::Done(c.settled, known, edges);
@@ -115,212 +102,91 @@ fn write_out(
     }
 }
 
-// The walk over the tables, and its game.
+// The walk over the tables, and its game. The table of matching labels is made here: what the compiler worked in has
+// left the stack by now.
 fn build_game(
-    multiples: &[u32; 256],
+    compiled: &Compiled,
+    items: usize,
+    room: Room,
     labels: &[u32],
     system: &[u32],
     actions: &[u32],
     formula: &[u32],
-    classes: &[u32],
-    samples: &[u32; 4096],
-    matched: &[u8; 17408],
-    kinds: &[u32],
-    lefts: &[u32],
-    rights: &[u32],
-    priorities: &[u32],
-    v: u32,
-    e: u32,
-    k: u32,
+    limit: u32,
     game: &mut [u32],
     work: &mut [u32],
 ) -> Answer
-    requires { ⌜ Tables (inputOf (now labels) (now system) (now actions) (now formula)) (now multiples) (now classes) (now samples) (now matched) (now kinds) (now lefts) (now rights) ⌝ }
-    requires { ⌜ length (items (inputOf (now labels) (now system) (now actions) (now formula)))
-        ≤ length (now priorities) ⌝ }
-    requires { ⌜ refusal (inputOf (now labels) (now system) (now actions) (now formula)) (roomOf v e) (length (now game)) (length (now work)) ≡ Passed ⌝ }
-    ensures { λ r. ⌜ RunByRanks (now (priorities .entry))
-        (inputOf (now (labels .entry)) (now (system .entry)) (now (actions .entry)) (now (formula .entry)))
-        (roomOf v e) k (now (game .entry)) (now (work .entry)) r (now (game .exit)) (now (work .exit)) ⌝ }
+    ghost { Input }
+    requires { λ x. ⌜ inputOf (now labels) (now system) (now actions) (now formula) ≡ x ⌝ }
+    requires { λ x. ⌜ Prepared x (now compiled) items ⌝ }
+    requires { λ x. ⌜ refusal x room (length (now game)) (length (now work)) ≡ Passed ⌝ }
+    ensures { λ x r. ⌜ RunByRanks (prioritiesIn (now (compiled .entry))) x room limit
+        (now (game .entry)) (now (work .entry)) r (now (game .exit)) (now (work .exit)) ⌝ }
 {
+    let mut matched = [0u8; MATCHED];
+    match_table::make_match_table(labels, actions, compiled, items, &mut matched);
     let walked = explore(
-        multiples,
+        compiled,
         work,
+        room,
         labels,
         system,
         actions,
         formula,
-        classes,
-        samples,
-        matched,
-        kinds,
-        lefts,
-        rights,
-        v,
-        e,
-        k,
+        &matched,
+        limit,
     );
     write_out(
         walked,
+        compiled,
+        room,
         labels,
         system,
         actions,
         formula,
-        kinds,
-        lefts,
-        rights,
-        priorities,
-        v,
-        e,
-        k,
+        limit,
         game,
         work,
     )
 }
 
-// The tables that only the walk reads. They are made after the formula is compiled: the compiler's own tables have then left the stack.
-fn build_walk(
-    labels: &[u32],
-    system: &[u32],
-    actions: &[u32],
-    formula: &[u32],
-    classes: &[u32],
-    kinds: &[u32],
-    lefts: &[u32],
-    rights: &[u32],
-    priorities: &[u32],
-    count: usize,
-    v: u32,
-    e: u32,
-    k: u32,
-    game: &mut [u32],
-    work: &mut [u32],
-) -> Answer
-    requires { ⌜ Classes (now labels) (now classes) ⌝ }
-    requires { ⌜ ItemTable (inputOf (now labels) (now system) (now actions) (now formula)) (now kinds) (now lefts) (now rights) ⌝ }
-    requires { ⌜ (count ≤ length (now kinds)) × (count ≤ length (now rights))
-        × (length (items (inputOf (now labels) (now system) (now actions) (now formula))) ≤ length (now priorities)) ⌝ }
-    requires { ⌜ refusal (inputOf (now labels) (now system) (now actions) (now formula)) (roomOf v e) (length (now game)) (length (now work)) ≡ Passed ⌝ }
-    ensures { λ r. ⌜ RunByRanks (now (priorities .entry))
-        (inputOf (now (labels .entry)) (now (system .entry)) (now (actions .entry)) (now (formula .entry)))
-        (roomOf v e) k (now (game .entry)) (now (work .entry)) r (now (game .exit)) (now (work .exit)) ⌝ }
-{
-    let multiples = pairs::byte_multiples();
-    let mut samples = [0u32; 4096];
-    transitions::sample_transitions(system, &mut samples);
-    let mut matched = [0u8; 17408];
-    match_table::make_match_table(labels, actions, classes, kinds, rights, count, &mut matched);
-    build_game(
-        &multiples,
-        labels,
-        system,
-        actions,
-        formula,
-        classes,
-        &samples,
-        &matched,
-        kinds,
-        lefts,
-        rights,
-        priorities,
-        v,
-        e,
-        k,
-        game,
-        work,
-    )
-}
-
-// The formula is compiled into its table of items, with their priorities by depth.
-fn build_items(
-    labels: &[u32],
-    system: &[u32],
-    actions: &[u32],
-    formula: &[u32],
-    classes: &[u32],
-    v: u32,
-    e: u32,
-    k: u32,
-    game: &mut [u32],
-    work: &mut [u32],
-) -> Answer
-    requires { ⌜ Classes (now labels) (now classes) ⌝ }
-    requires { ⌜ refusal (inputOf (now labels) (now system) (now actions) (now formula)) (roomOf v e) (length (now game)) (length (now work)) ≡ Passed ⌝ }
-    ensures { λ r. ⌜ RunBy byDepth
-        (inputOf (now (labels .entry)) (now (system .entry)) (now (actions .entry)) (now (formula .entry)))
-        (roomOf v e) k (now (game .entry)) (now (work .entry)) r (now (game .exit)) (now (work .exit)) ⌝ }
-{
-    let mut kinds = [0u32; 2048];
-    let mut lefts = [0u32; 2048];
-    let mut rights = [0u32; 2048];
-    let mut priorities = [0u32; 2048];
-    let mut numbers = [0u32; 1024];
-    let count = item_table::compile(
-        labels,
-        system,
-        actions,
-        formula,
-        classes,
-        &mut kinds,
-        &mut lefts,
-        &mut rights,
-        &mut priorities,
-        &mut numbers,
-    );
-    build_walk(
-        labels,
-        system,
-        actions,
-        formula,
-        classes,
-        &kinds,
-        &lefts,
-        &rights,
-        &priorities,
-        count,
-        v,
-        e,
-        k,
-        game,
-        work,
-    )
-}
-
-// An accepted input: the labels' multisets are told apart once.
+// An accepted input is compiled, with the priorities by depth, and its game is built.
 fn build(
     labels: &[u32],
     system: &[u32],
     actions: &[u32],
     formula: &[u32],
-    v: u32,
-    e: u32,
-    k: u32,
+    room: Room,
+    limit: u32,
     game: &mut [u32],
     work: &mut [u32],
 ) -> Answer
-    requires { ⌜ refusal (inputOf (now labels) (now system) (now actions) (now formula)) (roomOf v e) (length (now game)) (length (now work)) ≡ Passed ⌝ }
-    ensures { λ r. ⌜ RunBy byDepth
-        (inputOf (now (labels .entry)) (now (system .entry)) (now (actions .entry)) (now (formula .entry)))
-        (roomOf v e) k (now (game .entry)) (now (work .entry)) r (now (game .exit)) (now (work .exit)) ⌝ }
+    ghost { Input }
+    requires { λ x. ⌜ inputOf (now labels) (now system) (now actions) (now formula) ≡ x ⌝ }
+    requires { λ x. ⌜ refusal x room (length (now game)) (length (now work)) ≡ Passed ⌝ }
+    ensures { λ x r. ⌜ RunBy byDepth x room limit
+        (now (game .entry)) (now (work .entry)) r (now (game .exit)) (now (work .exit)) ⌝ }
 {
-    let mut classes = [0u32; 4096];
-    labels::label_classes(labels, &mut classes);
-    build_items(
+    let mut compiled = [0u32; WORDS];
+    model_tables::write_model_tables(labels, system, &mut compiled);
+    let items = item_table::compile(labels, system, actions, formula, &mut compiled);
+    build_game(
+        &compiled,
+        items,
+        room,
         labels,
         system,
         actions,
         formula,
-        &classes,
-        v,
-        e,
-        k,
+        limit,
         game,
         work,
     )
 }
 
-// Builds the parity game of a model and a formula: document 01's run. The words handed over are `labels`, `system`, `actions` and `formula`; there is room for so many
-// vertices and edges, and at most `limit` steps are made. For every input, refused ones included:
+// Builds the parity game of a model and a formula: document 01's run. The words handed over are `labels`, `system`,
+// `actions` and `formula`; there is room for so many vertices and edges, and at most `limit` steps are made. For every
+// input, refused ones included:
 // - `equals` gives the answer and both slices afterwards by the rules' run;
 // - `coded`: the answer's words (`said`) are those of the rules' answer;
 // - `demand1` says when a run is refused, by which number and place, and what it leaves;
@@ -347,27 +213,17 @@ pub fn translate(
         (inputOf (now (labels .entry)) (now (system .entry)) (now (actions .entry)) (now (formula .entry)))
         limit r (now (game .exit)) ⌝ }
 {
+    let room = Room { vertices, edges };
     match inputs::check(
         labels,
         system,
         actions,
         formula,
-        vertices,
-        edges,
+        room,
         game.len(),
         work.len(),
     ) {
         Check::Fault(number, place) => Answer::Refused(number, place),
-        Check::Passed => build(
-            labels,
-            system,
-            actions,
-            formula,
-            vertices,
-            edges,
-            limit,
-            game,
-            work,
-        ),
+        Check::Passed => build(labels, system, actions, formula, room, limit, game, work),
     }
 }

@@ -1,5 +1,5 @@
--- The trees of action formulas: the depth to which they are read does not matter, a node's tree is made of its children's trees, and one law for each kind of node.
--- Assumes nothing.
+-- The trees of action formulas: the depth to which they are read does not matter, a node's tree is made of its
+-- children's trees, and one law for each kind of node. Assumes nothing.
 use mathlib.Core.Path.{_≡_, refl, ap, ap₂, _∙_}
 use mathlib.Core.Bool.{true, false, not, _&&_, _||_}
 use mathlib.Core.List.{List}

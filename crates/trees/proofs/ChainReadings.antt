@@ -1,4 +1,5 @@
--- The reading of equation i for t is the largest of what the chains from i count: no chain counts more, and some chain counts as much. Assumes nothing.
+-- The reading of equation i for t is the largest of what the chains from i count: no chain counts more, and some chain
+-- counts as much. Assumes nothing.
 use mathlib.Core.Path.{_≡_, refl, sym, ap, _∙_}
 use mathlib.Core.Logic.{_⊎_, inl, inr}
 use mathlib.Core.Bool.{Bool, true, false}

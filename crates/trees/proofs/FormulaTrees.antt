@@ -1,5 +1,6 @@
--- The trees of formulas: the depth to which they are read does not matter, a node's tree is made of its children's trees, and one law for each kind of node.
--- A fixpoint and a reference are leaves: a reference to an equation. Assumes nothing.
+-- The trees of formulas: the depth to which they are read does not matter, a node's tree is made of its children's
+-- trees, and one law for each kind of node. A fixpoint and a reference are leaves: a reference to an equation. Assumes
+-- nothing.
 use mathlib.Core.Path.{_≡_, refl, ap, ap₂, _∙_}
 use Prim.Native.Nat.{ℕ, zero, suc, _-_, _≤_, _<_}
 use native.Mathlib.Decide.{ℕ-discrete}

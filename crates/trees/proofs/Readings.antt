@@ -1,5 +1,5 @@
--- Readings: the depth to which they are read does not matter, a reading is the largest of what the references in the body count, and readings are small.
--- Assumes nothing.
+-- Readings: the depth to which they are read does not matter, a reading is the largest of what the references in the
+-- body count, and readings are small. Assumes nothing.
 use mathlib.Core.Path.{_≡_, refl, ap, ap₂, _∙_}
 use mathlib.Core.Bool.{Bool, true, false, cond}
 use mathlib.Core.List.{List, map}

@@ -1,5 +1,5 @@
--- The references in a body: each is to an equation, only the words of the formula matter, and one law for each kind of node on the largest value over them.
--- Assumes nothing.
+-- The references in a body: each is to an equation, only the words of the formula matter, and one law for each kind of
+-- node on the largest value over them. Assumes nothing.
 use mathlib.Core.Path.{_≡_, refl, ap, ap₂, _∙_}
 use mathlib.Core.Logic.{_⊎_, inl, inr}
 use mathlib.Core.List.{List, [], _∷_, _++_, map}

@@ -1,4 +1,5 @@
--- Chains of references from an equation to ever later ones, and what a chain counts: a reading without recursion (document 01, "Depth"). Assumes nothing: these are definitions.
+-- Chains of references from an equation to ever later ones, and what a chain counts: a reading without recursion
+-- (document 01, "Depth"). Assumes nothing: these are definitions.
 use mathlib.Core.Path.{_≡_}
 use mathlib.Core.List.{List, [], _∷_}
 use Prim.Native.Nat.{ℕ, _+_, _<_}

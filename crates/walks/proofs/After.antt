@@ -1,11 +1,11 @@
--- The walk with its stack is what the relation `After` says, which mentions no stack; and so room is exceeded within the first k steps exactly if it is after k
--- steps. Assumes nothing; that the test is equality is a parameter.
+-- The walk with its stack is what the relation `After` says, which mentions no stack; and so room is exceeded within
+-- the first k steps exactly if it is after k steps. Assumes nothing; that the test is equality is a parameter.
 use mathlib.Core.Path.{_≡_, refl, sym, ap, ap₂, _∙_, subst}
 use mathlib.Core.Bool.{Bool}
 use mathlib.Core.List.{List, [], _∷_, map}
 use mathlib.Core.Logic.{_⊎_, inl, inr, ⊎-elim, _↔_}
 use Prim.Native.Nat.{ℕ, zero, suc, _+_, _-_, _≤_, _<_}
-use native.Mathlib.Nat.{le-refl, le-trans}
+use native.Mathlib.Nat.{le-refl}
 use native.Mathlib.Decide.{decLt}
 use native.Mathlib.Omega.{arith}
 use lib.ListN.{length, getD}
@@ -158,10 +158,6 @@ module _ {A : Type 0} {same : A → A → Bool} (eq : Equality same) (next : A �
   pub orderAfter : ℕ → List ℕ
   orderAfter k = stands k .order
 
-  pub order-is : (k : ℕ) → orderAfter k ≡ stands k .order
-  unfolding orderAfter
-  order-is k = refl
-
   pub walk-after : (k : ℕ) → After next root k (walk same next root k .known) (orderAfter k)
   unfolding orderAfter
   walk-after k = stands k .after
@@ -173,14 +169,6 @@ module _ {A : Type 0} {same : A → A → Bool} (eq : Equality same) (next : A �
     λ m. (stands k .parts .below v m, λ w. stands k .parts .apart v w m),
     λ s. ⊎-elim (λ w. absurd (s .1 w)) (λ m. m) (stands k .parts .either v (s .0)),
   )
-
-  pub order-distinct : (k : ℕ) → Distinct (orderAfter k)
-  unfolding orderAfter
-  order-distinct k = stands k .distinct
-
-  pub order-length : (k : ℕ) → length (orderAfter k) ≡ settled (walk same next root k)
-  unfolding orderAfter settled
-  order-length k = stands k .counted
 
   pub order-sum : (k : ℕ) (weight : A → ℕ) → weighed weight root (walk same next root k .known) (orderAfter k) ≡ sumSettled weight root (walk same next root k)
   unfolding orderAfter
@@ -201,7 +189,8 @@ module _ {A : Type 0} {same : A → A → Bool} (eq : Equality same) (next : A �
 
   -- ---- room
 
-  -- the known elements, or a sum over the settled vertices, exceed the room within the first k steps exactly if they do after k steps
+  -- the known elements, or a sum over the settled vertices, exceed the room within the first k steps exactly if they do
+  -- after k steps
   pub exceeded-within : (weight : A → ℕ) (vertices edges k : ℕ)
       → ((j : ℕ) × (known : List A) × (order : List ℕ) × (j ≤ k) × After next root j known order × ((vertices < length known) ⊎ (edges < weighed weight root known order)))
       ↔ ((vertices < length (walk same next root k .known)) ⊎ (edges < sumSettled weight root (walk same next root k)))
@@ -219,13 +208,3 @@ module _ {A : Type 0} {same : A → A → Bool} (eq : Equality same) (next : A �
       ⊎-elim (λ m. inl m) (λ m. inr (subst (λ (n : ℕ). edges < n) (sym (order-sum k weight)) m)) l,
     ),
   )
-
-  pub known-exceeds : (k room : ℕ) → ((j : ℕ) × (j ≤ k) × (room < length (walk same next root j .known))) ↔ (room < length (walk same next root k .known))
-  known-exceeds k room = (
-    λ (j, h, l). le-trans l (begins-length (walk same next root j .known) (walk same next root k .known) (walk-keeps eq next root j k h)),
-    λ l. (k, le-refl k, l),
-  )
-
-  pub sum-exceeds : (weight : A → ℕ) (k room : ℕ)
-      → ((j : ℕ) × (j ≤ k) × (room < sumSettled weight root (walk same next root j))) ↔ (room < sumSettled weight root (walk same next root k))
-  sum-exceeds weight k room = (λ (j, h, l). le-trans l (walk-grows eq next root weight j k h), λ l. (k, le-refl k, l))

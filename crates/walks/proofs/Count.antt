@@ -1,4 +1,5 @@
--- How many vertices are settled after k steps, against any list of all reachable elements in which no two are alike. Assumes nothing beyond the parameters.
+-- How many vertices are settled after k steps, against any list of all reachable elements in which no two are alike.
+-- Assumes nothing beyond the parameters.
 use mathlib.Core.Path.{_≡_, refl, sym, subst}
 use mathlib.Core.Bool.{Bool}
 use mathlib.Core.List.{List, [], _∷_}
@@ -81,10 +82,6 @@ module _ {A : Type 0} {same : A → A → Bool} (eq : Equality same) (next : A �
   progress (suc k) =
       subst (Progress (suc k)) (sym (walk-step same next root k))
       (progress-step k (walk same next root k) (progress k) (counted (walk same next root k) (sound eq next root k)))
-
-  -- while a vertex waits, each step settled one
-  pub waiting-steps : (k : ℕ) → 0 < length (walk same next root k .waiting) → settled (walk same next root k) ≡ k
-  waiting-steps k h = progress k .exactly h
 
   -- ---- against a list of all reachable elements, none twice
   module _ (all : List A) (once : Distinct all) (only : (p : A) → In p all → Reachable next root p) (every : (p : A) → Reachable next root p → In p all) where

@@ -1,11 +1,12 @@
--- The facts of a walk of k steps. Assumes nothing beyond the parameters: a list that has every reachable element, and is no longer than the bound.
+-- The facts of a walk of k steps. Assumes nothing beyond the parameters: a list that has every reachable element, and
+-- is no longer than the bound.
 use mathlib.Core.Path.{_≡_, refl, sym, ap, _∙_}
 use mathlib.Core.Bool.{Bool}
 use mathlib.Core.List.{List, [], _∷_}
 use mathlib.Core.Logic.{_⊎_, inl, inr}
-use Prim.Native.Nat.{ℕ, _≤_, _<_, min}
-use native.Mathlib.Nat.{le-refl, le-trans}
-use native.Mathlib.Decide.{decLt, decLe}
+use Prim.Native.Nat.{ℕ, _≤_, _<_}
+use native.Mathlib.Nat.{le-trans}
+use native.Mathlib.Decide.{decLt}
 use native.Mathlib.Omega.{arith}
 use lib.ListN.{length, getD}
 use Rattle.rules.specs.Lists.{In}
@@ -105,14 +106,6 @@ module _ {A : Type 0} {same : A → A → Bool} (eq : Equality same) (next : A �
           once = reached-distinct eq next root bound;
           within = le-trans (reached-within eq next root all cover bound) few;
         }
-
-    -- after k steps the walk stands where it stands after as many of them as it makes
-    pub walk-min : (k : ℕ) → walk same next root k ≡ walk same next root (min k (length (reachedIn same next root bound)))
-    walk-min k = go (decLe (length found) k)
-      where
-        go : Dec (length found ≤ k) → walk same next root k ≡ walk same next root (min k (length found))
-        go (yes h) = walk-facts (length found) .stays (le-refl (length found)) k h ∙ ap (walk same next root) (omega arith)
-        go (no h) = ap (walk same next root) (omega arith)
 
     -- where nothing waits, the known elements are all, and N is their number
     pub count-is : (k : ℕ) → walk same next root k .waiting ≡ [] → length (reachedIn same next root bound) ≡ length (walk same next root k .known)

@@ -1,4 +1,5 @@
--- The relation `After` leaves nothing free: the steps fix the known elements, their numbers, the settled vertices and the order in which they were settled. Assumes nothing.
+-- The relation `After` leaves nothing free: the steps fix the known elements, their numbers, the settled vertices and
+-- the order in which they were settled. Assumes nothing.
 use mathlib.Core.Path.{_≡_, refl, sym, ap₂, subst}
 use mathlib.Core.List.{List, [], _∷_, _++_}
 use mathlib.Core.Logic.{_⊎_, inl, inr, ⊎-elim}

@@ -1,4 +1,5 @@
--- What is pushed on the waiting vertices while the targets of a step are gone through: nothing, or one stretch after another. Assumes nothing.
+-- What is pushed on the waiting vertices while the targets of a step are gone through: nothing, or one stretch after
+-- another. Assumes nothing.
 use mathlib.Core.Path.{_≡_, refl, ap, _∙_}
 use mathlib.Core.List.{List, _∷_}
 use Prim.Native.Nat.{ℕ, zero, suc, _+_, _-_, _≤_}

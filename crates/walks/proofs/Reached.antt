@@ -1,9 +1,9 @@
--- The elements that chains of at most k targets lead to, each once; and from a number of targets on that no list of all reachable elements exceeds, they are all
--- reachable elements. Assumes nothing beyond the parameters.
+-- The elements that chains of at most k targets lead to, each once; and from a number of targets on that no list of all
+-- reachable elements exceeds, they are all reachable elements. Assumes nothing beyond the parameters.
 use mathlib.Core.Path.{_≡_, refl, sym, ap, subst}
 use mathlib.Core.Bool.{Bool}
 use mathlib.Core.List.{List, [], _∷_}
-use mathlib.Core.Logic.{_⊎_, inl, inr, ⊎-elim, _↔_}
+use mathlib.Core.Logic.{_⊎_, inl, inr, ⊎-elim}
 use Prim.Native.Nat.{ℕ, zero, suc, _≤_, _<_}
 use native.Mathlib.Decide.{decLt}
 use native.Mathlib.Omega.{arith}
@@ -128,6 +128,3 @@ module _ {A : Type 0} {same : A → A → Bool} (eq : Equality same) (next : A �
         go : (bound < length (reachedIn same next root bound)) ⊎ Closed bound → (p : A) → Reachable next root p → In p (reachedIn same next root bound)
         go (inl l) = absurd (omega (arith, reached-within bound))
         go (inr c) = closed-all bound c
-
-    pub reached-exactly : (bound : ℕ) → length all ≤ bound → (p : A) → In p (reachedIn same next root bound) ↔ Reachable next root p
-    reached-exactly bound few p = (reached-reachable bound p, reached-every bound few p)

@@ -1,5 +1,6 @@
--- Elements are only names: a walk over other names for the same elements knows the same in the same order, with the same edges, and as many are reachable. Assumes nothing beyond the
--- parameters: different reachable elements have different names, and the targets of a name are the names of the targets.
+-- Elements are only names: a walk over other names for the same elements knows the same in the same order, with the
+-- same edges, and as many are reachable. Assumes nothing beyond the parameters: different reachable elements have
+-- different names, and the targets of a name are the names of the targets.
 use mathlib.Core.Path.{_≡_, refl, sym, ap, ap₂, _∙_, subst}
 use mathlib.Core.Bool.{Bool, cond}
 use mathlib.Core.List.{List, [], _∷_, _++_, map}

@@ -1,5 +1,6 @@
--- What holds of a walk at every step: k + 1 steps are k steps and one more; the known elements are distinct and reachable, the waiting vertices fall, and the
--- targets of the settled ones are known. Assumes nothing; that the test is equality is a parameter.
+-- What holds of a walk at every step: k + 1 steps are k steps and one more; the known elements are distinct and
+-- reachable, the waiting vertices fall, and the targets of the settled ones are known. Assumes nothing; that the test
+-- is equality is a parameter.
 use mathlib.Core.Path.{_≡_, refl, sym, ap, _∙_, subst}
 use mathlib.Core.Bool.{Bool}
 use mathlib.Core.List.{List, [], _∷_}

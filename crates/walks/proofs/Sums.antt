@@ -1,4 +1,5 @@
--- Sums over the settled vertices: a step adds the weight of the vertex that it settles, and no sum ever falls. Assumes nothing; that the test is equality is a parameter.
+-- Sums over the settled vertices: a step adds the weight of the vertex that it settles, and no sum ever falls. Assumes
+-- nothing; that the test is equality is a parameter.
 use mathlib.Core.Path.{_≡_, refl, sym, ap, _∙_, subst}
 use mathlib.Core.Bool.{Bool, true, false, cond}
 use mathlib.Core.List.{List, [], _∷_}

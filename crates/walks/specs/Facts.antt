@@ -1,5 +1,5 @@
--- What holds of a walk of k steps: what it has settled, what it knows, and when it is cut. N is the number of the elements that chains of at most `bound`
--- targets reach. Assumes nothing: this is a statement.
+-- What holds of a walk of k steps: what it has settled, what it knows, and when it is cut. N is the number of the
+-- elements that chains of at most `bound` targets reach. Assumes nothing: this is a statement.
 use mathlib.Core.Path.{_≡_}
 use mathlib.Core.Bool.{Bool}
 use mathlib.Core.List.{List, []}
@@ -36,7 +36,8 @@ module _ {A : Type 0} (same : A → A → Bool) (next : A → List A) (root : A)
     -- for each target of a settled vertex's element a vertex stands
     pub edges : (v : ℕ) → Settled (walk same next root k) v → (q : A) → In q (next (getD (knownAfter k) v root))
         → (position same q (knownAfter k) < length (knownAfter k)) × (getD (knownAfter k) (position same q (knownAfter k)) root ≡ q)
-    -- the waiting vertices are numbers of known elements, the last numbered first, none twice, and a vertex waits or is settled
+    -- the waiting vertices are numbers of known elements, the last numbered first, none twice, and a vertex waits or is
+    -- settled
     pub falling : Falling (length (knownAfter k)) (waitingAfter k)
     pub either : (v : ℕ) → v < length (knownAfter k) → Settled (walk same next root k) v ⊎ In v (waitingAfter k)
     -- the walk is cut, a vertex still waiting, exactly if k is below N

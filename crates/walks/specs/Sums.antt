@@ -19,7 +19,8 @@ settled st = length (st .known) - length (st .waiting)
 abbrev pub Settled : {A : Type 0} → Stand A → ℕ → Type 0
 Settled st v = (v < length (st .known)) × (¬ In v (st .waiting))
 
--- The weights of the settled vertices below n, summed. A weight is a function of the element; `root` is only the default of a place past the end
+-- The weights of the settled vertices below n, summed. A weight is a function of the element; `root` is only the
+-- default of a place past the end
 unfoldable pub sumBelow : {A : Type 0} → (weight : A → ℕ) → (root : A) → Stand A → ℕ → ℕ
 sumBelow weight root st zero = 0
 sumBelow weight root st (suc v) = cond (has eqb v (st .waiting)) 0 (weight (getD (st .known) v root)) + sumBelow weight root st v

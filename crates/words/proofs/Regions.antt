@@ -53,7 +53,8 @@ put-above : (r s v i x : ℕ) (w : List ℕ) → i < v → r < s → region r v 
 unfolding putWord
 put-above r s v i x w h l = region-past r v (s * v + i) x w (omega (arith, rise r s v l))
 
--- every region after one word was put: at numerals r and s the test computes, so that `simp region-put` does a whole chain of puts, with each `i < v` in scope
+-- every region after one word was put: at numerals r and s the test computes, so that `simp region-put` does a whole
+-- chain of puts, with each `i < v` in scope
 pub region-put : (r s v i x : ℕ) (w : List ℕ) → i < v → region r v (putWord s v i x w) ≡ cond (eqb r s) (set (region r v w) i x) (region r v w)
 region-put r s v i x w h = go (decLt r s) (decLt s r)
   where

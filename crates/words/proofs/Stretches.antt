@@ -1,4 +1,5 @@
--- A stretch of words that is written from left to right, one word after the other or by calls: what is written and what is left are the stretch. Assumes nothing.
+-- A stretch of words that is written from left to right, one word after the other or by calls: what is written and what
+-- is left are the stretch. Assumes nothing.
 use mathlib.Core.Path.{_≡_, refl, sym, ap, _∙_, subst}
 use mathlib.Core.List.{List, [], _∷_, _++_, map, append-assoc, append-nil}
 use Prim.Native.Nat.{ℕ, suc, _+_, _-_, _≤_, _<_}
@@ -10,7 +11,8 @@ use Rattle.rules.specs.Lists.{word, zeros}
 use Rattle.words.specs.Stretches.{Wrote}
 use Rattle.words.proofs.Regions.{same-later}
 
--- of the stretch that is to stand from at₀ on, the words in front of `at` are written, and `left` is left to write; the words from `at` on are as they were
+-- of the stretch that is to stand from at₀ on, the words in front of `at` are written, and `left` is left to write; the
+-- words from `at` on are as they were
 pub record Writing (at : ℕ) (left out : List ℕ) (at₀ : ℕ) (stretch out₀ : List ℕ) : Type 0 where
   pub long : length out ≡ length out₀
   pub last : at + length left ≡ at₀ + length stretch

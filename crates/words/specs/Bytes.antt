@@ -1,4 +1,5 @@
--- Words in bytes, the lowest byte first (document 01, the thin program's "little-endian words"). Assumes nothing: this is a definition.
+-- Words in bytes, the lowest byte first (document 01, the thin program's "little-endian words"). Assumes nothing: this
+-- is a definition.
 use Prim.Native.Nat.{ℕ, _+_}
 use mathlib.Core.List.{List}
 use Rattle.rules.specs.Lists.{word}

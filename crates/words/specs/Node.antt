@@ -1,4 +1,5 @@
--- What is asked of a node of a table of trees (m, m kinds, m operands), so that its kind, and its operand, can be read. Assumes nothing: these are definitions.
+-- What is asked of a node of a table of trees (m, m kinds, m operands), so that its kind, and its operand, can be read.
+-- Assumes nothing: these are definitions.
 use Prim.Native.Nat.{ℕ, _+_, _<_}
 use mathlib.Core.List.{List}
 use lib.ListN.{length}

@@ -1,5 +1,5 @@
--- One flat list of words, seen as regions of v words each, and what stands behind them (document 01, "Words handed over": the work slice). Assumes nothing: these are
--- definitions.
+-- One flat list of words, seen as regions of v words each, and what stands behind them (document 01, "Words handed
+-- over": the work slice). Assumes nothing: these are definitions.
 use Prim.Native.Nat.{ℕ, _+_, _*_, _≤_, _<_}
 use mathlib.Core.List.{List}
 use lib.ListN.{set, take, drop}

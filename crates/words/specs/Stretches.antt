@@ -1,4 +1,5 @@
--- A stretch of words that a function appends to those that a slice holds already. Assumes nothing: these are definitions.
+-- A stretch of words that a function appends to those that a slice holds already. Assumes nothing: these are
+-- definitions.
 use mathlib.Core.Path.{_≡_}
 use mathlib.Core.List.{List, _++_}
 use Prim.Native.Nat.{ℕ, _+_}

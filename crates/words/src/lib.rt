@@ -38,6 +38,27 @@ pub fn operand_at(table: &[u32], node: usize) -> usize
     at(table, 1 + m + node)
 }
 
+// ---- the work slice of a run: eight regions of v words each, then the edges. Its map stands here alone. Regions 0 to
+// 2 are the slots in which a pair is looked up (crate `pairs`)
+
+// The key of each vertex.
+pub const KEYS: u32 = 3;
+
+// The waiting vertices, the one numbered last on top.
+pub const STACK: u32 = 4;
+
+// Where the edges of a settled vertex begin.
+pub const STARTS: u32 = 5;
+
+// 0 before a vertex is settled, then one more than the number of its edges.
+pub const COUNTS: u32 = 6;
+
+// The number of the step in which a vertex got its last edge from a modality.
+pub const MARKS: u32 = 7;
+
+// How many regions there are: the edges begin behind them.
+pub const REGIONS: usize = 8;
+
 // ---- regions of v words each: only these two functions index them
 
 // Word i of a region.
@@ -92,7 +113,8 @@ pub fn copy(src: &[u32], from: usize, end: usize, out: &mut [u32], start: usize)
     p
 }
 
-// For each of the first `count` numbers that `numbers` holds, in order, the word that src has for it in the array at `base` is appended.
+// For each of the first `count` numbers that `numbers` holds, in order, the word that src has for it in the array at
+// `base` is appended.
 pub fn carry(
     src: &[u32],
     base: usize,

@@ -1,11 +1,11 @@
--- Where the nodes of an action formula stand in the words: its tree ends just past them, each of them passes 33 and 34, and the words read as the formula.
+-- Where the nodes of an action formula stand in the words: its tree ends just past them, each of them passes 33 and 34,
+-- and the words read as the formula.
 -- Assumes nothing.
-use mathlib.Core.Path.{_≡_, refl, ap, ap₂, _∙_, subst}
+use mathlib.Core.Path.{_≡_, refl, ap, ap₂, _∙_}
 use mathlib.Core.Bool.{false, not}
 use mathlib.Core.List.{List, _++_}
 use mathlib.Core.Option.{Option, some}
 use Prim.Native.Nat.{ℕ, suc, _+_, _-_, _≤_, _<_}
-use native.Mathlib.Decide.{decLt, ℕ-discrete}
 use native.Mathlib.Omega.{arith}
 use lib.ListN.{length, length-append}
 use borrow.Author.Tests.{eq-eqb, lt-leb}
@@ -20,7 +20,7 @@ use Rattle.tables.proofs.Decode.{action-children-none, action-children-one, act
 use Rattle.tables.proofs.Operands.{action-zero, action-label, action-right, action-negated}
 use Rattle.trees.proofs.ActionTrees.{any-tree, never-tree, multi-tree, union-tree, intersection-tree, negation-tree}
 use Rattle.writing.specs.ActionSyntax.{ActionSyntax, trueAction, falseAction, labelAction, unionAction, intersectionAction, negationAction, actionSize, writeAction, LabelsBelow, readAction}
-use Rattle.writing.proofs.Nodes.{Holds, holds-split}
+use Rattle.writing.proofs.Nodes.{Holds, holds-split, leaf-nodes, one-nodes, two-nodes}
 use Rattle.tables.proofs.Choices.{differ-no}
 
 -- as many nodes are written
@@ -90,21 +90,6 @@ module _ (acts : List ℕ) where
   Fine ls u = (kind acts u ≤ 5) × (badActionOperand ls acts u ≡ false)
 
   module _ (ls : List ℕ) where
-    -- the node itself, then the nodes after it
-    fine-first : (v e u : ℕ) → Fine ls v → (suc v ≤ u → u < e → Fine ls u) → v ≤ u → u < e → Fine ls u
-    fine-first v e u here later a b = go (ℕ-discrete v u)
-      where
-        go : Dec (v ≡ u) → Fine ls u
-        go (yes i) = subst (Fine ls) i here
-        go (no i) = later (omega arith) b
-
-    fine-two : (v x e u : ℕ) → (v ≤ u → u < x → Fine ls u) → (x ≤ u → u < e → Fine ls u) → v ≤ u → u < e → Fine ls u
-    fine-two v x e u left right a b = go (decLt u x)
-      where
-        go : Dec (u < x) → Fine ls u
-        go (yes l) = left a l
-        go (no l) = right (omega arith) b
-
     fine-zero : (v : ℕ) → v < size acts → kind acts v ≤ 1 → operand acts v ≡ 0 → Fine ls v
     fine-zero v h k o = (omega arith, action-zero ls acts v h k ∙ differ-no o)
 
@@ -113,28 +98,35 @@ module _ (acts : List ℕ) where
     fine-right a v h i j o p l =
         (omega arith, action-right ls acts v h i j ∙ right-end (operand acts v) (suc v + actionSize a) _ (action-ends a (suc v) p l) o)
 
+    -- a node with two subtrees, where the nodes of each are as they should be
+    fine-both : (a b : ActionSyntax) (v u : ℕ)
+        → Holds (writeAction a (suc v) ++ writeAction b (suc v + actionSize a)) acts (suc v)
+        → v + suc (actionSize a + actionSize b) ≤ size acts → 3 ≤ kind acts v → kind acts v ≤ 4
+        → operand acts v ≡ suc v + actionSize a
+        → (Holds (writeAction a (suc v)) acts (suc v) → suc v ≤ u → u < suc v + actionSize a → Fine ls u)
+        → (Holds (writeAction b (suc v + actionSize a)) acts (suc v + actionSize a)
+        → suc v + actionSize a ≤ u → u < suc v + actionSize a + actionSize b → Fine ls u)
+        → v ≤ u → u < v + suc (actionSize a + actionSize b) → Fine ls u
+    fine-both a b v u h l i j o left right =
+        let (p, q) = holds-two acts a b v h in
+        two-nodes (Fine ls) v u (fine-right a v (omega arith) i j o p (omega arith)) (actionSize a) (actionSize b) (left p) (right q)
+
     pub action-fine : (t : ActionSyntax) (v : ℕ) → Holds (writeAction t v) acts v → v + actionSize t ≤ size acts → LabelsBelow (labelCount ls) t
         → (u : ℕ) → v ≤ u → u < v + actionSize t → Fine ls u
     unfolding writeAction actionSize
-    action-fine trueAction v (k, o, h) l below u = fine-first v (v + 1) u (fine-zero v (omega arith) (omega arith) o) (λ i j. absurd (omega arith))
-    action-fine falseAction v (k, o, h) l below u = fine-first v (v + 1) u (fine-zero v (omega arith) (omega arith) o) (λ i j. absurd (omega arith))
+    action-fine trueAction v (k, o, h) l below u = leaf-nodes (Fine ls) v u (fine-zero v (omega arith) (omega arith) o)
+    action-fine falseAction v (k, o, h) l below u = leaf-nodes (Fine ls) v u (fine-zero v (omega arith) (omega arith) o)
     action-fine (labelAction m) v (k, o, h) l below u =
-        fine-first v (v + 1) u (omega arith, action-label ls acts v (omega arith) k ∙ lt-leb (labelCount ls) (operand acts v) (omega arith)) (λ i j. absurd (omega arith))
+        leaf-nodes (Fine ls) v u (omega arith, action-label ls acts v (omega arith) k ∙ lt-leb (labelCount ls) (operand acts v) (omega arith))
     action-fine (unionAction a b) v (k, o, h) l below u =
-        let (p, q) = holds-two acts a b v h in
-        fine-first v (v + suc (actionSize a + actionSize b)) u (fine-right a v (omega arith) (omega arith) (omega arith) o p (omega arith))
-        (fine-two (suc v) (suc v + actionSize a) (v + suc (actionSize a + actionSize b)) u
-        (λ i j. action-fine a (suc v) p (omega arith) (below .0) u i j)
-        (λ i j. action-fine b (suc v + actionSize a) q (omega arith) (below .1) u i (omega arith)))
+        fine-both a b v u h l (omega arith) (omega arith) o (λ p. action-fine a (suc v) p (omega arith) (below .0) u)
+        (λ q. action-fine b (suc v + actionSize a) q (omega arith) (below .1) u)
     action-fine (intersectionAction a b) v (k, o, h) l below u =
-        let (p, q) = holds-two acts a b v h in
-        fine-first v (v + suc (actionSize a + actionSize b)) u (fine-right a v (omega arith) (omega arith) (omega arith) o p (omega arith))
-        (fine-two (suc v) (suc v + actionSize a) (v + suc (actionSize a + actionSize b)) u
-        (λ i j. action-fine a (suc v) p (omega arith) (below .0) u i j)
-        (λ i j. action-fine b (suc v + actionSize a) q (omega arith) (below .1) u i (omega arith)))
+        fine-both a b v u h l (omega arith) (omega arith) o (λ p. action-fine a (suc v) p (omega arith) (below .0) u)
+        (λ q. action-fine b (suc v + actionSize a) q (omega arith) (below .1) u)
     action-fine (negationAction a) v (k, o, h) l below u =
-        fine-first v (v + suc (actionSize a)) u (omega arith, action-negated ls acts v (omega arith) k ∙ differ-no o)
-        (λ i j. action-fine a (suc v) h (omega arith) below u i (omega arith))
+        one-nodes (Fine ls) v u (omega arith, action-negated ls acts v (omega arith) k ∙ differ-no o) (actionSize a)
+        (λ i j. action-fine a (suc v) h (omega arith) below u i j)
 
     -- ---- the words read as the formula
 

@@ -1,5 +1,5 @@
--- Words are trees, for action formulas: the words of every row within the limits are accepted and read as the row; all accepted words are the words of a row,
--- and of one only. Assumes nothing.
+-- Words are trees, for action formulas: the words of every row within the limits are accepted and read as the row; all
+-- accepted words are the words of a row, and of one only. Assumes nothing.
 use mathlib.Core.Path.{_≡_, sym, ap, _∙_, subst}
 use mathlib.Core.Bool.{true, false, not, _||_}
 use mathlib.Core.List.{List}

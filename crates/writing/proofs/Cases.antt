@@ -1,4 +1,5 @@
--- Examples, computed: syntax trees as the words that document 01 hands over, and the equations of nested fixpoints. Assumes nothing.
+-- Examples, computed: syntax trees as the words that document 01 hands over, and the equations of nested fixpoints.
+-- Assumes nothing.
 use mathlib.Core.Path.{_≡_, refl}
 use mathlib.Core.List.{List, [], _∷_}
 use Rattle.rules.specs.Actions.{anyAction}

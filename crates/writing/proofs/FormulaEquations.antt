@@ -1,4 +1,5 @@
--- Where the nodes of a formula stand in the words, the words read as the formula: its bodies, and its equations in order. Assumes nothing.
+-- Where the nodes of a formula stand in the words, the words read as the formula: its bodies, and its equations in
+-- order. Assumes nothing.
 use mathlib.Core.Path.{_≡_, sym, ap, ap₂, _∙_}
 use mathlib.Core.Bool.{false}
 use mathlib.Core.List.{List, [], _∷_, _++_, map, append-assoc, append-nil}

@@ -1,10 +1,10 @@
--- Where the nodes of a formula stand in the words: its tree ends just past them, and each of them passes 43, 44 and 45. Assumes nothing.
-use mathlib.Core.Path.{_≡_, refl, ap, ap₂, _∙_, subst}
+-- Where the nodes of a formula stand in the words: its tree ends just past them, and each of them passes 43, 44 and 45.
+-- Assumes nothing.
+use mathlib.Core.Path.{_≡_, refl, ap, ap₂, _∙_}
 use mathlib.Core.Bool.{Bool, true, false, not, _&&_}
 use mathlib.Core.List.{List, _∷_, _++_}
 use mathlib.Core.Option.{some}
 use Prim.Native.Nat.{ℕ, zero, suc, _+_, _-_, _≤_, _<_}
-use native.Mathlib.Decide.{decLt, ℕ-discrete}
 use native.Mathlib.Omega.{arith}
 use lib.ListN.{length, getD, length-append}
 use borrow.Author.Tests.{lt-ltb}
@@ -18,7 +18,7 @@ use Rattle.tables.proofs.Operands.{formula-zero, formula-right, formula-action,
 use Rattle.writing.specs.ActionSyntax.{ActionSyntax, firstNode}
 use Rattle.writing.specs.FormulaSyntax.{FormulaSyntax, trueFormula, falseFormula, andFormula, orFormula, boxFormula, diamondFormula, leastFormula, greatestFormula, referenceFormula}
 use Rattle.writing.specs.FormulaSyntax.{formulaSize, writeFormula, Names}
-use Rattle.writing.proofs.Nodes.{Holds, holds-split}
+use Rattle.writing.proofs.Nodes.{Holds, holds-split, leaf-nodes, one-nodes, two-nodes}
 use Rattle.writing.proofs.ActionNodes.{right-end}
 use Rattle.tables.proofs.Choices.{differ-no}
 
@@ -123,21 +123,6 @@ module _ (row : List ActionSyntax) where
           (kind f u ≤ 8) × (badFormulaOperand noTree f u ≡ false)
           × (wrongReference f u (referenceOf (formulaNode f u)) ≡ false)
 
-      -- the node itself, then the nodes after it
-      fine-first : (v e u : ℕ) → FineNode v → (suc v ≤ u → u < e → FineNode u) → v ≤ u → u < e → FineNode u
-      fine-first v e u here later a b = go (ℕ-discrete v u)
-        where
-          go : Dec (v ≡ u) → FineNode u
-          go (yes i) = subst FineNode i here
-          go (no i) = later (omega arith) b
-
-      fine-two : (v x e u : ℕ) → (v ≤ u → u < x → FineNode u) → (x ≤ u → u < e → FineNode u) → v ≤ u → u < e → FineNode u
-      fine-two v x e u left right a b = go (decLt u x)
-        where
-          go : Dec (u < x) → FineNode u
-          go (yes l) = left a l
-          go (no l) = right (omega arith) b
-
       fine-zero : (v : ℕ) → v < size f → kind f v ≤ 1 → operand f v ≡ 0 → FineNode v
       fine-zero v h k o =
           (omega arith, formula-zero noTree f v h k ∙ differ-no o, reference-other f v h (λ z. omega arith))
@@ -174,43 +159,71 @@ module _ (row : List ActionSyntax) where
                 ∙ ap not e,
           )
 
+      -- a node with two subtrees, where the nodes of each are as they should be
+      fine-both : (a b : FormulaSyntax) (around : List ℕ) (v u : ℕ)
+          → Holds (writeFormula row a around (suc v) ++ writeFormula row b around (suc v + formulaSize a)) f (suc v)
+          → v + suc (formulaSize a + formulaSize b) ≤ size f → 2 ≤ kind f v → kind f v ≤ 3
+          → operand f v ≡ suc v + formulaSize a → Surround around v (v + suc (formulaSize a + formulaSize b))
+          → (Holds (writeFormula row a around (suc v)) f (suc v) → Surround around (suc v) (suc v + formulaSize a)
+          → suc v ≤ u → u < suc v + formulaSize a → FineNode u)
+          → (Holds (writeFormula row b around (suc v + formulaSize a)) f (suc v + formulaSize a)
+          → Surround around (suc v + formulaSize a) (suc v + formulaSize a + formulaSize b)
+          → suc v + formulaSize a ≤ u → u < suc v + formulaSize a + formulaSize b → FineNode u)
+          → v ≤ u → u < v + suc (formulaSize a + formulaSize b) → FineNode u
+      fine-both a b around v u h l i j o s left right =
+          let (p, q) = holds-both a b around v h in
+          two-nodes FineNode v u
+          (fine-right v (suc v + formulaSize a) (omega arith) i j o (formula-ends a around (suc v) p (omega arith)))
+          (formulaSize a) (formulaSize b) (left p (surround-inner around v _ (suc v) _ (omega arith) (omega arith) s))
+          (right q (surround-inner around v _ (suc v + formulaSize a) _ (omega arith) (omega arith) s))
+
+      -- a fixpoint: it surrounds the nodes of its body too
+      fine-around : (a : FormulaSyntax) (around : List ℕ) (v u : ℕ) → Holds (writeFormula row a (v ∷ around) (suc v)) f (suc v)
+          → v + suc (formulaSize a) ≤ size f → 6 ≤ kind f v → kind f v ≤ 7 → operand f v ≡ 0
+          → Surround around v (v + suc (formulaSize a))
+          → (Surround (v ∷ around) (suc v) (suc v + formulaSize a) → suc v ≤ u → u < suc v + formulaSize a → FineNode u)
+          → v ≤ u → u < v + suc (formulaSize a) → FineNode u
+      fine-around a around v u h l i j o s body =
+          one-nodes FineNode v u (fine-fixpoint v (omega arith) i j o) (formulaSize a)
+          (body
+          (surround-inner (v ∷ around) (suc v) (v + suc (formulaSize a)) (suc v) _ (omega arith) (omega arith)
+          (surround-more around v _ (fixpoint-yes f v (omega arith) i j)
+          (one-ends v (formulaSize a) (omega arith) (omega arith) j (formula-ends a (v ∷ around) (suc v) h (omega arith))) s)))
+
+      fine-named : (i : ℕ) (a : FormulaSyntax) (around : List ℕ) (v u : ℕ) → v + suc (formulaSize a) ≤ size f
+          → 4 ≤ kind f v → kind f v ≤ 5 → i < length row → operand f v ≡ firstNode row i
+          → Surround around v (v + suc (formulaSize a))
+          → (Surround around (suc v) (suc v + formulaSize a) → suc v ≤ u → u < suc v + formulaSize a → FineNode u)
+          → v ≤ u → u < v + suc (formulaSize a) → FineNode u
+      fine-named i a around v u l p q n o s body =
+          one-nodes FineNode v u (fine-action i v (omega arith) p q n o) (formulaSize a)
+          (body (surround-inner around v _ (suc v) _ (omega arith) (omega arith) s))
+
       pub formula-fine : (t : FormulaSyntax) (around : List ℕ) (v : ℕ) → Holds (writeFormula row t around v) f v → v + formulaSize t ≤ size f
           → Names (length row) (length around) t → Surround around v (v + formulaSize t)
           → (u : ℕ) → v ≤ u → u < v + formulaSize t → FineNode u
       unfolding writeFormula formulaSize
-      formula-fine trueFormula around v (k, o, h) l ns s u = fine-first v (v + 1) u (fine-zero v (omega arith) (omega arith) o) (λ i j. absurd (omega arith))
-      formula-fine falseFormula around v (k, o, h) l ns s u = fine-first v (v + 1) u (fine-zero v (omega arith) (omega arith) o) (λ i j. absurd (omega arith))
+      formula-fine trueFormula around v (k, o, h) l ns s u = leaf-nodes FineNode v u (fine-zero v (omega arith) (omega arith) o)
+      formula-fine falseFormula around v (k, o, h) l ns s u = leaf-nodes FineNode v u (fine-zero v (omega arith) (omega arith) o)
       formula-fine (andFormula a b) around v (k, o, h) l ns s u =
-          let (p, q) = holds-both a b around v h in
-          fine-first v (v + suc (formulaSize a + formulaSize b)) u
-          (fine-right v (suc v + formulaSize a) (omega arith) (omega arith) (omega arith) o (formula-ends a around (suc v) p (omega arith)))
-          (fine-two (suc v) (suc v + formulaSize a) (v + suc (formulaSize a + formulaSize b)) u
-          (λ i j. formula-fine a around (suc v) p (omega arith) (ns .0) (surround-inner around v _ (suc v) _ (omega arith) (omega arith) s) u i j)
-          (λ i j. formula-fine b around (suc v + formulaSize a) q (omega arith) (ns .1) (surround-inner around v _ (suc v + formulaSize a) _ (omega arith) (omega arith) s) u i (omega arith)))
+          fine-both a b around v u h l (omega arith) (omega arith) o s
+          (λ p r. formula-fine a around (suc v) p (omega arith) (ns .0) r u)
+          (λ q r. formula-fine b around (suc v + formulaSize a) q (omega arith) (ns .1) r u)
       formula-fine (orFormula a b) around v (k, o, h) l ns s u =
-          let (p, q) = holds-both a b around v h in
-          fine-first v (v + suc (formulaSize a + formulaSize b)) u
-          (fine-right v (suc v + formulaSize a) (omega arith) (omega arith) (omega arith) o (formula-ends a around (suc v) p (omega arith)))
-          (fine-two (suc v) (suc v + formulaSize a) (v + suc (formulaSize a + formulaSize b)) u
-          (λ i j. formula-fine a around (suc v) p (omega arith) (ns .0) (surround-inner around v _ (suc v) _ (omega arith) (omega arith) s) u i j)
-          (λ i j. formula-fine b around (suc v + formulaSize a) q (omega arith) (ns .1) (surround-inner around v _ (suc v + formulaSize a) _ (omega arith) (omega arith) s) u i (omega arith)))
+          fine-both a b around v u h l (omega arith) (omega arith) o s
+          (λ p r. formula-fine a around (suc v) p (omega arith) (ns .0) r u)
+          (λ q r. formula-fine b around (suc v + formulaSize a) q (omega arith) (ns .1) r u)
       formula-fine (boxFormula i a) around v (k, o, h) l ns s u =
-          fine-first v (v + suc (formulaSize a)) u (fine-action i v (omega arith) (omega arith) (omega arith) (ns .0) o)
-          (λ c d. formula-fine a around (suc v) h (omega arith) (ns .1) (surround-inner around v _ (suc v) _ (omega arith) (omega arith) s) u c (omega arith))
+          fine-named i a around v u l (omega arith) (omega arith) (ns .0) o s
+          (λ r. formula-fine a around (suc v) h (omega arith) (ns .1) r u)
       formula-fine (diamondFormula i a) around v (k, o, h) l ns s u =
-          fine-first v (v + suc (formulaSize a)) u (fine-action i v (omega arith) (omega arith) (omega arith) (ns .0) o)
-          (λ c d. formula-fine a around (suc v) h (omega arith) (ns .1) (surround-inner around v _ (suc v) _ (omega arith) (omega arith) s) u c (omega arith))
+          fine-named i a around v u l (omega arith) (omega arith) (ns .0) o s
+          (λ r. formula-fine a around (suc v) h (omega arith) (ns .1) r u)
       formula-fine (leastFormula a) around v (k, o, h) l ns s u =
-          fine-first v (v + suc (formulaSize a)) u (fine-fixpoint v (omega arith) (omega arith) (omega arith) o)
-          (λ c d. formula-fine a (v ∷ around) (suc v) h (omega arith) ns
-          (surround-inner (v ∷ around) (suc v) (v + suc (formulaSize a)) (suc v) _ (omega arith) (omega arith)
-          (surround-more around v _ (fixpoint-yes f v (omega arith) (omega arith) (omega arith))
-          (one-ends v (formulaSize a) (omega arith) (omega arith) (omega arith) (formula-ends a (v ∷ around) (suc v) h (omega arith))) s)) u c (omega arith))
+          fine-around a around v u h l (omega arith) (omega arith) o s
+          (λ r. formula-fine a (v ∷ around) (suc v) h (omega arith) ns r u)
       formula-fine (greatestFormula a) around v (k, o, h) l ns s u =
-          fine-first v (v + suc (formulaSize a)) u (fine-fixpoint v (omega arith) (omega arith) (omega arith) o)
-          (λ c d. formula-fine a (v ∷ around) (suc v) h (omega arith) ns
-          (surround-inner (v ∷ around) (suc v) (v + suc (formulaSize a)) (suc v) _ (omega arith) (omega arith)
-          (surround-more around v _ (fixpoint-yes f v (omega arith) (omega arith) (omega arith))
-          (one-ends v (formulaSize a) (omega arith) (omega arith) (omega arith) (formula-ends a (v ∷ around) (suc v) h (omega arith))) s)) u c (omega arith))
+          fine-around a around v u h l (omega arith) (omega arith) o s
+          (λ r. formula-fine a (v ∷ around) (suc v) h (omega arith) ns r u)
       formula-fine (referenceFormula i) around v (k, o, h) l ns s u =
-          fine-first v (v + 1) u (fine-reference around i v (omega arith) k o ns s) (λ c d. absurd (omega arith))
+          leaf-nodes FineNode v u (fine-reference around i v (omega arith) k o ns s)

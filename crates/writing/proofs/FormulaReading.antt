@@ -1,4 +1,5 @@
--- Accepted words of a formula are the writing of a closed formula, and a formula is written in its own way. Assumes nothing.
+-- Accepted words of a formula are the writing of a closed formula, and a formula is written in its own way. Assumes
+-- nothing.
 use mathlib.Core.Path.{_≡_, refl, sym, ap, ap₂, _∙_, subst}
 use mathlib.Core.Bool.{true, false, cond, true≢false, false≢true}
 use mathlib.Core.Logic.{inl, inr}

@@ -1,5 +1,5 @@
--- Words are trees, for formulas: the words of every closed formula within the limits are accepted, and their equations are the formula's; all accepted words
--- are the words of a formula, and of one only. Assumes nothing.
+-- Words are trees, for formulas: the words of every closed formula within the limits are accepted, and their equations
+-- are the formula's; all accepted words are the words of a formula, and of one only. Assumes nothing.
 use mathlib.Core.Path.{_≡_, refl, sym, ap, ap₂, _∙_, subst}
 use mathlib.Core.Bool.{Bool, true, false, cond, not}
 use mathlib.Core.List.{List, [], _∷_, _++_, map}
@@ -195,7 +195,8 @@ written-input-accepted x h w =
     (pass-more _ _ (a .long) (pass-more _ _ (a .few) (pass-more _ _ (a .kinds) (pass-more _ _ (a .operands)
     (pass-more _ _ (f .long) (pass-more _ _ (f .few) (pass-more _ _ (f .kinds) (pass-more _ _ (f .operands) (pass-more _ _ (f .references) first-none)))))))))
 
--- every input that is not refused is written: its words are those of a row and a closed formula, and the run goes by their equations
+-- every input that is not refused is written: its words are those of a row and a closed formula, and the run goes by
+-- their equations
 pub accepted-input-is-written : (x : Input) → inputRefusal x ≡ Passed → Written x
 unfolding inputRefusal
 accepted-input-is-written x h =

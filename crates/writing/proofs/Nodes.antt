@@ -1,9 +1,9 @@
 -- A table's words hold its nodes, and words that hold the nodes of a whole table are its words. Assumes nothing.
 use mathlib.Core.Path.{_≡_, refl, sym, ap, _∙_, subst}
 use mathlib.Core.List.{List, [], _∷_, _++_, map}
-use Prim.Native.Nat.{ℕ, zero, suc, _+_, _*_, _-_, _<_}
+use Prim.Native.Nat.{ℕ, zero, suc, _+_, _*_, _-_, _≤_, _<_}
 use native.Mathlib.Omega.{arith}
-use native.Mathlib.Decide.{decLt}
+use native.Mathlib.Decide.{decLt, ℕ-discrete}
 use lib.ListN.{length, getD, length-append, length-map, List·getD-append, List·getD-map}
 use lib.Seq.{getD-append-add, ext-getD}
 use Rattle.rules.specs.Lists.{word}
@@ -51,6 +51,30 @@ holds-from (n ∷ ns) ws v h =
           let (a, b) = h (suc i) (omega arith) in
           (ap (kind ws) e ∙ a, ap (operand ws) e ∙ b)),
     )
+
+-- ---- what holds of all nodes of a tree: of its first node, and of the nodes of its subtrees
+
+module _ (P : ℕ → Type 0) (v u : ℕ) (here : P v) where
+  first-then : (e : ℕ) → (suc v ≤ u → u < e → P u) → v ≤ u → u < e → P u
+  first-then e later a b = go (ℕ-discrete v u)
+    where
+      go : Dec (v ≡ u) → P u
+      go (yes i) = subst P i here
+      go (no i) = later (omega arith) b
+
+  pub leaf-nodes : v ≤ u → u < v + 1 → P u
+  leaf-nodes = first-then (v + 1) (λ a b. absurd (omega arith))
+
+  pub one-nodes : (n : ℕ) → (suc v ≤ u → u < suc v + n → P u) → v ≤ u → u < v + suc n → P u
+  one-nodes n later = first-then (v + suc n) (λ a b. later a (omega arith))
+
+  pub two-nodes : (m n : ℕ) → (suc v ≤ u → u < suc v + m → P u) → (suc v + m ≤ u → u < suc v + m + n → P u)
+      → v ≤ u → u < v + suc (m + n) → P u
+  two-nodes m n left right = first-then (v + suc (m + n)) (λ a b. go a b (decLt u (suc v + m)))
+    where
+      go : suc v ≤ u → u < v + suc (m + n) → Dec (u < suc v + m) → P u
+      go a b (yes l) = left a l
+      go a b (no l) = right (omega arith) (omega arith)
 
 -- ---- the words of a table
 

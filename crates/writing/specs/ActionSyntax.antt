@@ -1,5 +1,6 @@
--- Action formulas as plain syntax trees, and a row of them written as words (document 01, "Words handed over": "The table is a row of complete trees. A first
--- child is the next node; the operand of 3 and 4 is the right child, just past the left child's tree"). Assumes nothing: these are definitions.
+-- Action formulas as plain syntax trees, and a row of them written as words (document 01, "Words handed over": "The
+-- table is a row of complete trees. A first child is the next node; the operand of 3 and 4 is the right child, just
+-- past the left child's tree"). Assumes nothing: these are definitions.
 use mathlib.Core.Path.{_≡_}
 use mathlib.Core.List.{List, [], _∷_, _++_}
 use Prim.Native.Nat.{ℕ, zero, suc, _+_, _≤_, _<_}

@@ -1,5 +1,5 @@
--- Formulas as plain syntax trees, written as words, and the equations that they stand for (document 01, "Words handed over": "one tree in the same order", and
--- "Equations"). Assumes nothing: these are definitions.
+-- Formulas as plain syntax trees, written as words, and the equations that they stand for (document 01, "Words handed
+-- over": "one tree in the same order", and "Equations"). Assumes nothing: these are definitions.
 use mathlib.Core.Path.{_≡_}
 use mathlib.Core.Bool.{Bool, true, false, cond}
 use mathlib.Core.List.{List, [], _∷_, _++_, map}
@@ -16,7 +16,8 @@ use Rattle.rules.specs.Refusal.{namesNoTree, refusal41, refusal42, refusal43, r
 use Rattle.writing.specs.Nodes.{Node, tableWords}
 use Rattle.writing.specs.ActionSyntax.{ActionSyntax, trueAction, rowWords, firstNode, RowFits, readAction}
 
--- A modality names one of the row's trees by its place; a reference names a fixpoint around it by how many it passes on the way outward
+-- A modality names one of the row's trees by its place; a reference names a fixpoint around it by how many it passes on
+-- the way outward
 pub data FormulaSyntax : Type 0 where
   trueFormula falseFormula : FormulaSyntax
   andFormula orFormula : (left right : FormulaSyntax) → FormulaSyntax
@@ -39,7 +40,8 @@ formulaSize (greatestFormula a) = suc (formulaSize a)
 formulaSize (referenceFormula i) = 1
 
 module _ (row : List ActionSyntax) where
-  -- its nodes, the first of them being node v of the table; `around` are the nodes of the fixpoints around it, the nearest first
+  -- its nodes, the first of them being node v of the table; `around` are the nodes of the fixpoints around it, the
+  -- nearest first
   unfoldable pub writeFormula : FormulaSyntax → (around : List ℕ) → (v : ℕ) → List Node
   writeFormula trueFormula around v = (0, 0) ∷ []
   writeFormula falseFormula around v = (1, 0) ∷ []
@@ -56,7 +58,8 @@ module _ (row : List ActionSyntax) where
 
 -- ---- the limits
 
--- every modality names one of so many trees, every reference one of so many fixpoints around the formula or one inside it
+-- every modality names one of so many trees, every reference one of so many fixpoints around the formula or one inside
+-- it
 abbrev pub Names : (trees around : ℕ) → FormulaSyntax → Type 0
 Names trees around trueFormula = Unit {0}
 Names trees around falseFormula = Unit {0}
@@ -111,8 +114,8 @@ module _ (ls : List ℕ) (row : List ActionSyntax) where
   abbrev pub readTree : ℕ → Action
   readTree i = readAction ls (getD row i trueAction)
 
-  -- The formula as it stands in a body: a fixpoint is a reference to its equation. Its first fixpoint is equation `next`; `around` are the equations of the
-  -- fixpoints around it, the nearest first
+  -- The formula as it stands in a body: a fixpoint is a reference to its equation. Its first fixpoint is equation
+  -- `next`; `around` are the equations of the fixpoints around it, the nearest first
   unfoldable pub readFormula : FormulaSyntax → (around : List ℕ) → (next : ℕ) → Formula
   readFormula trueFormula around next = truth
   readFormula falseFormula around next = falsity
@@ -144,7 +147,8 @@ module _ (ls : List ℕ) (row : List ActionSyntax) where
 unfoldable pub equationsRead : Input → List (Operator × Formula)
 equationsRead x = map (λ (q : Equation). (q .operator, bodyTree x q)) (equations (x .formula))
 
--- the words of an input are those of a row of action formulas and a closed formula, within the limits, and the run goes by their equations
+-- the words of an input are those of a row of action formulas and a closed formula, within the limits, and the run goes
+-- by their equations
 pub record Written (x : Input) : Type 0 where
   pub row : List ActionSyntax
   pub whole : FormulaSyntax

@@ -1,4 +1,5 @@
--- A table of nodes as words (document 01, "Words handed over": "m kinds, m operands"). Assumes nothing: these are definitions.
+-- A table of nodes as words (document 01, "Words handed over": "m kinds, m operands"). Assumes nothing: these are
+-- definitions.
 use mathlib.Core.List.{List, _∷_, _++_, map}
 use Prim.Native.Nat.{ℕ}
 use lib.ListN.{length}

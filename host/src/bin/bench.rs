@@ -1,14 +1,35 @@
 //! Times the library, the plain implementation and the oracle's Rust text on the same inputs, and prints the tables
-//! of docs/PERFORMANCE.md. Usage: `bench [--oracle PROGRAM] [--seconds N] [SHAPE..]`, where PROGRAM is the oracle's own
-//! `bench` and N how long it may take on one input.
+//! of docs/PERFORMANCE.md.
 use hingrezh::check::call::{Implementation, LIBRARY, PLAIN};
+use hingrezh::check::options::{self, Options};
+use hingrezh::check::oracle::program_at;
 use hingrezh::check::shapes::{SHAPES, Shape, WORST};
-use hingrezh::{Model, Room, bytes_of};
+use hingrezh::check::spread::Spread;
+use hingrezh::{Answer, Model, Room, bytes_of};
 use std::path::PathBuf;
-use std::process::{Command, Stdio};
-use std::time::{Duration, Instant};
+use std::process::{Command, ExitCode, Stdio};
+use std::time::Duration;
 
-/// Of one implementation on one input. Seconds are processor time of the calling thread.
+const USAGE: &str = "\
+usage: bench [--oracle PROGRAM] [--runs N] [--seconds N] [--sizes LIST] [SHAPE..]
+
+Measures the library and the plain Rust implementation on large shapes and prints tables: the median of several runs
+with the least and the greatest in brackets. A run is a process of its own, in which the two take turns on the same
+slices. How it is measured is told in docs/PERFORMANCE.md.
+
+--oracle PROGRAM  measures the Rust original, too: PROGRAM is the oracle's own `bench`
+--runs N          how many runs (5)
+--seconds N       how much processor time the original may take on one input, all of its runs together (20)
+--sizes LIST      quarters of the shapes' full size, as 1,2,4; usual are 1,2,4, and 4 for the worst cases
+SHAPE..           only these; usual are all:
+                  ";
+
+/// The shapes that a speed is asked of, and how fast they should be (docs/PERFORMANCE.md).
+const ASKED: [&str; 3] = ["boxes", "alternation", "and-or"];
+const ASKED_OF_PLAIN: f64 = 1.25;
+const ASKED_OF_ORIGINAL: f64 = 3.0;
+
+/// Of one implementation in one run. Seconds are processor time of the calling thread.
 #[derive(Clone, Copy)]
 struct Measured {
     vertices: f64,
@@ -45,23 +66,29 @@ fn processor_time() -> f64 {
     time.seconds as f64 + time.nanoseconds as f64 / 1e9
 }
 
-/// The least time of library and plain over at least three turns of `work`, and more while they take less than two
-/// seconds in all. They take turns on the same slices, so that neither has the better memory or the quieter moment.
-fn least(mut work: impl FnMut(Implementation)) -> [f64; 2] {
-    let (mut least, mut sum) = ([f64::INFINITY; 2], 0.0);
-    for turn in 0..50 {
-        if turn >= 3 && sum > 2.0 {
-            break;
-        }
-        for (by, least) in [LIBRARY, PLAIN].into_iter().zip(&mut least) {
+/// Processor time of another process in seconds, from its status: the 14th and 15th entries in hundredths of a second,
+/// the second entry being a name in brackets. `None` once it has ended.
+fn processor_time_of(process: u32) -> Option<f64> {
+    let status = std::fs::read_to_string(format!("/proc/{process}/stat")).ok()?;
+    let (_, entries) = status.rsplit_once(')')?;
+    let times = entries.split_whitespace().skip(11).take(2);
+    Some(times.filter_map(|ticks| ticks.parse::<f64>().ok()).sum::<f64>() / 100.0)
+}
+
+/// The median times of library and plain over at least three turns of `work`, and more while they take less than half
+/// a second in all. They take turns on the same slices, so that neither has the better memory or the quieter moment.
+fn in_turn(mut work: impl FnMut(Implementation)) -> [f64; 2] {
+    let (mut times, mut sum) = ([Vec::new(), Vec::new()], 0.0);
+    while times[0].len() < 3 || (sum < 0.5 && times[0].len() < 99) {
+        for (by, times) in [LIBRARY, PLAIN].into_iter().zip(&mut times) {
             let start = processor_time();
             work(by);
             let time = processor_time() - start;
-            *least = time.min(*least);
+            times.push(time);
             sum += time;
         }
     }
-    least
+    times.map(|times| Spread::of(times).map_or(0.0, |spread| spread.median))
 }
 
 /// Both calls by library and plain, with exactly the room that the game needs.
@@ -81,228 +108,366 @@ fn measure(model: &Model, room: Room) -> [Measured; 2] {
         build(by);
         peak()
     });
-    let seconds = least(build);
+    let seconds = in_turn(build);
     let [_, _, n, m] = answer;
     game.truncate(4 + 3 * n as usize + m as usize);
     drop(work);
     let (mut out, mut map) = (vec![7; game.len()], vec![7; n as usize]);
     let mut queue = map.clone();
-    let restrict = least(|by| (by.compute_reachable)(&game, &mut out, &mut map, &mut queue, &mut answer));
+    let restrict = in_turn(|by| (by.compute_reachable)(&game, &mut out, &mut map, &mut queue, &mut answer));
     assert_eq!(answer, [0, n, n, m], "a finished game loses no vertex");
-    let of = |i: usize| Measured {
-        vertices: n as f64,
-        edges: m as f64,
-        seconds: seconds[i],
-        restrict: restrict[i],
-        peak: peaks[i],
-    };
+    let (vertices, edges) = (n as f64, m as f64);
+    let of = |i: usize| Measured { vertices, edges, seconds: seconds[i], restrict: restrict[i], peak: peaks[i] };
     [of(0), of(1)]
 }
 
 /// The exact room of a model's game.
-fn exact_room(model: &Model) -> Room {
-    let answer = model.build(Room::MOST, u32::MAX).answer;
-    match answer {
-        hingrezh::Answer::Done { vertices, edges, .. } => Room { vertices, edges },
-        other => panic!("a shape that fits the largest room: {other}"),
+fn exact_room(model: &Model) -> Result<Room, String> {
+    match model.build(Room::MOST, u32::MAX).answer {
+        Answer::Done { vertices, edges, .. } => Ok(Room { vertices, edges }),
+        other => Err(format!("no game that fits the largest room: {other}")),
     }
 }
 
-/// Measures in a process of its own, so that each shape has its own peak.
-fn in_process(shape: &str, quarters: u32, room: Room) -> [Measured; 2] {
-    let program = std::env::current_exe().expect("this program");
+/// Measures in a process of its own, so that each run has its own memory and its own peak.
+fn in_process(shape: &str, quarters: u32, room: Room) -> Result<[Measured; 2], String> {
+    let program = std::env::current_exe().map_err(|error| format!("this program: {error}"))?;
     let numbers = [quarters, room.vertices, room.edges].map(|number| number.to_string());
-    let output = Command::new(program).args(["--one", shape]).args(numbers).output().expect("a process");
+    let output = Command::new(program).args(["--one", shape]).args(numbers).stderr(Stdio::inherit()).output();
+    let output = output.map_err(|error| format!("a process for {shape}: {error}"))?;
     let text = String::from_utf8_lossy(&output.stdout).to_string();
-    let numbers: Vec<f64> = text.split_whitespace().map(|word| word.parse().expect("a number")).collect();
+    let numbers: Vec<f64> = text.split_whitespace().filter_map(|word| word.parse().ok()).collect();
     let (measured, _) = numbers.as_chunks::<5>();
     let of =
         |&[vertices, edges, seconds, restrict, peak]: &[f64; 5]| Measured { vertices, edges, seconds, restrict, peak };
     match measured {
-        [library, plain] => [of(library), of(plain)],
-        _ => panic!("no measurement of {shape}: {text}"),
+        [library, plain] => Ok([of(library), of(plain)]),
+        _ => Err(format!("no measurement of {shape}: {text}")),
     }
 }
 
-fn find(name: &str) -> &'static Shape {
-    SHAPES.iter().chain(&WORST).find(|shape| shape.name == name).unwrap_or_else(|| panic!("no shape {name}"))
+fn all_shapes() -> impl Iterator<Item = &'static Shape> {
+    SHAPES.iter().chain(&WORST)
+}
+
+fn find(name: &str) -> Result<&'static Shape, String> {
+    all_shapes().find(|shape| shape.name == name).ok_or(format!("there is no shape {name}"))
 }
 
 /// The inner process: prints what was measured.
-fn one(arguments: &[String]) {
-    let [shape, quarters, vertices, edges] = arguments else { panic!("four arguments") };
-    let number = |text: &String| text.parse::<u32>().expect("a number");
-    let room = Room { vertices: number(vertices), edges: number(edges) };
-    for m in measure(&(find(shape).make)(number(quarters)), room) {
+fn one(arguments: &[String]) -> Result<(), String> {
+    let [shape, numbers @ ..] = arguments else { return Err("--one needs a shape".to_string()) };
+    let numbers: Vec<u32> = numbers.iter().filter_map(|text| text.parse().ok()).collect();
+    let [quarters, vertices, edges] = numbers[..] else { return Err("--one needs three numbers".to_string()) };
+    for m in measure(&(find(shape)?.make)(quarters), Room { vertices, edges }) {
         println!("{} {} {} {} {}", m.vertices, m.edges, m.seconds, m.restrict, m.peak);
     }
+    Ok(())
 }
 
 struct Original {
     program: PathBuf,
-    patience: Duration,
+    /// Seconds of processor time.
+    patience: f64,
 }
 
 impl Original {
-    /// By the oracle's own benchmark, from a file in its framing; `None` if it takes too long.
-    fn measure(&self, model: &Model) -> Option<Measured> {
+    /// At most so many runs, and as many as there is patience for; none if the first takes too long.
+    fn runs(&self, model: &Model, runs: usize) -> Result<Vec<Measured>, String> {
         let file = std::env::temp_dir().join(format!("hingrezh-bench-{}", std::process::id()));
-        std::fs::write(&file, [bytes_of(&[0]), model.to_bytes()].concat()).expect("a file for the oracle");
-        let mut child =
-            Command::new(&self.program).arg("--read").arg(&file).stdout(Stdio::piped()).spawn().expect("the oracle");
-        let clock = Instant::now();
-        let finished = loop {
-            match child.try_wait().expect("the oracle") {
-                Some(status) => break status.success(),
-                None if clock.elapsed() > self.patience => break false,
-                None => std::thread::sleep(Duration::from_millis(20)),
+        std::fs::write(&file, [bytes_of(&[0]), model.to_bytes()].concat())
+            .map_err(|error| format!("{}: {error}", file.display()))?;
+        let (mut spent, mut measured) = (0.0, Vec::new());
+        let outcome = loop {
+            if measured.len() == runs {
+                break Ok(());
+            }
+            match self.run(&file, self.patience - spent) {
+                Ok((time, Some(run))) => {
+                    spent += time;
+                    measured.push(run);
+                }
+                Ok((_, None)) => break Ok(()),
+                Err(what) => break Err(what),
             }
         };
-        if !finished {
+        // It is in the folder for such files, and its name is used again: nothing is lost if it stays.
+        let _ = std::fs::remove_file(&file);
+        outcome.map(|()| measured)
+    }
+
+    /// By the oracle's own benchmark, from a file in its framing; `None` if it takes too long. With it the processor
+    /// time that the whole run took.
+    fn run(&self, file: &PathBuf, patience: f64) -> Result<(f64, Option<Measured>), String> {
+        let failed = |error: std::io::Error| format!("{}: {error}", self.program.display());
+        let mut command = Command::new(&self.program);
+        let mut child = command.arg("--read").arg(file).stdout(Stdio::piped()).spawn().map_err(failed)?;
+        let mut spent = 0.0;
+        let status = loop {
+            spent = processor_time_of(child.id()).unwrap_or(spent);
+            match child.try_wait().map_err(failed)? {
+                None if spent <= patience => std::thread::sleep(Duration::from_millis(20)),
+                status => break status,
+            }
+        };
+        if status.is_none() {
             // It may just have ended; then there is nothing to stop.
             let _ = child.kill();
         }
-        let output = child.wait_with_output().expect("the oracle");
-        let _ = std::fs::remove_file(&file);
-        finished.then(|| read_measured(&String::from_utf8_lossy(&output.stdout)))
+        let output = child.wait_with_output().map_err(failed)?;
+        let line = String::from_utf8_lossy(&output.stdout);
+        match status {
+            None => Ok((spent, None)),
+            Some(status) if !status.success() => Err(format!("{} failed: {status}", self.program.display())),
+            Some(_) => match read_measured(&line) {
+                Some(measured) => Ok((spent, Some(measured))),
+                None => Err(format!("the oracle's line has another form: {line}")),
+            },
+        }
     }
 }
 
 /// Its line: `..: N vertices, M edges, S s CPU (..) ..; restrict with coding S s; peak P MB, ..`.
-fn read_measured(line: &str) -> Measured {
-    let before = |what: &str| {
-        let text = &line[..line.find(what).unwrap_or_else(|| panic!("no `{what}` in {line}"))];
-        text.rsplit(' ')
-            .next()
-            .and_then(|word| word.parse().ok())
-            .unwrap_or_else(|| panic!("no number before `{what}`"))
-    };
-    let after = |what: &str| {
-        let text = &line[line.find(what).unwrap_or_else(|| panic!("no `{what}` in {line}")) + what.len()..];
-        text.split_whitespace().next().and_then(|word| word.parse().ok()).expect("a number")
-    };
-    Measured {
-        vertices: before(" vertices"),
-        edges: before(" edges"),
-        seconds: before(" s CPU"),
-        restrict: after("restrict with coding "),
-        peak: after("; peak "),
-    }
+fn read_measured(line: &str) -> Option<Measured> {
+    let before = |what: &str| line[..line.find(what)?].rsplit(' ').next()?.parse().ok();
+    let after = |what: &str| line[line.find(what)? + what.len()..].split_whitespace().next()?.parse().ok();
+    Some(Measured {
+        vertices: before(" vertices")?,
+        edges: before(" edges")?,
+        seconds: before(" s CPU")?,
+        restrict: after("restrict with coding ")?,
+        peak: after("; peak ")?,
+    })
 }
 
-/// One shape at one size by all three.
+struct Settings {
+    original: Option<Original>,
+    runs: usize,
+    /// `None` for the usual ones.
+    sizes: Option<Vec<u32>>,
+    names: Vec<String>,
+}
+
+/// One shape at one size by all three, a measurement for each run.
 struct Row {
     name: &'static str,
     quarters: u32,
-    library: Measured,
-    plain: Measured,
-    /// `None` without an oracle, `Some(None)` if it took too long.
-    original: Option<Option<Measured>>,
+    library: Vec<Measured>,
+    plain: Vec<Measured>,
+    /// `None` without an oracle; none in it if it took too long.
+    original: Option<Vec<Measured>>,
+    patience: f64,
 }
 
-fn row(shape: &Shape, quarters: u32, original: &Option<Original>) -> Row {
-    let model = (shape.make)(quarters);
-    let room = exact_room(&model);
-    let [library, plain] = in_process(shape.name, quarters, room);
-    let original = original.as_ref().map(|original| original.measure(&model));
-    let row = Row { name: shape.name, quarters, library, plain, original };
-    if let Some(Some(measured)) = row.original {
-        assert_eq!((measured.vertices, measured.edges), (library.vertices, library.edges), "the same game");
+fn median(measured: &[Measured], of: fn(&Measured) -> f64) -> Spread {
+    // There is at least one run.
+    Spread::of(measured.iter().map(of)).unwrap_or(Spread { count: 0, least: 0.0, median: 0.0, most: 0.0 })
+}
+
+impl Row {
+    fn measure(shape: &Shape, quarters: u32, settings: &Settings) -> Result<Row, String> {
+        let model = (shape.make)(quarters);
+        let room = exact_room(&model)?;
+        let (mut library, mut plain) = (Vec::new(), Vec::new());
+        for _ in 0..settings.runs {
+            let [one, other] = in_process(shape.name, quarters, room)?;
+            library.push(one);
+            plain.push(other);
+        }
+        let original = settings.original.as_ref().map(|original| original.runs(&model, settings.runs)).transpose()?;
+        let same = |m: &Measured| (m.vertices, m.edges) == (room.vertices as f64, room.edges as f64);
+        if !original.iter().flatten().all(same) {
+            return Err(format!("{}: the original's game has another size", shape.name));
+        }
+        let patience = settings.original.as_ref().map_or(0.0, |original| original.patience);
+        let row = Row { name: shape.name, quarters, library, plain, original, patience };
+        eprintln!("{}, {quarters} of 4 quarters: {} s", row.name, median(&row.library, |m| m.seconds).cell(4));
+        Ok(row)
     }
-    eprintln!("{}, {} of 4 quarters: {:.3} s", shape.name, quarters, library.seconds);
-    row
-}
 
-fn original_cell(row: &Row, patience: u64, text: impl Fn(&Measured) -> String) -> String {
-    match &row.original {
-        None => "-".to_string(),
-        Some(None) => format!("> {patience} s"),
-        Some(Some(measured)) => text(measured),
+    /// Library beside plain, run by run.
+    fn beside_plain(&self) -> Option<Spread> {
+        Spread::of(self.library.iter().zip(&self.plain).map(|(library, plain)| library.seconds / plain.seconds))
     }
-}
 
-fn print_times(rows: &[Row], patience: u64) {
-    println!(
-        "| shape | size | vertices | edges | library s | million vertices/s | plain s | Rust text s | library / plain | Rust text / library |"
-    );
-    println!("|---|---|---|---|---|---|---|---|---|---|");
-    for row in rows {
-        let Row { name, quarters, library, plain, .. } = row;
-        let original = original_cell(row, patience, |measured| format!("{:.3}", measured.seconds));
-        let ratio = original_cell(row, patience, |measured| format!("{:.1}", measured.seconds / library.seconds));
-        let speed = library.vertices / library.seconds / 1e6;
+    /// The original beside the library, by their medians.
+    fn original_beside(&self) -> Option<f64> {
+        let original = Spread::of(self.original.as_ref()?.iter().map(|m| m.seconds))?;
+        Some(original.median / median(&self.library, |m| m.seconds).median)
+    }
+
+    fn original_beside_cell(&self) -> String {
+        let at_least = self.patience / median(&self.library, |m| m.seconds).median;
+        match (&self.original, self.original_beside()) {
+            (None, _) => "-".to_string(),
+            (_, Some(ratio)) => format!("{ratio:.1}"),
+            (_, None) => format!("> {at_least:.0}"),
+        }
+    }
+
+    fn original_cell(&self, text: impl Fn(&[Measured]) -> String) -> String {
+        match self.original.as_deref() {
+            None => "-".to_string(),
+            Some([]) => format!("> {} s", self.patience),
+            Some(runs) => text(runs),
+        }
+    }
+
+    fn print_times(&self) {
+        let milliseconds: fn(&Measured) -> f64 = |m| 1000.0 * m.seconds;
+        let (library, plain) = (median(&self.library, milliseconds), median(&self.plain, milliseconds));
+        let Measured { vertices, edges, .. } = self.library[0];
         println!(
-            "| {name} | {quarters}x | {} | {} | {:.4} | {speed:.2} | {:.4} | {original} | {:.2} | {ratio} |",
-            library.vertices,
-            library.edges,
-            library.seconds,
-            plain.seconds,
-            library.seconds / plain.seconds
+            "| {} | {}x | {vertices} | {edges} | {} | {} | {} |",
+            self.name,
+            self.quarters,
+            library.cell(1),
+            plain.cell(1),
+            self.beside_plain().map_or("-".to_string(), |ratio| ratio.cell(2)),
+        );
+    }
+
+    fn print_original(&self) {
+        println!(
+            "| {} | {}x | {} | {} |",
+            self.name,
+            self.quarters,
+            self.original_cell(|runs| median(runs, |m| m.seconds).cell(3)),
+            self.original_beside_cell()
+        );
+    }
+
+    fn print_memory_and_restriction(&self) {
+        let memory = |runs: &[Measured]| format!("{:.0}", median(runs, |m| m.peak).most);
+        println!(
+            "| {} | {}x | {} | {} | {} | {} | {} | {} |",
+            self.name,
+            self.quarters,
+            memory(&self.library),
+            memory(&self.plain),
+            self.original_cell(memory),
+            median(&self.library, |m| 1000.0 * m.restrict).cell(1),
+            median(&self.plain, |m| 1000.0 * m.restrict).cell(1),
+            self.original_cell(|runs| median(runs, |m| m.restrict).cell(3))
         );
     }
 }
 
-fn print_memory_and_restriction(rows: &[Row], patience: u64) {
-    println!("| shape | library MB | plain MB | Rust text MB | restrict: library s | plain s | Rust text s |");
-    println!("|---|---|---|---|---|---|---|");
-    for row in rows.iter().filter(|row| row.quarters == 4) {
-        let Row { name, library, plain, .. } = row;
-        let memory = original_cell(row, patience, |measured| format!("{:.0}", measured.peak));
-        let seconds = original_cell(row, patience, |measured| format!("{:.4}", measured.restrict));
-        println!(
-            "| {name} | {:.0} | {:.0} | {memory} | {:.4} | {:.4} | {seconds} |",
-            library.peak, plain.peak, library.restrict, plain.restrict
-        );
+const TIMES: [&str; 7] = ["shape", "size", "vertices", "edges", "library ms", "plain ms", "library / plain"];
+
+const ORIGINAL: [&str; 4] = ["shape", "size", "Rust text s", "Rust text / library"];
+
+const MEMORY_AND_RESTRICTION: [&str; 8] =
+    ["shape", "size", "library MB", "plain MB", "Rust text MB", "restrict: library ms", "plain ms", "Rust text s"];
+
+fn print_table(columns: &[&str], rows: &[Row], print: fn(&Row)) {
+    if rows.is_empty() {
+        return;
     }
+    println!("| {} |\n|{}", columns.join(" | "), "---|".repeat(columns.len()));
+    rows.iter().for_each(print);
+    println!();
 }
 
-/// In general terms only.
-fn machine() -> String {
+/// The machine in general terms, and how busy it was: with a load of 1 or more something else was running.
+fn print_machine() {
     let cores = std::thread::available_parallelism().map_or(0, |n| n.get());
     let memory = std::fs::read_to_string("/proc/meminfo").unwrap_or_default();
     let kb = memory.split_whitespace().nth(1).and_then(|word| word.parse::<f64>().ok()).unwrap_or(0.0);
-    format!("{cores} cores of {}, {:.0} GB of memory, {}", std::env::consts::ARCH, kb / 1e6, std::env::consts::OS)
+    let load = std::fs::read_to_string("/proc/loadavg").unwrap_or_default();
+    let load = load.split_whitespace().next().unwrap_or("unknown").to_string();
+    let (arch, os) = (std::env::consts::ARCH, std::env::consts::OS);
+    println!(
+        "Machine: {cores} cores of {arch}, {:.0} GB of memory, {os}. Load before the first run: {load}.",
+        kb / 1e6
+    );
 }
 
-/// How it was measured is told in docs/PERFORMANCE.md.
-fn print_all(original: &Option<Original>, patience: u64, names: &[&String]) {
-    println!("Machine: {}.\n", machine());
-    let wanted = |shape: &&Shape| names.is_empty() || names.iter().any(|name| name.as_str() == shape.name);
-    for (title, shapes, sizes) in [("Shapes", &SHAPES[..], &[1, 2, 4][..]), ("Worst cases", &WORST[..], &[4][..])] {
+/// What the rows say of the shapes that a speed is asked of.
+fn print_asked(rows: &[Row]) {
+    let rows: Vec<&Row> = rows.iter().filter(|row| ASKED.contains(&row.name)).collect();
+    let medians = |row: &&Row| row.beside_plain().map(|ratio| ratio.median);
+    let Some(beside) = Spread::of(rows.iter().filter_map(medians)) else { return };
+    // As the table shows it, with two digits.
+    let above = |row: &&&Row| medians(row).is_some_and(|ratio| ratio > ASKED_OF_PLAIN + 0.005);
+    let above: Vec<String> = rows.iter().filter(above).map(|row| format!("{} {}x", row.name, row.quarters)).collect();
+    let above = if above.is_empty() { "none".to_string() } else { above.join(", ") };
+    println!("Of those rows that a speed is asked of ({}), by medians:\n", ASKED.join(", "));
+    println!("- library / plain: {:.2} to {:.2}; asked at most {ASKED_OF_PLAIN}", beside.least, beside.most);
+    println!("- above that: {above}");
+    if let Some(times) = Spread::of(rows.iter().filter_map(|row| row.original_beside())) {
+        println!("- Rust text / library: {:.1} to {:.1}; asked at least {ASKED_OF_ORIGINAL}", times.least, times.most);
+    }
+    println!();
+}
+
+fn print_all(settings: &Settings) -> Result<(), String> {
+    print_machine();
+    println!("Runs: {}.\n", settings.runs);
+    let wanted = |shape: &&Shape| settings.names.is_empty() || settings.names.iter().any(|name| name == shape.name);
+    for (title, shapes, usual) in [("Shapes", &SHAPES[..], &[1, 2, 4][..]), ("Worst cases", &WORST[..], &[4][..])] {
         let chosen: Vec<&Shape> = shapes.iter().filter(wanted).collect();
-        if chosen.is_empty() {
+        let mut rows = Vec::new();
+        for shape in &chosen {
+            for &quarters in settings.sizes.as_deref().unwrap_or(usual) {
+                rows.push(Row::measure(shape, quarters, settings)?);
+            }
+        }
+        if rows.is_empty() {
             continue;
         }
-        let each = |shape: &&Shape| sizes.iter().map(|&quarters| row(shape, quarters, original)).collect::<Vec<_>>();
-        let rows: Vec<Row> = chosen.iter().flat_map(each).collect();
         println!("### {title}\n");
         chosen.iter().for_each(|shape| println!("- `{}`: {}", shape.name, shape.what));
         println!();
-        print_times(&rows, patience);
-        println!();
-        print_memory_and_restriction(&rows, patience);
-        println!();
+        print_table(&TIMES, &rows, Row::print_times);
+        print_asked(&rows);
+        if settings.original.is_some() {
+            print_table(&ORIGINAL, &rows, Row::print_original);
+        }
+        rows.retain(|row| row.quarters == 4);
+        print_table(&MEMORY_AND_RESTRICTION, &rows, Row::print_memory_and_restriction);
     }
+    Ok(())
 }
 
-fn main() {
-    let arguments: Vec<String> = std::env::args().skip(1).collect();
+fn settings(arguments: Vec<String>) -> Result<Settings, String> {
+    let options = Options::read(arguments, &["--oracle", "--runs", "--seconds", "--sizes"])?;
+    for name in &options.names {
+        find(name)?;
+    }
+    let size = |text: &str| match text.parse() {
+        Ok(quarters @ 1..=4) => Ok(quarters),
+        _ => Err(format!("--sizes: {text} is none of 1, 2, 3, 4")),
+    };
+    let sizes = options.value("--sizes").map(|list| list.split(',').map(size).collect()).transpose()?;
+    let patience = options.number("--seconds", 20)? as f64;
+    let program = options.value("--oracle").map(program_at).transpose()?;
+    let original = program.map(|program| Original { program, patience });
+    Ok(Settings { original, runs: options.count("--runs", 5)? as usize, sizes, names: options.names })
+}
+
+fn run(arguments: Vec<String>) -> Result<(), String> {
     if arguments.first().is_some_and(|argument| argument == "--one") {
         return one(&arguments[1..]);
     }
-    let (mut program, mut patience, mut names) = (None, 60, Vec::new());
-    let mut rest = arguments.iter();
-    while let Some(argument) = rest.next() {
-        match argument.as_str() {
-            "--oracle" => program = rest.next().map(PathBuf::from),
-            "--seconds" => patience = rest.next().and_then(|text| text.parse().ok()).expect("--seconds N"),
-            _ => names.push(argument),
+    let settings = settings(arguments)?;
+    if settings.original.is_none() {
+        println!("No oracle was named: library and plain only.\n");
+    }
+    print_all(&settings)
+}
+
+fn main() -> ExitCode {
+    let arguments: Vec<String> = std::env::args().skip(1).collect();
+    if options::wants_help(&arguments) {
+        println!("{USAGE}{}", all_shapes().map(|shape| shape.name).collect::<Vec<_>>().join(" "));
+        return ExitCode::SUCCESS;
+    }
+    match run(arguments) {
+        Ok(()) => ExitCode::SUCCESS,
+        Err(what) => {
+            eprintln!("bench: {what}; bench --help says how it is used");
+            ExitCode::from(2)
         }
     }
-    let program = program.filter(|program| program.is_file());
-    if program.is_none() {
-        println!("No oracle (it is built from ../shared/oracle where that exists): library and plain only.\n");
-    }
-    let original = program.map(|program| Original { program, patience: Duration::from_secs(patience) });
-    print_all(&original, patience, &names);
 }

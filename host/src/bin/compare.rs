@@ -1,17 +1,36 @@
 //! Compares the library with the plain implementation and the oracle: every word of game, map and work, and the
-//! words around all slices. Exit status 1 on a difference, with the smallest input that shows one.
+//! words around all slices; and the verdicts of small games with what their formulas mean.
 use hingrezh::check::call::{Call, LIBRARY, Outcome, PLAIN, perform, show, unlawful};
 use hingrezh::check::cases::{self, Case};
 use hingrezh::check::damage::damage;
 use hingrezh::check::finished::{Expected, expected};
 use hingrezh::check::generate::{Random, Sizes, all_formulas, random_game, random_model, table};
+use hingrezh::check::options::{self, Options};
 use hingrezh::check::oracle::{Oracle, Reply, Request};
 use hingrezh::check::places;
 use hingrezh::check::shapes::{SHAPES, WORST};
+use hingrezh::check::verdicts::{self, Tally, Verdict};
 use hingrezh::{Answer, Model};
 use std::collections::BTreeMap;
 use std::process::ExitCode;
 use std::time::Instant;
+
+const USAGE: &str = "\
+usage: compare [--oracle PROGRAM] [--seed N] [--times N] [--only TEXT]
+
+Runs the library and the plain Rust implementation on the same inputs and compares every word that they leave, those
+around the lent slices included. Then solves small games of the library's (Even wins if the largest priority seen for
+ever is even) and compares who wins with the formula itself, read directly on the model. The ranking of fixpoints is
+the Rust original's: it gives false alarms (the formula holds, but Even does not win), which are counted. A false pass
+(Even wins, but the formula does not hold) is a difference.
+
+--oracle PROGRAM  asks PROGRAM, which runs the Rust original, too; without it there is no third opinion
+--seed N          other random inputs (1)
+--times N         N times as many random inputs (1)
+--only TEXT       only the stages whose names contain TEXT
+
+exit status: 0 no difference; 1 a difference or a false pass, the smallest input that shows one is printed; 2 it could
+not run";
 
 /// The words that lent slices hold before a call, in turn: plausible numbers, so that a slice which isn't cleared
 /// shows.
@@ -24,11 +43,17 @@ struct Comparison {
     calls: u64,
     /// How often each answer came: 0 for done, -1 for cut, else the refusal's number.
     answers: BTreeMap<(bool, i64), u64>,
+    verdicts: Tally,
     differences: u64,
     smallest: Option<(usize, String)>,
 }
 
 impl Comparison {
+    fn new(oracle: Option<Oracle>, seed: u64) -> Comparison {
+        let (random, answers, verdicts) = (Random::new(seed), BTreeMap::new(), Tally::default());
+        Comparison { oracle, random, inputs: 0, calls: 0, answers, verdicts, differences: 0, smallest: None }
+    }
+
     fn differs(&mut self, call: &Call, what: &str) {
         self.differences += 1;
         if self.smallest.as_ref().is_none_or(|(size, _)| call.size() < *size) {
@@ -80,22 +105,17 @@ impl Comparison {
     }
 
     /// The oracle's replies, `None` for all if there is no oracle.
-    fn replies(&self, requests: &[Request]) -> Vec<Option<Reply>> {
-        match &self.oracle {
-            None => requests.iter().map(|_| None).collect(),
-            Some(oracle) => match oracle.ask(requests) {
-                Ok(replies) => replies.into_iter().map(Some).collect(),
-                Err(error) => panic!("the oracle failed: {error}"),
-            },
-        }
+    fn replies(&self, requests: &[Request]) -> Result<Vec<Option<Reply>>, String> {
+        let Some(oracle) = &self.oracle else { return Ok(requests.iter().map(|_| None).collect()) };
+        Ok(oracle.ask(requests)?.into_iter().map(Some).collect())
     }
 
     /// Models that are accepted: the finished game comes from the oracle, other rooms and limits follow from it.
-    fn accepted(&mut self, models: Vec<Model>, tries: usize) {
+    fn accepted(&mut self, models: Vec<Model>, tries: usize) -> Result<(), String> {
         for models in models.chunks(5_000) {
             let requests: Vec<Request> = models.iter().map(Request::Translate).collect();
             let mut games = Vec::new();
-            for (model, reply) in models.iter().zip(self.replies(&requests)) {
+            for (model, reply) in models.iter().zip(self.replies(&requests)?) {
                 self.inputs += 1;
                 let game = match reply {
                     Some(Reply::Words(game)) => game,
@@ -110,8 +130,9 @@ impl Comparison {
                     games.push(game);
                 }
             }
-            self.games(games);
+            self.games(games)?;
         }
+        Ok(())
     }
 
     /// Runs of a model whose finished game is known: exact room, room to spare, too little, and cut.
@@ -139,10 +160,10 @@ impl Comparison {
     }
 
     /// Games that the restriction accepts.
-    fn games(&mut self, games: Vec<Vec<u32>>) {
+    fn games(&mut self, games: Vec<Vec<u32>>) -> Result<(), String> {
         for games in games.chunks(5_000) {
             let requests: Vec<Request> = games.iter().map(|game| Request::Restrict(game)).collect();
-            for (game, reply) in games.iter().zip(self.replies(&requests)) {
+            for (game, reply) in games.iter().zip(self.replies(&requests)?) {
                 self.inputs += 1;
                 let call = Call::restrict(game.clone());
                 match reply {
@@ -156,13 +177,14 @@ impl Comparison {
                 }
             }
         }
+        Ok(())
     }
 
     /// Calls that may be refused: the oracle knows no numbers, but takes exactly what is accepted, sizes aside.
-    fn any(&mut self, calls: Vec<Call>) {
+    fn any(&mut self, calls: Vec<Call>) -> Result<(), String> {
         for calls in calls.chunks(5_000) {
             let requests: Vec<Request> = calls.iter().map(request).collect();
-            for (call, reply) in calls.iter().zip(self.replies(&requests)) {
+            for (call, reply) in calls.iter().zip(self.replies(&requests)?) {
                 self.inputs += 1;
                 let got = self.both(call);
                 if let Some(reply) = reply
@@ -172,9 +194,10 @@ impl Comparison {
                 }
             }
         }
+        Ok(())
     }
 
-    fn cases(&mut self, cases: Vec<Case>) {
+    fn cases(&mut self, cases: Vec<Case>) -> Result<(), String> {
         for Case { name, call, answer, game, map } in cases {
             self.inputs += 1;
             let before = self.differences;
@@ -183,6 +206,26 @@ impl Comparison {
                 println!("case {name} differs");
             }
         }
+        Ok(())
+    }
+
+    /// Small games, solved, against what their formulas mean.
+    fn verdicts(&mut self, models: impl Iterator<Item = Model>) -> Tally {
+        let mut tally = Tally::default();
+        for model in models {
+            self.inputs += 1;
+            self.calls += 1;
+            let judged = verdicts::judge(&model).inspect(|&verdict| tally.count(verdict));
+            let wrong = match judged {
+                Err(what) => what,
+                Ok(Verdict::FalsePass) => "a false pass: Even wins, but the formula does not hold".to_string(),
+                Ok(_) => continue,
+            };
+            self.differs(&verdicts::run(&model), &wrong);
+        }
+        println!("  {tally}");
+        self.verdicts.add(tally);
+        tally
     }
 }
 
@@ -238,29 +281,27 @@ fn contrast(name: &str, one: &Outcome, other_name: &str, other: &Outcome) -> Str
     format!("{name}: {}\n{other_name}: {}", text(one), text(other))
 }
 
-/// Every formula of up to five nodes on small systems.
-fn exhaustive() -> Vec<Model> {
-    // Label 0 is action 7, label 1 is tau; trees: label 0, not label 0.
+/// Small systems: without a transition, with a loop, with two and with three states. Label 0 is action 7, label 1 is
+/// tau.
+const SYSTEMS: [&[u32]; 4] = [
+    &[1, 0, 0, 0],
+    &[1, 1, 0, 1, 0, 0],
+    &[2, 3, 0, 2, 1, 0, 1, 0, 1, 1, 0],
+    &[3, 5, 1, 1, 3, 1, 0, 0, 0, 1, 1, 2, 0, 2, 0, 1],
+];
+
+/// Every formula of so many nodes on each system; their modalities are on label 0 and on not label 0.
+fn exhaustive(nodes: usize, systems: &[&[u32]]) -> impl Iterator<Item = Model> {
     let actions = table(&[(2, 0), (5, 0), (2, 0)]);
-    let systems: [&[u32]; 4] = [
-        &[1, 0, 0, 0],
-        &[1, 1, 0, 1, 0, 0],
-        &[2, 3, 0, 2, 1, 0, 1, 0, 1, 1, 0],
-        &[3, 5, 1, 1, 3, 1, 0, 0, 0, 1, 1, 2, 0, 2, 0, 1],
-    ];
-    let mut models = Vec::new();
-    for size in 1..=5 {
-        for formula in all_formulas(size, &[0, 1]) {
-            let model = |system: &&[u32]| Model {
-                labels: vec![2, 1, 0, 7],
-                system: system.to_vec(),
-                actions: actions.clone(),
-                formula: formula.clone(),
-            };
-            models.extend(systems.iter().map(model));
-        }
-    }
-    models
+    all_formulas(nodes, &[0, 1]).into_iter().flat_map(move |formula| {
+        let model = |system: &&[u32]| Model {
+            labels: vec![2, 1, 0, 7],
+            system: system.to_vec(),
+            actions: actions.clone(),
+            formula: formula.clone(),
+        };
+        systems.iter().map(model).collect::<Vec<_>>()
+    })
 }
 
 /// Every table of up to three nodes, valid or not: as actions (kinds to 6) or as a formula (kinds to 9).
@@ -312,60 +353,99 @@ fn damaged_restrictions(random: &mut Random, count: usize) -> Vec<Call> {
     damaged(random, count, |random| Call::restrict(random_game(random, 6)))
 }
 
-type Stage = (&'static str, fn(&mut Comparison, usize));
+fn random_games(c: &mut Comparison, times: usize) -> Result<(), String> {
+    let kinds: [(&str, fn(&mut Random) -> Model, usize); 2] = [
+        ("fixpoints that alternate", verdicts::alternating_model, 40_000),
+        ("any formulas", verdicts::any_model, 20_000),
+    ];
+    for (what, make, count) in kinds {
+        println!("  {what}");
+        let mut random = Random::new(c.random.word());
+        c.verdicts((0..count * times).map(|_| make(&mut random)));
+    }
+    Ok(())
+}
+
+/// Whether false alarms are still seen: if this one is not, the ranking, the solver or the direct reading has changed.
+fn known_false_alarm(c: &mut Comparison, _: usize) -> Result<(), String> {
+    let model = verdicts::known_false_alarm();
+    if c.verdicts(std::iter::once(model.clone())).false_alarms != 1 {
+        c.differs(&verdicts::run(&model), "this formula was a false alarm under the Rust's ranking, and is none now");
+    }
+    Ok(())
+}
+
+fn large_shapes(c: &mut Comparison, _: usize) -> Result<(), String> {
+    for shape in &SHAPES {
+        println!("  {}: {}", shape.name, shape.what);
+        let clock = Instant::now();
+        // Most of the time is the oracle's; three shapes are slow there and come at a quarter of their size.
+        let slow = ["deep", "nested", "unions"].contains(&shape.name);
+        c.accepted(vec![(shape.make)(if slow { 1 } else { 4 })], 2)?;
+        println!("  {:.1} s", clock.elapsed().as_secs_f64());
+    }
+    // The oracle would take hours on most of the worst cases.
+    let oracle = c.oracle.take();
+    for shape in &WORST {
+        println!("  {}: {} (without the oracle)", shape.name, shape.what);
+        c.accepted(vec![(shape.make)(4)], 2)?;
+    }
+    c.oracle = oracle;
+    Ok(())
+}
+
+type Stage = (&'static str, fn(&mut Comparison, usize) -> Result<(), String>);
 
 /// The number says how many times the usual count of random inputs is wanted.
-const STAGES: [Stage; 12] = [
+const STAGES: [Stage; 16] = [
     ("worked cases and readings", |c, _| c.cases(cases::all())),
-    ("all formulas up to 5 nodes", |c, _| c.accepted(exhaustive(), 4)),
+    ("all formulas up to 5 nodes", |c, _| {
+        c.accepted((1..=5).flat_map(|nodes| exhaustive(nodes, &SYSTEMS)).collect(), 4)
+    }),
     ("all action tables up to 3 nodes", |c, _| c.any(all_tables(false))),
     ("all formula tables up to 3 nodes", |c, _| c.any(all_tables(true))),
     ("random models", |c, times| {
         let small = Sizes { formula: 30, states: 8, permuted: false };
         let models = random_models(&mut c.random, 40_000 * times, small);
-        c.accepted(models, 8);
+        c.accepted(models, 8)?;
         let models = random_models(&mut c.random, 10_000 * times, Sizes { permuted: true, ..small });
-        c.accepted(models, 4);
+        c.accepted(models, 4)
     }),
     ("larger random models", |c, times| {
         for (count, formula, states) in [(3_000, 120, 8), (100, 1_000, 8), (300, 40, 400)] {
             let models = random_models(&mut c.random, count * times, Sizes { formula, states, permuted: false });
-            c.accepted(models, 3);
+            c.accepted(models, 3)?;
         }
+        Ok(())
     }),
     ("restrictions", |c, times| {
         for (count, most) in [(20_000, 12), (200, 2_000)] {
             let games = (0..count * times).map(|_| random_game(&mut c.random, most)).collect();
-            c.games(games);
+            c.games(games)?;
         }
+        Ok(())
     }),
     ("damaged models", |c, times| {
         let calls = damaged_builds(&mut c.random, 50_000 * times);
-        c.any(calls);
+        c.any(calls)
     }),
     ("damaged games", |c, times| {
         let calls = damaged_restrictions(&mut c.random, 20_000 * times);
-        c.any(calls);
+        c.any(calls)
     }),
     ("refusals at every kind of place", |c, _| c.cases(places::all())),
     ("sizes at their limits", |c, _| c.cases(cases::at_limits())),
-    ("large shapes", |c, _| {
-        for shape in &SHAPES {
-            println!("  {}: {}", shape.name, shape.what);
-            let clock = Instant::now();
-            // Most of the time is the oracle's; three shapes are slow there and come at a quarter of their size.
-            let slow = ["deep", "nested", "unions"].contains(&shape.name);
-            c.accepted(vec![(shape.make)(if slow { 1 } else { 4 })], 2);
-            println!("  {:.1} s", clock.elapsed().as_secs_f64());
-        }
-        // The oracle would take hours on most of the worst cases.
-        let oracle = c.oracle.take();
-        for shape in &WORST {
-            println!("  {}: {} (without the oracle)", shape.name, shape.what);
-            c.accepted(vec![(shape.make)(4)], 2);
-        }
-        c.oracle = oracle;
+    ("verdicts of all formulas up to 5 nodes", |c, _| {
+        c.verdicts((1..=5).flat_map(|nodes| exhaustive(nodes, &SYSTEMS)));
+        Ok(())
     }),
+    ("verdicts of all formulas of 6 nodes on the loop", |c, _| {
+        c.verdicts(exhaustive(6, &SYSTEMS[1..2]));
+        Ok(())
+    }),
+    ("verdict of the known false alarm", known_false_alarm),
+    ("verdicts of random games", random_games),
+    ("large shapes", large_shapes),
 ];
 
 fn report(comparison: &Comparison) {
@@ -375,38 +455,59 @@ fn report(comparison: &Comparison) {
             -1 => format!("cut {count}"),
             _ => format!("{number}: {count}"),
         };
-        let of_call = comparison.answers.iter().filter(|entry| entry.0.0 == build);
-        println!("{name}: {}", of_call.map(text).collect::<Vec<_>>().join(", "));
+        let of_call: Vec<String> = comparison.answers.iter().filter(|entry| entry.0.0 == build).map(text).collect();
+        if !of_call.is_empty() {
+            println!("{name}: {}", of_call.join(", "));
+        }
     }
+    println!("verdicts: {}", comparison.verdicts);
     println!("{} inputs, {} calls, {} differences", comparison.inputs, comparison.calls, comparison.differences);
 }
 
-fn main() -> ExitCode {
-    let arguments: Vec<String> = std::env::args().skip(1).collect();
-    let value = |name: &str| {
-        let at = arguments.iter().position(|argument| argument == name)?;
-        arguments.get(at + 1).cloned()
-    };
-    let number = |name: &str, usual: u64| value(name).map_or(usual, |text| text.parse().expect("a number"));
-    let oracle = value("--oracle").and_then(|program| Oracle::at(program.into()));
-    if oracle.is_none() {
-        println!("no oracle (it is built from ../shared/oracle where that exists): library and plain only");
+/// Whether there was no difference; an error if the stages could not be run.
+fn run(arguments: Vec<String>) -> Result<bool, String> {
+    let options = Options::read(arguments, &["--oracle", "--seed", "--times", "--only"])?;
+    if let Some(name) = options.names.first() {
+        return Err(format!("what is {name}?"));
     }
-    let random = Random::new(number("--seed", 1));
-    let (inputs, calls, differences) = (0, 0, 0);
-    let mut comparison =
-        Comparison { oracle, random, inputs, calls, answers: BTreeMap::new(), differences, smallest: None };
-    for (name, stage) in STAGES {
+    let (seed, times) = (options.number("--seed", 1)?, options.count("--times", 1)? as usize);
+    let only = options.value("--only").unwrap_or("");
+    let stages: Vec<Stage> = STAGES.into_iter().filter(|(name, _)| name.contains(only)).collect();
+    if stages.is_empty() {
+        return Err(format!("no stage's name contains {only}"));
+    }
+    let oracle = options.value("--oracle").map(Oracle::at).transpose()?;
+    if oracle.is_none() {
+        println!("no oracle was named: library and plain only");
+    }
+    let mut comparison = Comparison::new(oracle, seed);
+    for (name, stage) in stages {
         let (clock, before) = (Instant::now(), comparison.inputs);
         println!("{name}");
-        stage(&mut comparison, number("--times", 1) as usize);
+        stage(&mut comparison, times)?;
         println!("  {} inputs, {:.1} s", comparison.inputs - before, clock.elapsed().as_secs_f64());
         // The stages go from small to large, so the smallest difference is in the first stage that has one.
         if let Some((_, text)) = &comparison.smallest {
             println!("{} differences; the smallest input:\n{text}", comparison.differences);
-            return ExitCode::FAILURE;
+            return Ok(false);
         }
     }
     report(&comparison);
-    ExitCode::SUCCESS
+    Ok(true)
+}
+
+fn main() -> ExitCode {
+    let arguments: Vec<String> = std::env::args().skip(1).collect();
+    if options::wants_help(&arguments) {
+        println!("{USAGE}");
+        return ExitCode::SUCCESS;
+    }
+    match run(arguments) {
+        Ok(true) => ExitCode::SUCCESS,
+        Ok(false) => ExitCode::FAILURE,
+        Err(what) => {
+            eprintln!("compare: {what}; compare --help says how it is used");
+            ExitCode::from(2)
+        }
+    }
 }

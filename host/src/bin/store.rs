@@ -1,15 +1,15 @@
-//! Writes stored runs into the folder of the crates: `stdin` and `stdout` of the programs `replay` and `texts`, `stdout`
-//! of `restricts`. These are calls as records and the lines that they must print (the formats are in
+//! Writes stored runs into the folder of the crates: `stdin` and `stdout` of the programs `replay` and `texts`,
+//! `stdout` of `restricts`. These are calls as records and the lines that they must print (the formats are in
 //! check/record.rs), and inputs of the thin program and their texts (check/texts.rs). The answers of accepted words are
 //! the oracle's, cut and given their room by check/finished.rs; those of refused words follow the rules' refusals as
-//! the plain implementation states them. The library is not asked. `store --check CRATES` performs what is stored and
-//! compares, `store --table CRATES` prints which refusals are stored at which kinds of place.
+//! the plain implementation states them. The library is not asked.
 use hingrezh::check::call::{Call, LIBRARY, Outcome, PLAIN, perform, show, unlawful};
 use hingrezh::check::cases;
 use hingrezh::check::damage::damage;
 use hingrezh::check::finished::expected;
 use hingrezh::check::generate::{Random, Sizes, all_formulas, random_game, random_model, table};
 use hingrezh::check::kinds::{self, KINDS, NOT_IN_RECORDS};
+use hingrezh::check::options;
 use hingrezh::check::oracle::{Oracle, Reply, Request};
 use hingrezh::check::places;
 use hingrezh::check::record::{self, RECORD, line, record};
@@ -17,6 +17,18 @@ use hingrezh::check::texts;
 use hingrezh::{Model, words_of};
 use std::collections::{BTreeMap, HashSet};
 use std::process::ExitCode;
+
+const USAGE: &str = "\
+usage: store ORACLE CRATES [COUNT]
+       store --check CRATES
+       store --table CRATES
+
+CRATES is the folder of the crates. The first writes the stored runs of the programs replay, restricts and texts anew:
+their answers come from ORACLE, the program that runs the Rust original. COUNT says how many random models there are
+(200). --check performs what is stored with the library and with the plain Rust implementation, and compares. --table
+prints which refusals are stored at which kinds of place, for docs/STORED-RUNS.md.
+
+exit status: 0, or 1 if something is missing, differs or can't be written";
 
 /// What lent slices hold before a call: a short word that is not 0, so that lines stay short and clearing shows.
 const FILL: u32 = 9;
@@ -134,7 +146,7 @@ fn write(path: String, bytes: &[u8]) -> Result<(), String> {
 /// What calls must leave behind, from the oracle and the plain implementation, which must agree.
 fn outcomes(calls: &[&Call], fill: u32, oracle: &Oracle) -> Result<Vec<Outcome>, String> {
     let requests: Vec<Request> = calls.iter().map(|call| request(call)).collect();
-    let replies = oracle.ask(&requests).map_err(|error| error.to_string())?;
+    let replies = oracle.ask(&requests)?;
     let checked = |(call, reply): (&&Call, Reply)| {
         let outcome = outcome(call, &reply, fill).map_err(|what| format!("{what}\n{}", call.describe()))?;
         if unlawful(&outcome, fill).is_some() || outcome != perform(call, PLAIN, fill) {
@@ -215,7 +227,10 @@ fn stored_calls(folder: &str) -> Result<Vec<(Call, u32)>, String> {
     if rest.is_empty() { records.iter().enumerate().map(call).collect() } else { Err("half a record".to_string()) }
 }
 
-fn stored_texts(folder: &str) -> Result<Vec<(Vec<u8>, Vec<u8>)>, String> {
+/// An input of the thin program and its text.
+type StoredText = (Vec<u8>, Vec<u8>);
+
+fn stored_texts(folder: &str) -> Result<Vec<StoredText>, String> {
     texts::records(&read(format!("{folder}/stdin"))?).ok_or("half a text".to_string())
 }
 
@@ -263,8 +278,8 @@ fn stored_restrictions(folder: &str) -> Result<Vec<Call>, String> {
     Ok(calls)
 }
 
-/// What is stored of a kind of place: the smallest input, and how many in `replay`, `restricts` and `texts`. Inputs that
-/// differ from the base elsewhere, too, come after those that don't.
+/// What is stored of a kind of place: the smallest input, and how many in `replay`, `restricts` and `texts`. Inputs
+/// that differ from the base elsewhere, too, come after those that don't.
 #[derive(Default)]
 struct Row {
     smallest: Option<(bool, usize, Vec<u32>)>,
@@ -304,9 +319,7 @@ fn print_table(crates: &str) -> Result<(), String> {
 }
 
 fn make(program: &str, crates: &str, count: Option<&String>) -> Result<(), String> {
-    let oracle = Oracle::at(program.into()).ok_or(format!(
-        "no oracle at {program}: the stored answers come from it (it is built from ../shared/oracle)"
-    ))?;
+    let oracle = Oracle::at(program).map_err(|what| format!("{what}: the stored answers come from it"))?;
     let count = count.map_or(Ok(200), |text| text.parse().map_err(|_| format!("{text} is no number")))?;
     store_calls(&format!("{crates}/replay"), &oracle, count)?;
     store_restrictions(&format!("{crates}/restricts"), &oracle)?;
@@ -315,11 +328,15 @@ fn make(program: &str, crates: &str, count: Option<&String>) -> Result<(), Strin
 
 fn main() -> ExitCode {
     let arguments: Vec<String> = std::env::args().skip(1).collect();
+    if options::wants_help(&arguments) {
+        println!("{USAGE}");
+        return ExitCode::SUCCESS;
+    }
     let done = match &arguments[..] {
         [option, crates] if option == "--check" => check(crates),
         [option, crates] if option == "--table" => print_table(crates),
         [program, crates, rest @ ..] => make(program, crates, rest.first()),
-        _ => Err("usage: store ORACLE CRATES [COUNT], store --check CRATES or store --table CRATES".to_string()),
+        _ => Err(USAGE.to_string()),
     };
     match done {
         Ok(()) => ExitCode::SUCCESS,

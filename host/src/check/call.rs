@@ -1,5 +1,12 @@
 //! One call with all that decides its outcome, performed on slices with guard words around them.
-use crate::{ComputeReachable, Model, Translate, library, plain};
+use crate::{Model, library, plain};
+
+/// A call that builds a game: labels, system, actions, formula; room for vertices and edges, step limit; game,
+/// work, answer.
+pub type Translate = fn(&[u32], &[u32], &[u32], &[u32], u32, u32, u32, &mut [u32], &mut [u32], &mut [u32; 4]);
+
+/// A call that restricts a game: game; output, map, work, answer.
+pub type ComputeReachable = fn(&[u32], &mut [u32], &mut [u32], &mut [u32], &mut [u32; 4]);
 
 /// A library to call.
 #[derive(Clone, Copy)]

@@ -56,9 +56,9 @@ fn known_part(game: &[u32], known: usize, settled: &[bool]) -> Vec<u32> {
     words.extend((0..known).map(|vertex| shown(vertex, 3, 2)));
     words.extend((0..known).map(|vertex| shown(vertex, 3 + n, 0)));
     let mut edges: Vec<u32> = Vec::new();
-    for vertex in 0..known {
+    for (vertex, settled) in settled[..known].iter().enumerate() {
         words.push(edges.len() as u32);
-        if settled[vertex] {
+        if *settled {
             edges.extend(targets(game, vertex));
         }
     }

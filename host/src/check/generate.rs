@@ -9,7 +9,7 @@ impl Random {
         Random(seed.wrapping_mul(0x9E37_79B9_7F4A_7C15) ^ 0x2545_F491_4F6C_DD1D)
     }
 
-    pub fn next(&mut self) -> u64 {
+    pub fn word(&mut self) -> u64 {
         self.0 = self.0.wrapping_add(0x9E37_79B9_7F4A_7C15);
         let mixed = (self.0 ^ self.0 >> 30).wrapping_mul(0xBF58_476D_1CE4_E5B9);
         let mixed = (mixed ^ mixed >> 27).wrapping_mul(0x94D0_49BB_1331_11EB);
@@ -17,7 +17,7 @@ impl Random {
     }
 
     pub fn below(&mut self, n: usize) -> usize {
-        (self.next() % n as u64) as usize
+        (self.word() % n as u64) as usize
     }
 
     /// From `low` to `high`, both included.
@@ -94,6 +94,24 @@ pub fn random_model(random: &mut Random, sizes: Sizes) -> Model {
     Model { labels, system, actions, formula }
 }
 
+/// A formula whose value hangs on the order of its fixpoints: two to four of them, their kinds in turn, around
+/// modalities and references to any of them, on a system with two labels and transitions enough to go round.
+pub fn alternating_model(random: &mut Random) -> Model {
+    let s = random.within(2, 6);
+    let t = random.within(s, 3 * s);
+    let system = system_of(random, 2, s, t);
+    let (first, count, size) = (random.below(2), random.within(2, 4), random.within(5, 12));
+    // Action trees for label 0, for label 1 and for both.
+    let roots = [0, 1, 2];
+    let weights = (1, 3, 4, 97, 0);
+    let mut formulas = Formulas { random, roots: &roots, weights, made: Vec::new(), names: 0 };
+    let tree = formulas.alternating(&[6, 7, 6, 7, 6][first..][..count], &[], size);
+    let mut nodes = Vec::new();
+    flatten(&tree, &mut nodes, &mut Vec::new());
+    let actions = table(&[(2, 0), (2, 1), (0, 0)]);
+    Model { labels: vec![2, 2, 0, 1, 7, 8], system, actions, formula: table(&nodes) }
+}
+
 fn random_labels(random: &mut Random) -> Vec<u32> {
     let l = random.pick(&[0, 1, 1, 2, 2, 3, 4, 6, 9]);
     let a = if l == 0 { 0 } else { random.within(0, 3 * l) };
@@ -125,7 +143,10 @@ fn random_system(random: &mut Random, labels: u32, most: usize) -> Vec<u32> {
     let s = if many { random.within(most / 4, most) } else { random.pick(&[1, 1, 2, 3, some]) };
     let other = random.within(0, 4 * s);
     let t = if many { 4 * s } else { random.pick(&[0, s, 2 * s, other]) };
-    let t = if labels == 0 { 0 } else { t };
+    system_of(random, labels, s, if labels == 0 { 0 } else { t })
+}
+
+fn system_of(random: &mut Random, labels: u32, s: usize, t: usize) -> Vec<u32> {
     let mut degrees = vec![0; s];
     (0..t).for_each(|_| degrees[random.below(s)] += 1);
     // A few targets are met again and again, so that a modality merges transitions.
@@ -269,6 +290,14 @@ impl Formulas<'_> {
             let inside = [enclosing, &[name]].concat();
             Tree { kind: self.random.pick(&[6, 7]), operand: name, children: vec![self.tree(&inside, size - 1)] }
         }
+    }
+
+    /// Fixpoints of these kinds, one in another, around a tree.
+    fn alternating(&mut self, kinds: &[u32], enclosing: &[u32], size: usize) -> Tree {
+        let Some((&kind, rest)) = kinds.split_first() else { return self.inner(enclosing, size) };
+        let name = self.name();
+        let inside = [enclosing, &[name]].concat();
+        Tree { kind, operand: name, children: vec![self.alternating(rest, &inside, size)] }
     }
 
     fn name(&mut self) -> u32 {

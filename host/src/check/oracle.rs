@@ -1,6 +1,6 @@
 //! Talks to the oracle, the Rust original behind the same words: many requests to a process.
 use crate::{Model, bytes_of, words_of};
-use std::io::{Error, Read, Result, Write};
+use std::io::{self, Error, Read, Write};
 use std::path::PathBuf;
 use std::process::{Command, Stdio};
 
@@ -16,18 +16,28 @@ pub enum Reply {
     Panicked,
 }
 
+/// A program that is named must be there: without it less would be compared than was asked for. A name alone means a
+/// file here, not a command.
+pub fn program_at(path: &str) -> Result<PathBuf, String> {
+    let program = std::fs::canonicalize(path).ok().filter(|program| program.is_file());
+    program.ok_or_else(|| format!("there is no oracle at {path}"))
+}
+
 pub struct Oracle {
     program: PathBuf,
 }
 
 impl Oracle {
-    /// `None` if there is no such program.
-    pub fn at(program: PathBuf) -> Option<Oracle> {
-        program.is_file().then_some(Oracle { program })
+    pub fn at(program: &str) -> Result<Oracle, String> {
+        Ok(Oracle { program: program_at(program)? })
     }
 
     /// A reply for each request, in order.
-    pub fn ask(&self, requests: &[Request]) -> Result<Vec<Reply>> {
+    pub fn ask(&self, requests: &[Request]) -> Result<Vec<Reply>, String> {
+        self.exchange(requests).map_err(|error| format!("the oracle {} failed: {error}", self.program.display()))
+    }
+
+    fn exchange(&self, requests: &[Request]) -> io::Result<Vec<Reply>> {
         let mut child = Command::new(&self.program)
             .stdin(Stdio::piped())
             .stdout(Stdio::piped())

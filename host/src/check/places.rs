@@ -1,5 +1,5 @@
-//! Inputs to be refused, with the answers written down by hand: one for each kind of place (`kinds`) or more, and inputs
-//! with two faults at once.
+//! Inputs to be refused, with the answers written down by hand: one for each kind of place (`kinds`) or more, and
+//! inputs with two faults at once.
 use super::call::Call;
 use super::cases::{Case, words};
 use crate::Model;

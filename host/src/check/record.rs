@@ -17,8 +17,8 @@
 //! 4 + 3 * 16 + 32 + 1 = 85 (game or output), 65 (map) or 8 * 16 + 2 * 32 + 1 = 193 words (work): the lengths that
 //! V and E ask for, and one more.
 //!
-//! A line has the answer as the thin program prints it, `|`, the words of the game slice (or the output), `|`, the words
-//! of the map (none for a build), `|`, and how many words of the work slice are not 0; parted by one space.
+//! A line has the answer as the thin program prints it, `|`, the words of the game slice (or the output), `|`, the
+//! words of the map (none for a build), `|`, and how many words of the work slice are not 0; parted by one space.
 use super::call::{Call, Outcome};
 use crate::{Answer, Model, bytes_of};
 

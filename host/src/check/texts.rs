@@ -126,8 +126,8 @@ fn boxes(count: usize) -> Vec<u32> {
     table(&nodes)
 }
 
-/// Always again, on states of these out-degrees. It needs three vertices for each state, two edges for each state and one
-/// for each transition, and one more for each state without a transition.
+/// Always again, on states of these out-degrees. It needs three vertices for each state, two edges for each state and
+/// one for each transition, and one more for each state without a transition.
 fn always(degrees: &[u32]) -> Model {
     let (s, t) = (degrees.len() as u32, degrees.iter().sum());
     let mut system = [&[s, t, 0], degrees].concat();

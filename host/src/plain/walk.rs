@@ -48,7 +48,7 @@ impl<'a> Walk<'a> {
     /// The vertex of a pair, a new one if it has none yet.
     fn number(&mut self, pair: u32) -> Result<u32, Full> {
         let product = pair.wrapping_mul(2_654_435_761) as u64;
-        let mut at = (product * self.slots.len() as u64 >> 32) as usize;
+        let mut at = ((product * self.slots.len() as u64) >> 32) as usize;
         while self.slots[at][1] != 0 {
             if self.slots[at][0] == pair {
                 return Ok(self.slots[at][1] - 1);

@@ -1,72 +1,52 @@
-use native.Mathlib.Omega.{arith}
 use mathlib.Core.Path.{sym, _∙_}
-use Rattle.tables.proofs.Faults.{first-fault, first-next, first-one}
-use Rattle.action_words.proofs.Actions.{no-words, other-length, right-length, many-nodes, few-nodes, kinds-33}
+use Rattle.table_words.proofs.Checks.{table-passed}
+use Rattle.tables.proofs.Faults.{first-one}
+use Rattle.action_words.proofs.Actions.{table-fault, table-next}
 use borrow.Author.Needs.{needs}
 use Rattle.action_words.proofs.check_actions.Statement.{statement}
 use Rattle.action_words.proofs.check_actions.Tie as tie
+use Rattle.action_words.proofs.check_actions.Reads as reads
+use Rattle.action_words.proofs.check_actions.Lts as lts
+use Rattle.action_words.proofs.check_trees.Reads as check-trees-reads
+use Rattle.table_words.proofs.check_table.Reads as check-table-reads
 
--- src/lib.rt:78:9
-returns : tie.Need-returns
-returns c = sym (first-fault _ (no-words _ (omega arith)))
+-- src/lib.rt:84:9
+check-table-requires : tie.Need-check-table-requires
+check-table-requires c κs = search needs
 
--- src/lib.rt:80:9
-at-requires : tie.Need-at-requires
-at-requires c κs = search needs
+-- src/lib.rt:86:22
+enum-known-checked : tie.Need-enum-known-checked
+enum-known-checked c = search needs
 
--- src/lib.rt:81:29
-mul-if2 : tie.Need-mul-if2
-mul-if2 c = search needs
-
--- src/lib.rt:81:25
-add-if2 : tie.Need-add-if2
-add-if2 c = search needs
-
--- src/lib.rt:82:9
-returns-2 : tie.Need-returns-2
-returns-2 c = sym (first-fault _ (other-length _ (omega arith)))
-
--- src/lib.rt:85:9
-returns-3 : tie.Need-returns-3
-returns-3 c = sym (first-next _ (right-length _ (omega arith)) ∙ first-fault _ (many-nodes _ (omega arith)))
-
--- src/lib.rt:87:9
-check-kinds-requires : tie.Need-check-kinds-requires
-check-kinds-requires c κs = search needs
-
--- src/lib.rt:89:22
-enum-known-kinds : tie.Need-enum-known-kinds
-enum-known-kinds c = search needs
-
--- src/lib.rt:90:26
+-- src/lib.rt:87:26
 enum-told : tie.Need-enum-told
 enum-told c = search needs
 
--- src/lib.rt:90:26
+-- src/lib.rt:87:26
 check-trees-requires : tie.Need-check-trees-requires
-check-trees-requires c κs = search needs
+check-trees-requires c κs =
+    let start = c .before .before .before .before .before in
+    (start .pre, table-passed 31 0 5 (start .args .actions .now) (sym (c .before .before .check-table .ensures) ∙ c .enum-told .given .1))
 
--- src/lib.rt:73:1
-returns-4 : tie.Need-returns-4
-returns-4 c = sym (first-next _ (right-length _ (omega arith)) ∙ first-next _ (few-nodes _ (omega arith)) ∙ first-fault _ (kinds-33 _ ∙ sym (c .before .before .before .check-kinds .ensures) ∙ c .before .kinds .given .1))
+-- src/lib.rt:79:1
+returns : tie.Need-returns
+returns c =
+    let start = c .before .before .before .before .before .before in
+    table-fault (start .args .actions .now) _ (c .before .before .before .check-table .ensures) (c .before .checked .given .1)
 
--- src/lib.rt:73:1
-returns-5 : tie.Need-returns-5
-returns-5 c = c .check-trees .ensures ∙ sym (first-next _ (right-length _ (omega arith)) ∙ first-next _ (few-nodes _ (omega arith)) ∙ first-next _ (kinds-33 _ ∙ sym (c .before .before .before .check-kinds .ensures) ∙ c .before .enum-told .given .1) ∙ first-one _)
+-- src/lib.rt:79:1
+returns-2 : tie.Need-returns-2
+returns-2 c =
+    let start = c .before .before .before .before .before .before in
+    c .check-trees .ensures ∙ sym (first-one _) ∙ table-next (start .args .actions .now) _ (c .before .before .before .check-table .ensures) (c .before .enum-told .given .1)
 
 pub check-actions-spec : {M : Type 1} → statement M
 check-actions-spec =
     tie.close
     (tie.spec
-    returns
-    at-requires
-    mul-if2
-    add-if2
-    returns-2
-    returns-3
-    check-kinds-requires
-    enum-known-kinds
+    check-table-requires
+    enum-known-checked
     enum-told
     check-trees-requires
-    returns-4
-    returns-5)
+    returns
+    returns-2)

@@ -29,7 +29,9 @@ loop-holds c = refusal34-scan _ _
 
 -- src/lib.rt:49:12
 bad-operand-requires : tie.Need-bad-operand-requires Inv-loop μ-loop
-bad-operand-requires c κs = ((c .before .before .before .before .before .pre .0 .0, c .before .before .before .before .before .pre .0 .1, omega arith), c .before .before .before .before .before .pre .1 .0)
+bad-operand-requires c κs =
+    let start = c .before .before .before .before .before in
+    ((start .pre .0 .0, start .pre .0 .1, omega arith), start .pre .1 .0)
 
 -- src/lib.rt:50:37
 cast-t9 : tie.Need-cast-t9 Inv-loop μ-loop
@@ -40,8 +42,8 @@ returns : tie.Need-returns Inv-loop μ-loop
 returns c = sym (c .before .before .before .loop .inv ∙ then-fault _ (from-stop _ _ _ _ (omega arith) (cc)))
 
 -- src/lib.rt:52:9
-add-v : tie.Need-add-v Inv-loop μ-loop
-add-v c = search needs
+add-node : tie.Need-add-node Inv-loop μ-loop
+add-node c = search needs
 
 -- src/lib.rt:48:5
 loop-less : tie.Need-loop-less Inv-loop μ-loop
@@ -57,8 +59,10 @@ element-copy-out-if2 c = search needs
 
 -- src/lib.rt:55:9
 returns-2 : tie.Need-returns-2 Inv-loop μ-loop
-returns-2 c = let s = c .before .before .before .before .before .before .before in
-    sym (c .before .before .before .loop .inv ∙ then-passed _ (from-done _ _ _ _ (omega arith)) ∙ row-whole (now (s .args .acts)) (now (s .args .firsts)) (c .before .before .before .before .at .result) (c .before .before .before .before .at .ensures .0) (s .pre .1 .1) (c .if2 .taken))
+returns-2 c =
+    let at-at = c .before .before .before .before in
+    let start = at-at .before .before .before in
+    sym (c .before .before .before .loop .inv ∙ then-passed _ (from-done _ _ _ _ (omega arith)) ∙ row-whole (now (start .args .actions)) (now (start .args .firsts)) (at-at .at .result) (at-at .at .ensures .0) (start .pre .1 .1) (c .if2 .taken))
 
 -- src/lib.rt:57:22
 cast-t14 : tie.Need-cast-t14 Inv-loop μ-loop
@@ -66,8 +70,10 @@ cast-t14 c = search needs
 
 -- src/lib.rt:36:1
 returns-3 : tie.Need-returns-3 Inv-loop μ-loop
-returns-3 c = let s = c .before .before .before .before .before .before .before in
-    sym (c .before .before .before .loop .inv ∙ then-passed _ (from-done _ _ _ _ (omega arith)) ∙ row-broken (now (s .args .acts)) (now (s .args .firsts)) (c .before .before .before .before .at .result) (c .before .before .before .before .at .ensures .0) (s .pre .1 .1) (c .if2 .left))
+returns-3 c =
+    let at-at = c .before .before .before .before in
+    let start = at-at .before .before .before in
+    sym (c .before .before .before .loop .inv ∙ then-passed _ (from-done _ _ _ _ (omega arith)) ∙ row-broken (now (start .args .actions)) (now (start .args .firsts)) (at-at .at .result) (at-at .at .ensures .0) (start .pre .1 .1) (c .if2 .left))
 
 pub check-operands-spec : {M : Type 1} → statement M
 check-operands-spec =
@@ -80,7 +86,7 @@ check-operands-spec =
     bad-operand-requires
     cast-t9
     returns
-    add-v
+    add-node
     loop-less
     loop-again
     element-copy-out-if2

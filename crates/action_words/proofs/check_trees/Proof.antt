@@ -13,17 +13,19 @@ tree-ends-requires c κs = search needs
 
 -- src/lib.rt:68:5
 first-nodes-requires : tie.Need-first-nodes-requires
-first-nodes-requires c κs = let s = c .before .before .before .before .before .before in (
-  (s .pre .1, length-replicate {A = Bool} 1025 false),
-  ((actionChildren (now (s .args .acts)), c .before .before .tree-ends .ensures .0), λ v. blank 1025 v),
-)
+first-nodes-requires c κs =
+    let start = c .before .before .before .before .before .before in (
+      (start .pre .1, length-replicate {A = Bool} 1025 false),
+      ((actionChildren (now (start .args .actions)), c .before .before .tree-ends .ensures .0), λ v. blank 1025 v),
+    )
 
 -- src/lib.rt:69:5
 check-operands-requires : tie.Need-check-operands-requires
 check-operands-requires c κs =
-    let s = c .before .before .before .before .before .before .before .before .before in
-    let known = c .before .before .before .before .before .tree-ends .ensures .0 in
-    (s .pre, (known, c .before .before .first-nodes .ensures (actionChildren (now (s .args .acts))) known))
+    let at-tree-ends = c .before .before .before .before .before in
+    let start = at-tree-ends .before .before .before .before in
+    let known = at-tree-ends .tree-ends .ensures .0 in
+    (start .pre, (known, c .before .before .first-nodes .ensures (actionChildren (now (start .args .actions))) known))
 
 -- src/lib.rt:61:1
 returns : tie.Need-returns

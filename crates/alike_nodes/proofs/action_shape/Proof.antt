@@ -1,85 +1,194 @@
 -- `action_shape` meets its contract: each return is a law of the kinds. Assumes nothing.
+use mathlib.Core.Path.{sym, subst}
 use native.Mathlib.Omega.{arith}
+use Rattle.alike_nodes.specs.Nodes.{ActionNodeShown}
 use Rattle.alike_nodes.proofs.ActionShapes.{shape-leaf, label-below, shape-multi, next-below, right-below, shape-one, shape-two}
 use borrow.Author.Needs.{needs}
 use Rattle.alike_nodes.proofs.action_shape.Statement.{statement}
 use Rattle.alike_nodes.proofs.action_shape.Tie as tie
 use Rattle.alike_nodes.proofs.action_shape.Reads as reads
 use Rattle.alike_nodes.proofs.action_shape.Lts as lts
+use Rattle.alike_nodes.proofs.shaped.Reads as shaped-reads
 use Rattle.words.proofs.kind_at.Reads as kind-at-reads
 use Rattle.words.proofs.operand_at.Reads as operand-at-reads
 
--- src/lib.rt:51:9
 kind-at-requires : tie.Need-kind-at-requires
 kind-at-requires c κs = search needs
 
 -- the kind of a node is at most 5
-cast-k : tie.Need-cast-k
-cast-k c = let s = c .before .before .before .before .before in omega (arith, c .kind-at .ensures, s .pre .0 .nodes (s .args .node) (s .pre .1 .1 .0) .known)
+cast-kind : tie.Need-cast-kind
+cast-kind c =
+    let start = c .before .before .before .before .before in
+    omega (arith, c .kind-at .ensures, start .pre .0 .0 .nodes (start .args .node) (start .pre .1 .0) .known)
 
--- src/lib.rt:53:9
+shaped-requires : tie.Need-shaped-requires
+shaped-requires c κs = search needs
+
 returns : tie.Need-returns
-returns c = let s = c .before .before .before .before .before .before in shape-leaf (s .args .labels .now) (s .args .actions .now) (s .pre .0) (s .args .node) (s .pre .1 .1 .0) (c .before .kind-at .result) (c .before .kind-at .ensures) (c .if1 .taken)
+returns c =
+    let at-kind-at = c .before .before in
+    let start = at-kind-at .before .before .before .before .before in
+    subst (ActionNodeShown (start .args .labels .now) (start .args .actions .now) (start .args .node))
+    (sym (c .shaped .ensures)) (shape-leaf (start .args .labels .now) (start .args .actions .now)
+    (start .pre .0 .0) (start .args .node) (start .pre .1 .0) (at-kind-at .kind-at .result)
+    (at-kind-at .kind-at .ensures) (c .before .if1 .taken))
 
--- src/lib.rt:55:9
 operand-at-requires : tie.Need-operand-at-requires
 operand-at-requires c κs = search needs
 
--- src/lib.rt:57:39
-mul-t11 : tie.Need-mul-t11
-mul-t11 c = let s = c .before .before .before .before .before .before .before .before in omega (arith, label-below (s .args .labels .now) (s .args .actions .now) (s .pre .0) (s .args .node) (s .pre .1 .1 .0) (c .before .before .before .kind-at .result) (c .before .operand-at .result) (c .before .before .before .kind-at .ensures) (c .if2 .taken) (c .before .operand-at .ensures), s .pre .1 .0 .room)
+mul-shaped : tie.Need-mul-shaped
+mul-shaped c =
+    let at-operand-at = c .before in
+    let at-kind-at = at-operand-at .before .before in
+    let start = at-kind-at .before .before .before .before .before in
+    omega (
+      arith,
+      label-below (start .args .labels .now) (start .args .actions .now) (start .pre .0 .0)
+          (start .args .node) (start .pre .1 .0) (at-kind-at .kind-at .result) (at-operand-at .operand-at .result)
+          (at-kind-at .kind-at .ensures) (c .if2 .taken) (at-operand-at .operand-at .ensures),
+      start .pre .0 .1 .room,
+    )
 
--- src/lib.rt:57:39
-shared-slice-read-t13 : tie.Need-shared-slice-read-t13
-shared-slice-read-t13 c = let s = c .before .before .before .before .before .before .before .before .before in omega (arith, label-below (s .args .labels .now) (s .args .actions .now) (s .pre .0) (s .args .node) (s .pre .1 .1 .0) (c .before .before .before .before .kind-at .result) (c .before .before .operand-at .result) (c .before .before .before .before .kind-at .ensures) (c .before .if2 .taken) (c .before .before .operand-at .ensures), s .pre .1 .0 .room)
+shared-slice-read-shaped : tie.Need-shared-slice-read-shaped
+shared-slice-read-shaped c =
+    let at-operand-at = c .before .before in
+    let at-kind-at = at-operand-at .before .before in
+    let start = at-kind-at .before .before .before .before .before in
+    omega (
+      arith,
+      label-below (start .args .labels .now) (start .args .actions .now) (start .pre .0 .0)
+          (start .args .node) (start .pre .1 .0) (at-kind-at .kind-at .result) (at-operand-at .operand-at .result)
+          (at-kind-at .kind-at .ensures) (c .before .if2 .taken) (at-operand-at .operand-at .ensures),
+      start .pre .0 .1 .room,
+    )
 
--- src/lib.rt:57:9
+shaped-requires-2 : tie.Need-shaped-requires-2
+shaped-requires-2 c κs = search needs
+
 returns-2 : tie.Need-returns-2
-returns-2 c = let s = c .before .before .before .before .before .before .before .before .before in shape-multi (s .args .labels .now) (s .args .actions .now) (s .pre .0) (s .args .node) (s .pre .1 .1 .0) (s .args .classes .now) (s .pre .1 .0) (c .before .before .before .before .kind-at .result) (c .before .before .operand-at .result) (c .before .before .before .before .kind-at .ensures) (c .before .if2 .taken) (c .before .before .operand-at .ensures)
+returns-2 c =
+    let at-operand-at = c .before .before .before in
+    let at-kind-at = at-operand-at .before .before in
+    let start = at-kind-at .before .before .before .before .before in
+    subst (ActionNodeShown (start .args .labels .now) (start .args .actions .now) (start .args .node))
+    (sym (c .shaped2 .ensures)) (shape-multi (start .args .labels .now) (start .args .actions .now)
+    (start .pre .0 .0) (start .args .node) (start .pre .1 .0) (start .args .classes .now) (start .pre .0 .1)
+    (at-kind-at .kind-at .result) (at-operand-at .operand-at .result) (at-kind-at .kind-at .ensures)
+    (c .before .before .if2 .taken) (at-operand-at .operand-at .ensures))
 
--- src/lib.rt:59:24
 add-left : tie.Need-add-left
 add-left c = search needs
 
--- src/lib.rt:59:16
 mul-left : tie.Need-mul-left
 mul-left c = search needs
 
--- src/lib.rt:59:16
 shared-slice-read-left : tie.Need-shared-slice-read-left
-shared-slice-read-left c = let s = c .before .before .before .before .before .before .before .before .before in omega (arith, next-below (s .args .labels .now) (s .args .actions .now) (s .pre .0) (s .args .node) (s .pre .1 .1 .0) (c .before .before .before .before .kind-at .result) (c .before .before .before .before .kind-at .ensures) (omega (arith, c .before .before .before .if1 .left, c .before .if2 .left)), s .pre .1 .1 .1 .room)
+shared-slice-read-left c =
+    let at-kind-at = c .before .before .before .before in
+    let start = at-kind-at .before .before .before .before .before in
+    omega (
+      arith,
+      next-below (start .args .labels .now) (start .args .actions .now) (start .pre .0 .0)
+          (start .args .node) (start .pre .1 .0) (at-kind-at .kind-at .result) (at-kind-at .kind-at .ensures)
+          (omega (arith, c .before .before .before .if1 .left, c .before .if2 .left)),
+      start .pre .1 .1 .room,
+    )
 
--- src/lib.rt:61:9
+shaped-requires-3 : tie.Need-shaped-requires-3
+shaped-requires-3 c κs = search needs
+
 returns-3 : tie.Need-returns-3
-returns-3 c = let s = c .before .before .before .before .before .before .before .before .before .before in shape-one (s .args .labels .now) (s .args .actions .now) (s .pre .0) (s .args .node) (s .pre .1 .1 .0) (s .args .numbers .now) (s .pre .1 .1 .1) (c .before .before .before .before .before .kind-at .result) (c .before .before .before .before .before .kind-at .ensures) (c .if3 .taken)
+returns-3 c =
+    let at-kind-at = c .before .before .before .before .before .before in
+    let start = at-kind-at .before .before .before .before .before in
+    subst (ActionNodeShown (start .args .labels .now) (start .args .actions .now) (start .args .node))
+    (sym (c .shaped3 .ensures)) (shape-one (start .args .labels .now) (start .args .actions .now)
+    (start .pre .0 .0) (start .args .node) (start .pre .1 .0) (start .args .numbers .now) (start .pre .1 .1)
+    (at-kind-at .kind-at .result) (at-kind-at .kind-at .ensures) (c .before .if3 .taken))
 
--- src/lib.rt:63:41
-mul-t9 : tie.Need-mul-t9
-mul-t9 c = let s = c .before .before .before .before .before .before .before .before .before .before in omega (arith, s .pre .0 .few, right-below (s .args .labels .now) (s .args .actions .now) (s .pre .0) (s .args .node) (s .pre .1 .1 .0) (c .before .before .before .before .before .kind-at .result) (c .before .before .before .operand-at .result) (c .before .before .before .before .before .kind-at .ensures) (omega (arith, c .before .before .before .before .if1 .left, c .before .before .if2 .left)) (omega (arith, c .before .before .before .before .before .kind-at .ensures, c .if3 .left, s .pre .0 .nodes (s .args .node) (s .pre .1 .1 .0) .known)) (c .before .before .before .operand-at .ensures) .1)
+mul-shaped-2 : tie.Need-mul-shaped-2
+mul-shaped-2 c =
+    let at-operand-at = c .before .before .before in
+    let at-kind-at = at-operand-at .before .before in
+    let start = at-kind-at .before .before .before .before .before in
+    omega (
+      arith,
+      start .pre .0 .0 .few,
+      right-below (start .args .labels .now) (start .args .actions .now)
+          (start .pre .0 .0) (start .args .node) (start .pre .1 .0) (at-kind-at .kind-at .result)
+          (at-operand-at .operand-at .result) (at-kind-at .kind-at .ensures)
+          (omega (arith, at-operand-at .before .if1 .left, c .before .before .if2 .left))
+          (omega (
+            arith,
+            at-kind-at .kind-at .ensures,
+            c .if3 .left,
+            start .pre .0 .0 .nodes (start .args .node)
+                (start .pre .1 .0) .known,
+          )) (at-operand-at .operand-at .ensures) .1,
+    )
 
--- src/lib.rt:63:41
-shared-slice-read-t16 : tie.Need-shared-slice-read-t16
-shared-slice-read-t16 c = let s = c .before .before .before .before .before .before .before .before .before .before .before in omega (arith, s .pre .1 .1 .1 .room, right-below (s .args .labels .now) (s .args .actions .now) (s .pre .0) (s .args .node) (s .pre .1 .1 .0) (c .before .before .before .before .before .before .kind-at .result) (c .before .before .before .before .operand-at .result) (c .before .before .before .before .before .before .kind-at .ensures) (omega (arith, c .before .before .before .before .before .if1 .left, c .before .before .before .if2 .left)) (omega (arith, c .before .before .before .before .before .before .kind-at .ensures, c .before .if3 .left, s .pre .0 .nodes (s .args .node) (s .pre .1 .1 .0) .known)) (c .before .before .before .before .operand-at .ensures) .1)
+shared-slice-read-shaped-2 : tie.Need-shared-slice-read-shaped-2
+shared-slice-read-shaped-2 c =
+    let at-operand-at = c .before .before .before .before in
+    let at-kind-at = at-operand-at .before .before in
+    let start = at-kind-at .before .before .before .before .before in
+    omega (
+      arith,
+      start .pre .1 .1 .room,
+      right-below (start .args .labels .now) (start .args .actions .now)
+          (start .pre .0 .0) (start .args .node) (start .pre .1 .0) (at-kind-at .kind-at .result)
+          (at-operand-at .operand-at .result) (at-kind-at .kind-at .ensures)
+          (omega (arith, at-operand-at .before .if1 .left, c .before .before .before .if2 .left))
+          (omega (
+            arith,
+            at-kind-at .kind-at .ensures,
+            c .before .if3 .left,
+            start .pre .0 .0 .nodes (start .args .node)
+                (start .pre .1 .0) .known,
+          )) (at-operand-at .operand-at .ensures) .1,
+    )
 
--- src/lib.rt:44:1
+shaped-requires-4 : tie.Need-shaped-requires-4
+shaped-requires-4 c κs = search needs
+
 returns-4 : tie.Need-returns-4
-returns-4 c = let s = c .before .before .before .before .before .before .before .before .before .before .before in shape-two (s .args .labels .now) (s .args .actions .now) (s .pre .0) (s .args .node) (s .pre .1 .1 .0) (s .args .numbers .now) (s .pre .1 .1 .1) (c .before .before .before .before .before .before .kind-at .result) (c .before .before .before .before .operand-at .result) (c .before .before .before .before .before .before .kind-at .ensures) (omega (arith, c .before .before .before .before .before .if1 .left, c .before .before .before .if2 .left)) (omega (arith, c .before .before .before .before .before .before .kind-at .ensures, c .before .if3 .left, s .pre .0 .nodes (s .args .node) (s .pre .1 .1 .0) .known)) (c .before .before .before .before .operand-at .ensures)
+returns-4 c =
+    let at-if2 = c .before .before .before .before in
+    let at-operand-at = at-if2 .before in
+    let at-kind-at = at-operand-at .before .before in
+    let start = at-kind-at .before .before .before .before .before in
+    subst (ActionNodeShown (start .args .labels .now) (start .args .actions .now) (start .args .node))
+    (sym (c .shaped4 .ensures)) (shape-two (start .args .labels .now) (start .args .actions .now)
+    (start .pre .0 .0) (start .args .node) (start .pre .1 .0) (start .args .numbers .now) (start .pre .1 .1)
+    (at-kind-at .kind-at .result) (at-operand-at .operand-at .result) (at-kind-at .kind-at .ensures)
+    (omega (arith, at-operand-at .before .if1 .left, at-if2 .if2 .left))
+    (omega (
+      arith,
+      at-kind-at .kind-at .ensures,
+      c .before .before .if3 .left,
+      start .pre .0 .0 .nodes
+          (start .args .node) (start .pre .1 .0) .known,
+    )) (at-operand-at .operand-at .ensures))
 
 pub action-shape-spec : {M : Type 1} → statement M
 action-shape-spec =
     tie.close
     (tie.spec
     kind-at-requires
-    cast-k
+    cast-kind
+    shaped-requires
     returns
     operand-at-requires
-    mul-t11
-    shared-slice-read-t13
+    mul-shaped
+    shared-slice-read-shaped
+    shaped-requires-2
     returns-2
     add-left
     mul-left
     shared-slice-read-left
+    shaped-requires-3
     returns-3
-    mul-t9
-    shared-slice-read-t16
+    mul-shaped-2
+    shared-slice-read-shaped-2
+    shaped-requires-4
     returns-4)

@@ -1,57 +1,64 @@
 -- `is_shown` meets its contract: each return is a law of the test. Assumes nothing.
-use Rattle.alike_nodes.proofs.Placing.{other-kind, other-left, by-right}
+use Rattle.alike_nodes.proofs.Columns.{kind-differs, left-differs, right-decides}
 use borrow.Author.Needs.{needs}
 use Rattle.alike_nodes.proofs.is_shown.Statement.{statement}
 use Rattle.alike_nodes.proofs.is_shown.Tie as tie
 use Rattle.alike_nodes.proofs.is_shown.Reads as reads
 use Rattle.alike_nodes.proofs.is_shown.Lts as lts
 
--- src/lib.rt:107:8
+add-if1 : tie.Need-add-if1
+add-if1 c = search needs
+
 mul-if1 : tie.Need-mul-if1
 mul-if1 c = search needs
 
--- src/lib.rt:107:8
-shared-slice-read-if1 : tie.Need-shared-slice-read-if1
-shared-slice-read-if1 c = search needs
+element-copy-out-if1 : tie.Need-element-copy-out-if1
+element-copy-out-if1 c = search needs
 
--- src/lib.rt:108:9
 returns : tie.Need-returns
-returns c = let x = c .before .before .args in other-kind (x .kinds .now) (x .lefts .now) (x .rights .now) (x .k) (x .l) (x .r) (x .u) (c .if1 .taken)
+returns c = kind-differs _ _ _ (c .before .before .before .pre) (c .if1 .taken)
 
--- src/lib.rt:110:8
+add-if2 : tie.Need-add-if2
+add-if2 c = search needs
+
 mul-if2 : tie.Need-mul-if2
 mul-if2 c = search needs
 
--- src/lib.rt:110:8
-shared-slice-read-if2 : tie.Need-shared-slice-read-if2
-shared-slice-read-if2 c = search needs
+element-copy-out-if2 : tie.Need-element-copy-out-if2
+element-copy-out-if2 c = search needs
 
--- src/lib.rt:111:9
 returns-2 : tie.Need-returns-2
-returns-2 c = let x = c .before .before .before .before .args in other-left (x .kinds .now) (x .lefts .now) (x .rights .now) (x .k) (x .l) (x .r) (x .u) (c .before .before .if1 .left) (c .if2 .taken)
+returns-2 c =
+    let start = c .before .before .before .before .before .before in
+    left-differs _ _ _ (start .pre) (c .before .before .before .if1 .left) (c .if2 .taken)
 
--- src/lib.rt:113:5
+add-result : tie.Need-add-result
+add-result c = search needs
+
 mul-result : tie.Need-mul-result
 mul-result c = search needs
 
--- src/lib.rt:113:5
-shared-slice-read-result : tie.Need-shared-slice-read-result
-shared-slice-read-result c = search needs
+element-copy-out-result : tie.Need-element-copy-out-result
+element-copy-out-result c = search needs
 
--- src/lib.rt:103:1
 returns-3 : tie.Need-returns-3
-returns-3 c = let x = c .before .before .before .before .before .args in by-right (x .kinds .now) (x .lefts .now) (x .rights .now) (x .k) (x .l) (x .r) (x .u) (c .before .before .before .if1 .left) (c .before .if2 .left)
+returns-3 c =
+    let at-if1 = c .before .before .before .before .before in
+    right-decides _ _ _ (at-if1 .before .before .before .pre) (at-if1 .if1 .left) (c .before .before .if2 .left)
 
 pub is-shown-spec : {M : Type 1} → statement M
 is-shown-spec =
     tie.close
     (tie.spec
+    add-if1
     mul-if1
-    shared-slice-read-if1
+    element-copy-out-if1
     returns
+    add-if2
     mul-if2
-    shared-slice-read-if2
+    element-copy-out-if2
     returns-2
+    add-result
     mul-result
-    shared-slice-read-result
+    element-copy-out-result
     returns-3)

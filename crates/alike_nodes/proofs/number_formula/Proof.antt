@@ -8,6 +8,8 @@ use Rattle.rules.specs.Table.{size}
 use Rattle.rules.specs.Formula.{formulaTree}
 use Rattle.alike_nodes.specs.Nodes.{Numbered}
 use Rattle.alike_nodes.proofs.FormulaShapes.{FormulaPlaced, formula-none, formula-next}
+use Rattle.compiled.proofs.Laws.{stretch-length}
+use Rattle.alike_nodes.specs.Nodes.{kindsIn, leftsIn, rightsIn}
 use borrow.Author.Needs.{needs}
 use Rattle.alike_nodes.proofs.number_formula.Statement.{statement}
 use Rattle.alike_nodes.proofs.number_formula.Tie as tie
@@ -18,76 +20,92 @@ use Rattle.alike_nodes.proofs.place_node.Reads as place-node-reads
 use Rattle.words.proofs.at.Reads as at-reads
 
 abbrev Inv-loop : tie.InvT-loop
-Inv-loop labels system actions formula acts equations kinds₀ lefts₀ rights₀ numbers₀ n i₀ kinds lefts rights numbers i = (length kinds ≡ length kinds₀) × (length lefts ≡ length lefts₀) × (length rights ≡ length rights₀) × (length numbers ≡ length numbers₀) × (i ≤ n) × (n ≡ size formula) × FormulaPlaced (inputOf labels system actions formula) i kinds lefts rights numbers
+Inv-loop labels system actions formula acts equations shapes₀ numbers₀ count i₀ shapes numbers i =
+    (length shapes ≡ length shapes₀) × (length numbers ≡ length numbers₀) × (i ≤ count) × (count ≡ size formula)
+    × FormulaPlaced (inputOf labels system actions formula) i (kindsIn shapes) (leftsIn shapes) (rightsIn shapes) numbers
 
 abbrev μ-loop : tie.MeasureT-loop
-μ-loop labels system actions formula acts equations kinds₀ lefts₀ rights₀ numbers₀ n i₀ kinds lefts rights numbers i = i
+μ-loop labels system actions formula acts equations shapes₀ numbers₀ count i₀ shapes numbers i = i
 
--- src/lib.rt:225:9
 at-requires : tie.Need-at-requires Inv-loop μ-loop
 at-requires c κs = search needs
 
--- src/lib.rt:227:5
 loop-holds : tie.Need-loop-holds Inv-loop μ-loop
-loop-holds c = let s = c .before .before .before .before .before .before .before .before .before .before .before in
-    let few = s .pre .0 .formula .few in
-    let rooms = s .pre .1 .1 .1 in
-    (refl, refl, refl, refl, omega arith, c .at .ensures .0, formula-none (inputOf (s .args .labels .now) (s .args .system .now) (s .args .actions .now) (s .args .formula .now)) (s .args .kinds .now) (s .args .lefts .now) (s .args .rights .now) (s .args .numbers .now) (c .at .result) (c .at .ensures .0) (omega arith) (omega arith) (omega arith) (omega arith))
+loop-holds c =
+    let start = c .before .before .before .before .before .before .before .before in
+    let few = start .pre .0 .0 .formula .few in
+    let rooms = start .pre .1 in
+    let shapes = start .args .shapes .now in (
+      refl,
+      refl,
+      omega arith,
+      c .at .ensures .0,
+      formula-none (inputOf (start .args .labels .now) (start .args .system .now) (start .args .actions .now)
+          (start .args .formula .now)) _ _ _ (start .args .numbers .now) (c .at .result) (c .at .ensures .0)
+          (omega (arith, few, rooms .0, stretch-length 0 1024 shapes (omega (arith, rooms .0))))
+          (omega (arith, few, rooms .0, stretch-length 1024 1024 shapes (omega (arith, rooms .0))))
+          (omega (arith, few, rooms .0, stretch-length 2048 1024 shapes (omega (arith, rooms .0))))
+          (omega (arith, few, rooms .1)),
+    )
 
--- src/lib.rt:228:17
-sub-v : tie.Need-sub-v Inv-loop μ-loop
-sub-v c = search needs
+sub-node : tie.Need-sub-node Inv-loop μ-loop
+sub-node c = search needs
 
--- src/lib.rt:229:13
 formula-shape-requires : tie.Need-formula-shape-requires Inv-loop μ-loop
-formula-shape-requires c κs = let s = c .before .before .before .before .before .before .before .before .before .before .before .before .before .before in
+formula-shape-requires c κs =
+    let start = c .before .before .before .before .before .before .before .before .before .before .before in
     let i = c .before .before .loop in
     let e : i .i - 1 + 1 ≡ i .i = omega (arith, c .before .loop-test .taken) in
-    (s .pre .0, (s .pre .1 .0, (s .pre .1 .1 .0, (omega (arith, e, i .inv .4, i .inv .5), i .inv .6 .numbered .room))))
+    ((start .pre .0 .0, omega (arith, e, i .inv .2, i .inv .3), i .inv .4 .numbered .room), (start .pre .0 .1, start .pre .0 .2))
 
--- src/lib.rt:230:9
 place-node-requires : tie.Need-place-node-requires Inv-loop μ-loop
-place-node-requires c κs = let s = c .before .before .before .before .before .before .before .before .before .before .before .before .before .before .before .before .before .before .before in
-    let i = c .before .before .before .before .before .before .before .loop in
-    let rooms = s .pre .1 .1 .1 in
-    let few = s .pre .0 .formula .few in
-    ((omega (arith, rooms, few, i .inv .0, i .inv .5), omega (arith, rooms, few, i .inv .1, i .inv .5), omega (arith, rooms, few, i .inv .2, i .inv .5), omega (arith, rooms, few, i .inv .3, i .inv .5)), (omega (arith, c .before .before .before .before .before .before .loop-test .taken, i .inv .4), omega (arith, few, i .inv .5)))
+place-node-requires c κs =
+    let at-loop-test = c .before .before .before .before in
+    let start = at-loop-test .before .before .before .before .before .before .before .before .before .before in
+    let i = at-loop-test .before .loop in
+    let rooms = start .pre .1 in
+    let few = start .pre .0 .0 .formula .few in (
+      omega (arith, at-loop-test .loop-test .taken, i .inv .2),
+      omega (arith, few, i .inv .3),
+      omega
+          (arith, rooms .1, few, i .inv .1, i .inv .3),
+    )
 
--- src/lib.rt:227:5
 loop-less : tie.Need-loop-less Inv-loop μ-loop
-loop-less c = omega (arith, c .before .before .before .before .before .before .before .before .before .before .before .before .before .before .before .loop-test .taken)
+loop-less c =
+    let at-loop-test = c .before .before .before .before .before .before .before in
+    omega (arith, at-loop-test .loop-test .taken)
 
--- src/lib.rt:227:5
 loop-again : tie.Need-loop-again Inv-loop μ-loop
-loop-again c = let s = c .before .before .before .before .before .before .before .before .before .before .before .before .before .before .before .before .before .before .before .before .before .before .before .before .before .before .before .before in
-    let i = c .before .before .before .before .before .before .before .before .before .before .before .before .before .before .before .before .loop in
-    let e : i .i - 1 + 1 ≡ i .i = omega (arith, c .before .before .before .before .before .before .before .before .before .before .before .before .before .before .before .loop-test .taken) in
-    let p = c .before .before .before .before .before .before .before .before .place-node in
-    let k = p .kept in
-    (k .0 ∙ i .inv .0, k .1 .0 ∙ i .inv .1, k .1 .1 .0 ∙ i .inv .2, k .1 .1 .1 .0 ∙ i .inv .3, omega (arith, e, i .inv .4), i .inv .5, formula-next (inputOf (s .args .labels .now) (s .args .system .now) (s .args .actions .now) (s .args .formula .now)) (s .pre .0) (c .before .before .before .before .before .before .before .before .before .before .before .before .before .before .before .before .before .at .result) (i .i) (i .i - 1) (c .before .before .before .before .before .before .before .before .before .before .before .before .before .formula-shape .result .kind) (c .before .before .before .before .before .before .before .before .before .before .before .before .before .formula-shape .result .left) (c .before .before .before .before .before .before .before .before .before .before .before .before .before .formula-shape .result .right) (i .kinds) (i .lefts) (i .rights) (i .numbers) _ _ _ _ (i .inv .5) e (omega (arith, e, i .inv .4, i .inv .5)) (i .inv .6) (c .before .before .before .before .before .before .before .before .before .before .before .before .before .formula-shape .ensures) (p .ensures .0) (p .ensures .1 .0) (p .ensures .1 .1 .0) (p .ensures .1 .1 .1))
+loop-again c =
+    let at-formula-shape = c .before .before .before .before .before in
+    let at-at = at-formula-shape .before .before .before .before in
+    let start = at-at .before .before .before .before .before .before .before .before in
+    let i = at-formula-shape .before .before .before .loop in
+    let e : i .i - 1 + 1 ≡ i .i = omega (arith, at-formula-shape .before .before .loop-test .taken) in
+    let p = c .before .before .place-node in (
+      p .ensures .0 .sized ∙ i .inv .0,
+      p .kept .1 .0 ∙ i .inv .1,
+      omega (arith, e, i .inv .2),
+      i .inv .3,
+      formula-next
+          (inputOf (start .args .labels .now) (start .args .system .now) (start .args .actions .now)
+          (start .args .formula .now)) (start .pre .0 .0) (at-at .at .result) (i .i) (i .i - 1)
+          (at-formula-shape .formula-shape .result .kind) (at-formula-shape .formula-shape .result .left)
+          (at-formula-shape .formula-shape .result .right) _ _ _ (i .numbers) _ _ _ _ (i .inv .3) e
+          (omega (arith, e, i .inv .2, i .inv .3)) (i .inv .4) (at-formula-shape .formula-shape .ensures)
+          (p .ensures .0 .kinds) (p .ensures .0 .lefts) (p .ensures .0 .rights) (p .ensures .1),
+    )
 
--- src/lib.rt:207:1
 same-length : tie.Need-same-length Inv-loop μ-loop
 same-length c = search needs
 
--- src/lib.rt:207:1
-same-length-2 : tie.Need-same-length-2 Inv-loop μ-loop
-same-length-2 c = search needs
-
--- src/lib.rt:207:1
-same-length-3 : tie.Need-same-length-3 Inv-loop μ-loop
-same-length-3 c = search needs
-
--- src/lib.rt:207:1
-same-length-4 : tie.Need-same-length-4 Inv-loop μ-loop
-same-length-4 c = search needs
-
--- src/lib.rt:207:1
 returns : tie.Need-returns Inv-loop μ-loop
-returns c = let s = c .before .before .before .before .before .before .before .before .before .before .before .before .before in
+returns c =
+    let start = c .before .before .before .before .before .before .before .before .before .before in
     let i = c .before .loop in
     let e : i .i ≡ 0 = omega (arith, c .loop-test .left) in
-    subst (λ (j : ℕ). Numbered (formulaTree (inputOf (s .args .labels .now) (s .args .system .now) (s .args .actions .now) (s .args .formula .now))) (size (s .args .formula .now)) j (i .numbers)) e (i .inv .6 .numbered)
+    subst (λ (j : ℕ). Numbered (formulaTree (inputOf (start .args .labels .now) (start .args .system .now) (start .args .actions .now) (start .args .formula .now))) (size (start .args .formula .now)) j (i .numbers)) e (i .inv .4 .numbered)
 
 pub number-formula-spec : {M : Type 1} → statement M
 number-formula-spec =
@@ -97,13 +115,10 @@ number-formula-spec =
     μ-loop
     at-requires
     loop-holds
-    sub-v
+    sub-node
     formula-shape-requires
     place-node-requires
     loop-less
     loop-again
     same-length
-    same-length-2
-    same-length-3
-    same-length-4
     returns)

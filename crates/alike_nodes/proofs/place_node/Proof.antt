@@ -1,7 +1,9 @@
 -- `place_node` meets its contract. Assumes nothing.
-use mathlib.Core.Path.{refl, ap}
+use mathlib.Core.Path.{ap}
 use Prim.Native.Nat.{ℕ}
 use lib.ListN.{set}
+use native.Mathlib.Omega.{arith}
+use Rattle.alike_nodes.proofs.Columns.{shape-put}
 use borrow.Author.Needs.{needs}
 use Rattle.alike_nodes.proofs.place_node.Statement.{statement}
 use Rattle.alike_nodes.proofs.place_node.Tie as tie
@@ -9,77 +11,67 @@ use Rattle.alike_nodes.proofs.place_node.Reads as reads
 use Rattle.alike_nodes.proofs.place_node.Lts as lts
 use Rattle.alike_nodes.proofs.number_of.Reads as number-of-reads
 
--- src/lib.rt:174:9
 number-of-requires : tie.Need-number-of-requires
 number-of-requires c κs = search needs
 
--- src/lib.rt:175:5
-mul-kinds : tie.Need-mul-kinds
-mul-kinds c = search needs
+add-shapes : tie.Need-add-shapes
+add-shapes c = search needs
 
--- src/lib.rt:175:5
-slice-write-kinds : tie.Need-slice-write-kinds
-slice-write-kinds c = search needs
+mul-shapes : tie.Need-mul-shapes
+mul-shapes c = search needs
 
--- src/lib.rt:176:5
-mul-lefts : tie.Need-mul-lefts
-mul-lefts c = search needs
+element-write-shapes : tie.Need-element-write-shapes
+element-write-shapes c = search needs
 
--- src/lib.rt:176:5
-slice-write-lefts : tie.Need-slice-write-lefts
-slice-write-lefts c = search needs
+add-shapes-2 : tie.Need-add-shapes-2
+add-shapes-2 c = search needs
 
--- src/lib.rt:177:5
-mul-rights : tie.Need-mul-rights
-mul-rights c = search needs
+mul-shapes-2 : tie.Need-mul-shapes-2
+mul-shapes-2 c = search needs
 
--- src/lib.rt:177:5
-slice-write-rights : tie.Need-slice-write-rights
-slice-write-rights c = search needs
+element-write-shapes-2 : tie.Need-element-write-shapes-2
+element-write-shapes-2 c = search needs
 
--- src/lib.rt:178:5
+add-shapes-3 : tie.Need-add-shapes-3
+add-shapes-3 c = search needs
+
+mul-shapes-3 : tie.Need-mul-shapes-3
+mul-shapes-3 c = search needs
+
+element-write-shapes-3 : tie.Need-element-write-shapes-3
+element-write-shapes-3 c = search needs
+
 mul-numbers : tie.Need-mul-numbers
 mul-numbers c = search needs
 
--- src/lib.rt:178:5
 slice-write-numbers : tie.Need-slice-write-numbers
 slice-write-numbers c = search needs
 
--- src/lib.rt:156:1
 same-length : tie.Need-same-length
 same-length c = search needs
 
--- src/lib.rt:156:1
-same-length-2 : tie.Need-same-length-2
-same-length-2 c = search needs
-
--- src/lib.rt:156:1
-same-length-3 : tie.Need-same-length-3
-same-length-3 c = search needs
-
--- src/lib.rt:156:1
-same-length-4 : tie.Need-same-length-4
-same-length-4 c = search needs
-
--- src/lib.rt:156:1
 returns : tie.Need-returns
-returns c = (refl, (refl, (refl, ap (λ (a : ℕ). set (c .before .before .before .before .before .before .before .before .before .args .numbers .now) (c .before .before .before .before .before .before .before .before .before .args .v) a) (c .number-of .ensures))))
+returns c =
+    let start = c .before .before .before .before in (
+      shape-put (start .args .shapes .now) (start .args .node) (start .args .shape) (omega (arith, start .pre)),
+      ap (λ (a : ℕ). set (start .args .numbers .now) (start .args .node) a) (c .number-of .ensures),
+    )
 
 pub place-node-spec : {M : Type 1} → statement M
 place-node-spec =
     tie.close
     (tie.spec
     number-of-requires
-    mul-kinds
-    slice-write-kinds
-    mul-lefts
-    slice-write-lefts
-    mul-rights
-    slice-write-rights
+    add-shapes
+    mul-shapes
+    element-write-shapes
+    add-shapes-2
+    mul-shapes-2
+    element-write-shapes-2
+    add-shapes-3
+    mul-shapes-3
+    element-write-shapes-3
     mul-numbers
     slice-write-numbers
     same-length
-    same-length-2
-    same-length-3
-    same-length-4
     returns)

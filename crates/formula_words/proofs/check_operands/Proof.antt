@@ -39,7 +39,9 @@ loop-holds c = refusal44-scan _ _
 
 -- src/lib.rt:67:12
 bad-operand-requires : tie.Need-bad-operand-requires Inv-loop μ-loop
-bad-operand-requires c κs = (c .before .before .before .before .before .before .pre .0, (c .before .before .before .before .before .before .pre .1 .0, omega arith, c .before .before .before .before .before .before .pre .1 .1))
+bad-operand-requires c κs =
+    let start = c .before .before .before .before .before .before in
+    (start .pre .0, (start .pre .1 .0, omega arith, start .pre .1 .1))
 
 -- src/lib.rt:68:37
 cast-t13 : tie.Need-cast-t13 Inv-loop μ-loop
@@ -47,11 +49,13 @@ cast-t13 c = search needs
 
 -- src/lib.rt:68:13
 returns : tie.Need-returns Inv-loop μ-loop
-returns c = let s = c .before .before .before .before .before .before .before .before in
-    sym (c .before .before .before .loop .inv
+returns c =
+    let at-loop = c .before .before .before in
+    let start = at-loop .before .before .before .before .before in
+    sym (at-loop .loop .inv
     ∙ then-fault _ (from-stop _ _ _ _ (omega arith)
-    (bad-node (namesNoTree (now (s .args .acts))) (now (s .args .f)) (c .before .before .before .loop .v) _ _
-    (c .before .bad-operand .ensures) (s .pre .1 .1 0 (omega arith)) (c .if1 .taken))))
+    (bad-node (namesNoTree (now (start .args .actions))) (now (start .args .formula)) (at-loop .loop .node) _ _
+    (c .before .bad-operand .ensures) (start .pre .1 .1 0 (omega arith)) (c .if1 .taken))))
 
 -- src/lib.rt:71:37
 cast-t14 : tie.Need-cast-t14 Inv-loop μ-loop
@@ -59,15 +63,17 @@ cast-t14 c = search needs
 
 -- src/lib.rt:71:13
 returns-2 : tie.Need-returns-2 Inv-loop μ-loop
-returns-2 c = let s = c .before .before .before .before .before .before .before .before .before in
-    sym (c .before .before .before .before .loop .inv
+returns-2 c =
+    let at-loop = c .before .before .before .before in
+    let start = at-loop .before .before .before .before .before in
+    sym (at-loop .loop .inv
     ∙ then-fault _ (from-stop _ _ _ _ (omega arith)
-    (left-over (namesNoTree (now (s .args .acts))) (now (s .args .f)) (c .before .before .before .before .loop .v) _
-    _ (c .before .before .bad-operand .ensures) (s .pre .1 .1 0 (omega arith)) (c .if2 .taken))))
+    (left-over (namesNoTree (now (start .args .actions))) (now (start .args .formula)) (at-loop .loop .node) _
+    _ (c .before .before .bad-operand .ensures) (start .pre .1 .1 0 (omega arith)) (c .if2 .taken))))
 
 -- src/lib.rt:73:9
-add-v : tie.Need-add-v Inv-loop μ-loop
-add-v c = search needs
+add-node : tie.Need-add-node Inv-loop μ-loop
+add-node c = search needs
 
 -- src/lib.rt:66:5
 loop-less : tie.Need-loop-less Inv-loop μ-loop
@@ -75,11 +81,13 @@ loop-less c = search needs
 
 -- src/lib.rt:66:5
 loop-again : tie.Need-loop-again Inv-loop μ-loop
-loop-again c = let s = c .before .before .before .before .before .before .before .before .before in
-    c .before .before .before .before .loop .inv
+loop-again c =
+    let at-loop = c .before .before .before .before in
+    let start = at-loop .before .before .before .before .before in
+    at-loop .loop .inv
     ∙ then-same _ (from-next _ _ _ _
-    (good-node (namesNoTree (now (s .args .acts))) (now (s .args .f)) (c .before .before .before .before .loop .v) _
-    _ (c .before .before .bad-operand .ensures) (s .pre .1 .1 0 (omega arith)) (c .before .if1 .left)
+    (good-node (namesNoTree (now (start .args .actions))) (now (start .args .formula)) (at-loop .loop .node) _
+    _ (c .before .before .bad-operand .ensures) (start .pre .1 .1 0 (omega arith)) (c .before .if1 .left)
     (c .if2 .left)))
 
 -- src/lib.rt:76:33
@@ -88,13 +96,17 @@ cast-t16 c = search needs
 
 -- src/lib.rt:76:9
 returns-3 : tie.Need-returns-3 Inv-loop μ-loop
-returns-3 c = let s = c .before .before .before .before .before .before .before in
-    sym (c .before .before .loop .inv ∙ then-passed _ (from-done _ _ _ _ (omega arith)) ∙ unfinished (now (s .args .f)) _ _ (c .before .before .before .before .at .ensures .0) (s .pre .1 .1 0 (omega arith)) (c .if3 .taken))
+returns-3 c =
+    let at-at = c .before .before .before .before in
+    let start = at-at .before .before .before in
+    sym (c .before .before .loop .inv ∙ then-passed _ (from-done _ _ _ _ (omega arith)) ∙ unfinished (now (start .args .formula)) _ _ (at-at .at .ensures .0) (start .pre .1 .1 0 (omega arith)) (c .if3 .taken))
 
 -- src/lib.rt:53:1
 returns-4 : tie.Need-returns-4 Inv-loop μ-loop
-returns-4 c = let s = c .before .before .before .before .before .before .before in
-    sym (c .before .before .loop .inv ∙ then-passed _ (from-done _ _ _ _ (omega arith)) ∙ finished (now (s .args .f)) _ _ (c .before .before .before .before .at .ensures .0) (s .pre .1 .1 0 (omega arith)) (c .if3 .left))
+returns-4 c =
+    let at-at = c .before .before .before .before in
+    let start = at-at .before .before .before in
+    sym (c .before .before .loop .inv ∙ then-passed _ (from-done _ _ _ _ (omega arith)) ∙ finished (now (start .args .formula)) _ _ (at-at .at .ensures .0) (start .pre .1 .1 0 (omega arith)) (c .if3 .left))
 
 pub check-operands-spec : {M : Type 1} → statement M
 check-operands-spec =
@@ -110,7 +122,7 @@ check-operands-spec =
     returns
     cast-t14
     returns-2
-    add-v
+    add-node
     loop-less
     loop-again
     cast-t16

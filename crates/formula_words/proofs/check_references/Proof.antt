@@ -25,7 +25,9 @@ loop-holds c = references-45 _
 
 -- src/lib.rt:115:12
 bad-reference-requires : tie.Need-bad-reference-requires Inv-loop μ-loop
-bad-reference-requires c κs = (c .before .before .before .before .pre .0, omega arith, c .before .before .before .before .pre .1)
+bad-reference-requires c κs =
+    let start = c .before .before .before .before in
+    (start .pre .0, omega arith, start .pre .1)
 
 -- src/lib.rt:116:37
 cast-t7 : tie.Need-cast-t7 Inv-loop μ-loop
@@ -36,8 +38,8 @@ returns : tie.Need-returns Inv-loop μ-loop
 returns c = sym (c .before .before .before .loop .inv ∙ from-stop _ _ _ _ (omega arith) (cc))
 
 -- src/lib.rt:118:9
-add-v : tie.Need-add-v Inv-loop μ-loop
-add-v c = search needs
+add-node : tie.Need-add-node Inv-loop μ-loop
+add-node c = search needs
 
 -- src/lib.rt:114:5
 loop-less : tie.Need-loop-less Inv-loop μ-loop
@@ -62,7 +64,7 @@ check-references-spec =
     bad-reference-requires
     cast-t7
     returns
-    add-v
+    add-node
     loop-less
     loop-again
     returns-2)

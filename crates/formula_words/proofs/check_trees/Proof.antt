@@ -15,10 +15,11 @@ tree-ends-requires c κs = search needs
 
 -- src/lib.rt:131:5
 first-nodes-requires : tie.Need-first-nodes-requires
-first-nodes-requires c κs = let s = c .before .before .before .before .before .before in (
-  (s .pre .0, length-replicate {A = Bool} 1025 false),
-  ((actionChildren (now (s .args .acts)), c .before .before .tree-ends .ensures .0), λ v. blank 1025 v),
-)
+first-nodes-requires c κs =
+    let start = c .before .before .before .before .before .before in (
+      (start .pre .0, length-replicate {A = Bool} 1025 false),
+      ((actionChildren (now (start .args .actions)), c .before .before .tree-ends .ensures .0), λ v. blank 1025 v),
+    )
 
 -- src/lib.rt:132:5
 tree-ends-requires-2 : tie.Need-tree-ends-requires-2
@@ -27,10 +28,11 @@ tree-ends-requires-2 c κs = search needs
 -- src/lib.rt:133:9
 check-operands-requires : tie.Need-check-operands-requires
 check-operands-requires c κs =
-    let s = c .before .before .before .before .before .before .before .before .before .before .before in
-    let known = c .before .before .before .before .before .before .before .tree-ends .ensures .0 in
-    let firsts = c .before .before .before .before .first-nodes .ensures (actionChildren (now (s .args .acts))) known in
-    ((s .pre .0, firsts), (s .pre .1, c .before .before .tree-ends2 .ensures .0))
+    let at-first-nodes = c .before .before .before .before in
+    let start = at-first-nodes .before .before .before .before .before .before .before in
+    let known = at-first-nodes .before .before .before .tree-ends .ensures .0 in
+    let firsts = at-first-nodes .first-nodes .ensures (actionChildren (now (start .args .actions))) known in
+    ((start .pre .0, firsts), (start .pre .1, c .before .before .tree-ends2 .ensures .0))
 
 -- src/lib.rt:135:22
 enum-known-nodes : tie.Need-enum-known-nodes
@@ -50,7 +52,9 @@ returns c = sym (first-fault _ (sym (c .before .before .before .check-operands .
 
 -- src/lib.rt:124:1
 returns-2 : tie.Need-returns-2
-returns-2 c = c .check-references .ensures ∙ sym (first-next _ (sym (c .before .before .before .before .check-operands .ensures) ∙ c .before .before .enum-told .given .1) ∙ first-one _)
+returns-2 c =
+    let at-check-operands = c .before .before .before .before in
+    c .check-references .ensures ∙ sym (first-next _ (sym (at-check-operands .check-operands .ensures) ∙ c .before .before .enum-told .given .1) ∙ first-one _)
 
 pub check-trees-spec : {M : Type 1} → statement M
 check-trees-spec =

@@ -18,8 +18,9 @@ element-copy-out-result c = search needs
 
 -- src/lib.rt:13:1
 returns-2 : tie.Need-returns-2
-returns-2 c = let s = c .before .before .before .before in
-    some-action (now (s .args .acts)) (s .args .a) _ (c .before .before .at .ensures .0) (now (s .args .firsts)) (s .pre .1) (c .before .if1 .left)
+returns-2 c =
+    let start = c .before .before .before .before in
+    some-action (now (start .args .actions)) (start .args .named) _ (c .before .before .at .ensures .0) (now (start .args .firsts)) (start .pre .1) (c .before .if1 .left)
 
 pub names-no-tree-spec : {M : Type 1} → statement M
 names-no-tree-spec = tie.close (tie.spec at-requires returns element-copy-out-result returns-2)

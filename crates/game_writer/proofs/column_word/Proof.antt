@@ -1,6 +1,8 @@
-use denote.Ref.{now}
+use mathlib.Core.Path.{_≡_}
 use native.Mathlib.Omega.{arith}
+use Rattle.compiled.specs.Stretches.{kindsIn, prioritiesIn}
 use Rattle.game_writer.proofs.Whole.{owner-shown, priority-shown}
+use borrow.Author.Needs.{needs}
 use Rattle.game_writer.proofs.column_word.Statement.{statement}
 use Rattle.game_writer.proofs.column_word.Tie as tie
 use Rattle.game_writer.proofs.column_word.Reads as reads
@@ -8,23 +10,27 @@ use Rattle.game_writer.proofs.column_word.Lts as lts
 use Rattle.game_writer.proofs.owner_word.Reads as owner-word-reads
 use Rattle.game_writer.proofs.shown_priority.Reads as shown-priority-reads
 
--- src/lib.rt:102:9
+-- src/lib.rt:108:9
 owner-word-requires : tie.Need-owner-word-requires
-owner-word-requires c κs = let s = c .before .before .before .before .pre .0 in
-    ((s .placed .regions, omega (arith, s .placed .known)), s .kinded .item (c .before .before .before .before .args .u .0) (omega arith))
+owner-word-requires c κs = search needs
 
--- src/lib.rt:102:9
+-- src/lib.rt:108:9
 returns : tie.Need-returns
-returns c = owner-shown (now (c .before .before .before .before .before .args .kinds)) (now (c .before .before .before .before .before .args .priorities)) (now (c .before .before .before .before .before .args .work)) (c .before .before .before .before .before .args .v) (c .before .before .before .before .before .args .column) (c .before .before .before .before .before .args .u .0) _ (c .before .if1 .taken) (c .owner-word .ensures)
+returns c =
+    let start = c .before .before .before in
+    owner-shown (kindsIn (start .args .compiled .now)) (prioritiesIn (start .args .compiled .now)) _ _ (start .args .column) (start .args .u .0) _ (c .before .if1 .taken) (c .owner-word .ensures)
 
--- src/lib.rt:104:9
+-- src/lib.rt:110:9
 shown-priority-requires : tie.Need-shown-priority-requires
-shown-priority-requires c κs = let s = c .before .before .before .before .pre .0 in
-    ((s .placed .regions, omega (arith, s .placed .known)), (s .kinded .item (c .before .before .before .before .args .u .0) (omega arith), (s .ranked .item (c .before .before .before .before .args .u .0) (omega arith), s .edged .stretch (c .before .before .before .before .args .u .0) (omega arith))))
+shown-priority-requires c κs =
+    let start = c .before .before in
+    ((start .pre .0 .placed .regions, omega (arith, start .pre .0 .placed .known)), start .pre .0 .edged .stretch (start .args .u .0) (omega arith))
 
--- src/lib.rt:89:1
+-- src/lib.rt:101:1
 returns-2 : tie.Need-returns-2
-returns-2 c = priority-shown (now (c .before .before .before .before .before .args .kinds)) (now (c .before .before .before .before .before .args .priorities)) (now (c .before .before .before .before .before .args .work)) (c .before .before .before .before .before .args .v) (c .before .before .before .before .before .args .column) (c .before .before .before .before .before .args .u .0) _ (c .before .before .before .before .before .pre .1) (c .before .if1 .left) (c .shown-priority .ensures)
+returns-2 c =
+    let start = c .before .before .before in
+    priority-shown (kindsIn (start .args .compiled .now)) (prioritiesIn (start .args .compiled .now)) _ _ (start .args .column) (start .args .u .0) _ (start .pre .1) (c .before .if1 .left) (c .shown-priority .ensures)
 
 pub column-word-spec : {M : Type 1} → statement M
 column-word-spec =

@@ -1,47 +1,49 @@
 use native.Mathlib.Omega.{arith}
-use mathlib.Core.Path.{_∙_, sym}
-use Rattle.settling.proofs.Buffer.{start-some}
 use Rattle.game_writer.proofs.Vertices.{loops-none, loops-read}
 use borrow.Author.Needs.{needs}
 use Rattle.game_writer.proofs.first_loops.Statement.{statement}
 use Rattle.game_writer.proofs.first_loops.Tie as tie
+use Rattle.game_writer.proofs.first_loops.Reads as reads
+use Rattle.game_writer.proofs.first_loops.Lts as lts
+use Rattle.words.proofs.region_word.Reads as region-word-reads
 
+-- src/lib.rt:63:8
 region-word-requires : tie.Need-region-word-requires
 region-word-requires c κs = search needs
 
+-- src/lib.rt:64:9
 returns : tie.Need-returns
-returns c = loops-none _ _ _ (sym (c .before .region-word .ensures) ∙ c .if1 .taken)
+returns c = loops-none _ _ _ (omega (arith, c .before .region-word .ensures, c .if1 .taken))
 
+-- src/lib.rt:66:17
 region-word-requires-2 : tie.Need-region-word-requires-2
 region-word-requires-2 c κs = search needs
 
-sub-start : tie.Need-sub-start
-sub-start c = omega (arith, start-some _ _ _ (c .before .before .before .before .pre .0 .2), c .region-word2 .ensures)
+-- src/lib.rt:66:17
+cast-start : tie.Need-cast-start
+cast-start c = search needs
 
+-- src/lib.rt:67:10
 mul-result : tie.Need-mul-result
 mul-result c = search needs
 
-cast-result : tie.Need-cast-result
-cast-result c = search needs
-
+-- src/lib.rt:67:10
 add-result : tie.Need-add-result
 add-result c = search needs
 
+-- src/lib.rt:67:5
 mul-result-2 : tie.Need-mul-result-2
 mul-result-2 c = search needs
 
+-- src/lib.rt:67:5
 shared-slice-read-result : tie.Need-shared-slice-read-result
-shared-slice-read-result c =
-    let two = c .before in
-    let one = two .before .before in
-    let some = two .before .if1 .left in
-    omega (arith, one .before .before .pre .1, two .region-word2 .ensures, one .region-word .ensures, some)
+shared-slice-read-result c = search needs
 
+-- src/lib.rt:58:1
 returns-2 : tie.Need-returns-2
 returns-2 c =
-    let test = c .before .before .before in
-    loops-read _ _ _ _ (λ e. test .if1 .left (test .before .region-word .ensures ∙ e))
-    (omega (arith, c .before .before .region-word2 .ensures))
+    let at-region-word = c .before .before .before .before in
+    loops-read _ _ _ _ (λ e. omega (arith, e, at-region-word .region-word .ensures, c .before .before .before .if1 .left)) (c .before .before .region-word2 .ensures)
 
 pub first-loops-spec : {M : Type 1} → statement M
 first-loops-spec =
@@ -50,9 +52,8 @@ first-loops-spec =
     region-word-requires
     returns
     region-word-requires-2
-    sub-start
+    cast-start
     mul-result
-    cast-result
     add-result
     mul-result-2
     shared-slice-read-result

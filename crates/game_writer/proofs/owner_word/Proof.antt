@@ -1,42 +1,46 @@
-use native.Mathlib.Omega.{arith}
-use mathlib.Core.Path.{sym}
+use mathlib.Core.Path.{sym, ap, _∙_}
+use Rattle.item_table.specs.Entries.{kindOwner}
 use Rattle.game_writer.proofs.Vertices.{settled-read, waits-read, owner-waits, owner-read}
 use borrow.Author.Needs.{needs}
 use Rattle.game_writer.proofs.owner_word.Statement.{statement}
 use Rattle.game_writer.proofs.owner_word.Tie as tie
+use Rattle.game_writer.proofs.owner_word.Reads as reads
+use Rattle.game_writer.proofs.owner_word.Lts as lts
+use Rattle.compiled.proofs.kind_of.Reads as kind-of-reads
+use Rattle.kinds.proofs.owner_of.Reads as owner-of-reads
+use Rattle.pairs.proofs.item_of.Reads as item-of-reads
+use Rattle.player.proofs.to_index.Reads as to-index-reads
+use Rattle.words.proofs.region_word.Reads as region-word-reads
 
+-- src/lib.rt:50:8
 region-word-requires : tie.Need-region-word-requires
 region-word-requires c κs = search needs
 
+-- src/lib.rt:51:9
 returns : tie.Need-returns
 returns c = sym (owner-waits _ _ _ _ (waits-read _ _ _ _ (c .before .region-word .ensures) (c .if1 .taken)))
 
+-- src/lib.rt:53:9
 item-of-requires : tie.Need-item-of-requires
 item-of-requires c κs = search needs
 
-cast-owner-of : tie.Need-cast-owner-of
-cast-owner-of c = search needs
+-- src/lib.rt:54:23
+kind-of-requires : tie.Need-kind-of-requires
+kind-of-requires c κs = search needs
 
-mul-owner-of : tie.Need-mul-owner-of
-mul-owner-of c = search needs
-
-shared-slice-read-owner-of : tie.Need-shared-slice-read-owner-of
-shared-slice-read-owner-of c =
-    let d = settled-read _ _ _ _ (c .before .before .before .region-word .ensures) (c .before .before .if1 .left) in
-    omega (arith, c .before .before .before .before .before .before .pre .1 d, c .before .item-of .ensures)
-
+-- src/lib.rt:54:14
 owner-of-requires : tie.Need-owner-of-requires
 owner-of-requires c κs = search needs
 
+-- src/lib.rt:54:5
 to-index-requires : tie.Need-to-index-requires
 to-index-requires c κs = search needs
 
+-- src/lib.rt:46:1
 returns-2 : tie.Need-returns-2
 returns-2 c =
-    let one = c .before .before .before .before .before in
-    let d = settled-read _ _ _ _ (one .region-word .ensures) (c .before .before .before .before .if1 .left) in
-    let item = c .before .before .before .item-of .ensures in
-    owner-read _ _ _ _ _ _ _ d item (c .before .owner-of .ensures) (c .to-index .ensures)
+    let at-if1 = c .before .before .before .before in
+    owner-read _ _ _ _ _ _ _ (settled-read _ _ _ _ (at-if1 .before .region-word .ensures) (at-if1 .if1 .left)) (c .before .before .before .item-of .ensures) (c .before .owner-of .ensures ∙ ap kindOwner (c .before .before .kind-of .ensures)) (c .to-index .ensures)
 
 pub owner-word-spec : {M : Type 1} → statement M
 owner-word-spec =
@@ -45,9 +49,7 @@ owner-word-spec =
     region-word-requires
     returns
     item-of-requires
-    cast-owner-of
-    mul-owner-of
-    shared-slice-read-owner-of
+    kind-of-requires
     owner-of-requires
     to-index-requires
     returns-2)

@@ -1,69 +1,64 @@
-use native.Mathlib.Omega.{arith}
-use mathlib.Core.Path.{sym, _∙_}
+use mathlib.Core.Path.{sym, ap, _∙_}
+use Rattle.item_table.specs.Entries.{kindOwner}
 use Rattle.game_writer.proofs.Vertices.{settled-read, waits-read, priority-waits, stuck-read, ranked-read}
 use borrow.Author.Needs.{needs}
 use Rattle.game_writer.proofs.shown_priority.Statement.{statement}
 use Rattle.game_writer.proofs.shown_priority.Tie as tie
+use Rattle.game_writer.proofs.shown_priority.Reads as reads
+use Rattle.game_writer.proofs.shown_priority.Lts as lts
+use Rattle.compiled.proofs.kind_of.Reads as kind-of-reads
+use Rattle.compiled.proofs.priority_of.Reads as priority-of-reads
+use Rattle.game_writer.proofs.first_loops.Reads as first-loops-reads
+use Rattle.game_writer.proofs.stuck_priority.Reads as stuck-priority-reads
+use Rattle.kinds.proofs.owner_of.Reads as owner-of-reads
+use Rattle.pairs.proofs.item_of.Reads as item-of-reads
+use Rattle.words.proofs.region_word.Reads as region-word-reads
 
+-- src/lib.rt:78:8
 region-word-requires : tie.Need-region-word-requires
 region-word-requires c κs = search needs
 
+-- src/lib.rt:79:9
 returns : tie.Need-returns
 returns c = sym (priority-waits _ _ _ _ _ (waits-read _ _ _ _ (c .before .region-word .ensures) (c .if1 .taken)))
 
+-- src/lib.rt:81:9
 item-of-requires : tie.Need-item-of-requires
 item-of-requires c κs = search needs
 
+-- src/lib.rt:82:8
 first-loops-requires : tie.Need-first-loops-requires
 first-loops-requires c κs =
-    let d = settled-read _ _ _ _ (c .before .before .region-word .ensures) (c .before .if1 .left) in
-    let s = c .before .before .before .before .before .before in
-    ((s .pre .0 .0, s .pre .0 .1, d), s .pre .1 .1 .1 d)
+    let start = c .before .before .before .before in
+    ((start .pre .0 .0, start .pre .0 .1), start .pre .1 (settled-read _ _ _ _ (c .before .before .region-word .ensures) (c .before .if1 .left)))
 
-cast-owner-of : tie.Need-cast-owner-of
-cast-owner-of c = search needs
+-- src/lib.rt:83:40
+kind-of-requires : tie.Need-kind-of-requires
+kind-of-requires c κs = search needs
 
-mul-owner-of : tie.Need-mul-owner-of
-mul-owner-of c = search needs
-
-shared-slice-read-owner-of : tie.Need-shared-slice-read-owner-of
-shared-slice-read-owner-of c =
-    let one = c .before .before .before .before .before in
-    let d = settled-read _ _ _ _ (one .region-word .ensures) (c .before .before .before .before .if1 .left) in
-    omega (arith, one .before .before .before .before .pre .1 .0 d, c .before .before .before .item-of .ensures)
-
+-- src/lib.rt:83:31
 owner-of-requires : tie.Need-owner-of-requires
 owner-of-requires c κs = search needs
 
+-- src/lib.rt:83:9
 stuck-priority-requires : tie.Need-stuck-priority-requires
 stuck-priority-requires c κs = search needs
 
+-- src/lib.rt:83:9
 returns-2 : tie.Need-returns-2
 returns-2 c =
-    let two = c .before .before .before .before .before in
-    let d = settled-read _ _ _ _ (two .before .before .region-word .ensures) (two .before .if1 .left) in
-    let loops = sym (c .before .before .before .before .first-loops .ensures) ∙ c .before .before .before .if2 .taken in
-    stuck-read _ _ _ _ _ _ _ _ d loops
-    (two .item-of .ensures) (c .before .owner-of .ensures) (c .stuck-priority .ensures)
+    let at-first-loops = c .before .before .before .before in
+    stuck-read _ _ _ _ _ _ _ _ (settled-read _ _ _ _ (at-first-loops .before .before .before .region-word .ensures) (at-first-loops .before .before .if1 .left)) (sym (at-first-loops .first-loops .ensures) ∙ c .before .before .before .if2 .taken) (at-first-loops .before .item-of .ensures) (c .before .owner-of .ensures ∙ ap kindOwner (c .before .before .kind-of .ensures)) (c .stuck-priority .ensures)
 
-cast-t15 : tie.Need-cast-t15
-cast-t15 c = search needs
+-- src/lib.rt:85:14
+priority-of-requires : tie.Need-priority-of-requires
+priority-of-requires c κs = search needs
 
-mul-t16 : tie.Need-mul-t16
-mul-t16 c = search needs
-
-shared-slice-read-t7 : tie.Need-shared-slice-read-t7
-shared-slice-read-t7 c =
-    let one = c .before .before .before .before .before in
-    let d = settled-read _ _ _ _ (one .region-word .ensures) (c .before .before .before .before .if1 .left) in
-    omega (arith, one .before .before .before .before .pre .1 .1 .0 d, c .before .before .before .item-of .ensures)
-
+-- src/lib.rt:71:1
 returns-3 : tie.Need-returns-3
 returns-3 c =
-    let one = c .before .before .before .before .before in
-    let d = settled-read _ _ _ _ (one .region-word .ensures) (c .before .before .before .before .if1 .left) in
-    let other = sym (c .before .before .first-loops .ensures) ∙ c .before .if2 .left in
-    ranked-read _ _ _ _ _ _ d other (c .before .before .before .item-of .ensures)
+    let at-if1 = c .before .before .before .before in
+    c .priority-of .ensures ∙ ranked-read _ _ _ _ _ _ (settled-read _ _ _ _ (at-if1 .before .region-word .ensures) (at-if1 .if1 .left)) (sym (c .before .before .first-loops .ensures) ∙ c .before .if2 .left) (c .before .before .before .item-of .ensures)
 
 pub shown-priority-spec : {M : Type 1} → statement M
 shown-priority-spec =
@@ -73,13 +68,9 @@ shown-priority-spec =
     returns
     item-of-requires
     first-loops-requires
-    cast-owner-of
-    mul-owner-of
-    shared-slice-read-owner-of
+    kind-of-requires
     owner-of-requires
     stuck-priority-requires
     returns-2
-    cast-t15
-    mul-t16
-    shared-slice-read-t7
+    priority-of-requires
     returns-3)

@@ -1,3 +1,4 @@
+use Rattle.compiled.specs.Stretches.{kindsIn, prioritiesIn}
 use denote.Ref.{now}
 use Prim.Native.Nat.{ℕ, _-_, _≤_}
 use native.Mathlib.Omega.{arith}
@@ -14,36 +15,45 @@ use Rattle.game_writer.proofs.write_column.Lts as lts
 use Rattle.game_writer.proofs.column_word.Reads as column-word-reads
 
 abbrev Inv-loop : tie.InvT-loop
-Inv-loop work kinds priorities v known column game₀ start u₀ p₀ game u p =
+Inv-loop work compiled v known column game₀ start u₀ p₀ game u p =
     (u ≤ known)
-    × Writing p (map (shownWord kinds priorities work v column) (from u (known - u))) game start (map (shownWord kinds priorities work v column) (from 0 known)) game₀
+    × Writing p (map (shownWord (kindsIn compiled) (prioritiesIn compiled) work v column) (from u (known - u))) game start (map (shownWord (kindsIn compiled) (prioritiesIn compiled) work v column) (from 0 known)) game₀
 
 abbrev μ-loop : tie.MeasureT-loop
-μ-loop work kinds priorities v known column game₀ start u₀ p₀ game u p = known - u
+μ-loop work compiled v known column game₀ start u₀ p₀ game u p = known - u
 
 -- src/lib.rt:141:5
 loop-holds : tie.Need-loop-holds Inv-loop μ-loop
-loop-holds c = let s = c .before .before .before .before in
-    (omega arith, row-start (shownWord (now (s .args .kinds)) (now (s .args .priorities)) (now (s .args .work)) (s .args .v) (s .args .column)) (s .args .known) 0)
+loop-holds c =
+    let start = c .before .before in
+    (omega arith, row-start (shownWord (kindsIn (now (start .args .compiled))) (prioritiesIn (now (start .args .compiled))) (now (start .args .work)) (start .args .v) (start .args .column)) (start .args .known) 0)
 
 -- src/lib.rt:142:13
 column-word-requires : tie.Need-column-word-requires Inv-loop μ-loop
-column-word-requires c κs = (showing-to (c .before .loop .u) (c .loop-test .taken) (c .before .before .before .before .before .before .pre .0), c .before .before .before .before .before .before .pre .1 .0)
+column-word-requires c κs =
+    let start = c .before .before .before .before in
+    (showing-to (c .before .loop .u) (c .loop-test .taken) (start .pre .0), start .pre .1 .0)
 
 -- src/lib.rt:143:9
 mul-game : tie.Need-mul-game Inv-loop μ-loop
-mul-game c = let s = c .before .before .before .before .before .before .before in
-    omega (arith, row-room (shownWord (now (s .args .kinds)) (now (s .args .priorities)) (now (s .args .work)) (s .args .v) (s .args .column)) (s .args .known) (c .before .before .loop .u) (c .before .loop-test .taken) (s .pre .1 .1) (c .before .before .loop .inv .1))
+mul-game c =
+    let at-loop = c .before .before in
+    let start = at-loop .before .before .before in
+    omega (arith, row-room (shownWord (kindsIn (now (start .args .compiled))) (prioritiesIn (now (start .args .compiled))) (now (start .args .work)) (start .args .v) (start .args .column)) (start .args .known) (at-loop .loop .u) (c .before .loop-test .taken) (start .pre .1 .1) (at-loop .loop .inv .1))
 
 -- src/lib.rt:143:9
 slice-write-game : tie.Need-slice-write-game Inv-loop μ-loop
-slice-write-game c = let s = c .before .before .before .before .before .before .before in
-    row-room (shownWord (now (s .args .kinds)) (now (s .args .priorities)) (now (s .args .work)) (s .args .v) (s .args .column)) (s .args .known) (c .before .before .loop .u) (c .before .loop-test .taken) (s .pre .1 .1) (c .before .before .loop .inv .1)
+slice-write-game c =
+    let at-loop = c .before .before in
+    let start = at-loop .before .before .before in
+    row-room (shownWord (kindsIn (now (start .args .compiled))) (prioritiesIn (now (start .args .compiled))) (now (start .args .work)) (start .args .v) (start .args .column)) (start .args .known) (at-loop .loop .u) (c .before .loop-test .taken) (start .pre .1 .1) (at-loop .loop .inv .1)
 
 -- src/lib.rt:144:9
 add-p : tie.Need-add-p Inv-loop μ-loop
-add-p c = let s = c .before .before .before .before .before .before .before in
-    omega (arith, row-room (shownWord (now (s .args .kinds)) (now (s .args .priorities)) (now (s .args .work)) (s .args .v) (s .args .column)) (s .args .known) (c .before .before .loop .u) (c .before .loop-test .taken) (s .pre .1 .1) (c .before .before .loop .inv .1))
+add-p c =
+    let at-loop = c .before .before in
+    let start = at-loop .before .before .before in
+    omega (arith, row-room (shownWord (kindsIn (now (start .args .compiled))) (prioritiesIn (now (start .args .compiled))) (now (start .args .work)) (start .args .v) (start .args .column)) (start .args .known) (at-loop .loop .u) (c .before .loop-test .taken) (start .pre .1 .1) (at-loop .loop .inv .1))
 
 -- src/lib.rt:145:9
 add-u : tie.Need-add-u Inv-loop μ-loop
@@ -55,10 +65,13 @@ loop-less c = omega arith
 
 -- src/lib.rt:141:5
 loop-again : tie.Need-loop-again Inv-loop μ-loop
-loop-again c = let s = c .before .before .before .before .before .before .before in
-    let f : ℕ → ℕ = shownWord (now (s .args .kinds)) (now (s .args .priorities)) (now (s .args .work)) (s .args .v) (s .args .column) in
-    let room = row-room f (s .args .known) (c .before .before .loop .u) (c .before .loop-test .taken) (s .pre .1 .1) (c .before .before .loop .inv .1) in
-    (omega arith, row-put f (s .args .known) (c .before .before .loop .u) _ (c .column-word .ensures) (c .before .loop-test .taken) room (c .before .before .loop .inv .1))
+loop-again c =
+    let at-loop-test = c .before in
+    let at-loop = at-loop-test .before in
+    let start = at-loop .before .before .before in
+    let f : ℕ → ℕ = shownWord (kindsIn (now (start .args .compiled))) (prioritiesIn (now (start .args .compiled))) (now (start .args .work)) (start .args .v) (start .args .column) in
+    let room = row-room f (start .args .known) (at-loop .loop .u) (at-loop-test .loop-test .taken) (start .pre .1 .1) (at-loop .loop .inv .1) in
+    (omega arith, row-put f (start .args .known) (at-loop .loop .u) _ (c .column-word .ensures) (at-loop-test .loop-test .taken) room (at-loop .loop .inv .1))
 
 -- src/lib.rt:125:1
 same-length : tie.Need-same-length Inv-loop μ-loop
@@ -66,8 +79,10 @@ same-length c = c .before .loop .inv .1 .long
 
 -- src/lib.rt:125:1
 returns : tie.Need-returns Inv-loop μ-loop
-returns c = let s = c .before .before .before .before .before .before in
-    row-done (shownWord (now (s .args .kinds)) (now (s .args .priorities)) (now (s .args .work)) (s .args .v) (s .args .column)) (s .args .known) (c .before .loop .u) (c .loop-test .left) (c .before .loop .inv .1)
+returns c =
+    let at-loop = c .before in
+    let start = at-loop .before .before .before in
+    row-done (shownWord (kindsIn (now (start .args .compiled))) (prioritiesIn (now (start .args .compiled))) (now (start .args .work)) (start .args .v) (start .args .column)) (start .args .known) (at-loop .loop .u) (c .loop-test .left) (at-loop .loop .inv .1)
 
 pub write-column-spec : {M : Type 1} → statement M
 write-column-spec =

@@ -23,35 +23,39 @@ abbrev μ-loop : tie.MeasureT-loop
 
 loop-holds : tie.Need-loop-holds Inv-loop μ-loop
 loop-holds c =
-    let s = c .before .before in
-    (omega arith, below-none (now (s .args .work)) (s .args .v), λ ks ps. offsets-start ks ps (now (s .args .work)) (s .args .v) (s .args .known) (s .pre .1 .0))
+    let start = c .before .before in
+    (omega arith, below-none (now (start .args .work)) (start .args .v), λ ks ps. offsets-start ks ps (now (start .args .work)) (start .args .v) (start .args .known) (start .pre .1 .0))
 
-degree-of-requires : tie.Need-degree-of-requires Inv-loop μ-loop
-degree-of-requires c κs =
-    let p = c .before .before .before .before .pre .0 in
+count-of-requires : tie.Need-count-of-requires Inv-loop μ-loop
+count-of-requires c κs =
+    let start = c .before .before .before .before in
+    let p = start .pre .0 in
     (p .regions, omega (arith, p .known, c .loop-test .taken))
 
 mul-game : tie.Need-mul-game Inv-loop μ-loop
 mul-game c =
-    let s = c .before .before .before .before .before in
-    omega (arith, offsets-room [] [] (now (s .args .work)) (s .args .v) (s .args .known) (s .pre .1 .0) (c .before .before .loop .e) (c .before .before .loop .u) (c .before .before .loop .inv .0) (s .pre .1 .1 .1) (c .before .before .loop .inv .2 [] []), c .before .before .loop .inv .2 [] [] .long)
+    let at-loop = c .before .before in
+    let start = at-loop .before .before .before in
+    omega (arith, offsets-room [] [] (now (start .args .work)) (start .args .v) (start .args .known) (start .pre .1 .0) (at-loop .loop .e) (at-loop .loop .u) (at-loop .loop .inv .0) (start .pre .1 .1 .1) (at-loop .loop .inv .2 [] []), at-loop .loop .inv .2 [] [] .long)
 
 slice-write-game : tie.Need-slice-write-game Inv-loop μ-loop
 slice-write-game c =
-    let s = c .before .before .before .before .before in
-    offsets-room [] [] (now (s .args .work)) (s .args .v) (s .args .known) (s .pre .1 .0) (c .before .before .loop .e) (c .before .before .loop .u) (c .before .before .loop .inv .0) (s .pre .1 .1 .1) (c .before .before .loop .inv .2 [] [])
+    let at-loop = c .before .before in
+    let start = at-loop .before .before .before in
+    offsets-room [] [] (now (start .args .work)) (start .args .v) (start .args .known) (start .pre .1 .0) (at-loop .loop .e) (at-loop .loop .u) (at-loop .loop .inv .0) (start .pre .1 .1 .1) (at-loop .loop .inv .2 [] [])
 
 add-p : tie.Need-add-p Inv-loop μ-loop
 add-p c =
-    let s = c .before .before .before .before .before in
-    omega (arith, offsets-room [] [] (now (s .args .work)) (s .args .v) (s .args .known) (s .pre .1 .0) (c .before .before .loop .e) (c .before .before .loop .u) (c .before .before .loop .inv .0) (s .pre .1 .1 .1) (c .before .before .loop .inv .2 [] []), c .before .before .loop .inv .2 [] [] .long)
+    let at-loop = c .before .before in
+    let start = at-loop .before .before .before in
+    omega (arith, offsets-room [] [] (now (start .args .work)) (start .args .v) (start .args .known) (start .pre .1 .0) (at-loop .loop .e) (at-loop .loop .u) (at-loop .loop .inv .0) (start .pre .1 .1 .1) (at-loop .loop .inv .2 [] []), at-loop .loop .inv .2 [] [] .long)
 
 add-e : tie.Need-add-e Inv-loop μ-loop
 add-e c =
-    let s = c .before .before .before .before .before in
+    let start = c .before .before .before .before .before in
     let l = c .before .before .loop in
-    let most = below-most [] [] (now (s .args .work)) (s .args .v) (s .args .known) (s .pre .1 .0) (l .u) in
-    omega (arith, most (c .before .loop-test .taken), l .inv .1, c .degree-of .ensures, s .pre .1 .1 .0)
+    let most = below-most [] [] (now (start .args .work)) (start .args .v) (start .args .known) (start .pre .1 .0) (l .u) in
+    omega (arith, most (c .before .loop-test .taken), l .inv .1, c .count-of .ensures, start .pre .1 .1 .0)
 
 add-u : tie.Need-add-u Inv-loop μ-loop
 add-u c = omega arith
@@ -61,39 +65,44 @@ loop-less c = omega arith
 
 loop-again : tie.Need-loop-again Inv-loop μ-loop
 loop-again c =
-    let s = c .before .before .before .before .before in
+    let start = c .before .before .before .before .before in
     let l = c .before .before .loop in
-    let room = offsets-room [] [] (now (s .args .work)) (s .args .v) (s .args .known) (s .pre .1 .0) (l .e) (l .u) (l .inv .0) (s .pre .1 .1 .1) (l .inv .2 [] []) in (
+    let room = offsets-room [] [] (now (start .args .work)) (start .args .v) (start .args .known) (start .pre .1 .0) (l .e) (l .u) (l .inv .0) (start .pre .1 .1 .1) (l .inv .2 [] []) in (
       omega arith,
-      below-more (now (s .args .work)) (s .args .v) (l .u) (l .e) _ (l .inv .1) (c .degree-of .ensures),
-      λ ks ps. offsets-put ks ps (now (s .args .work)) (s .args .v) (s .args .known) (s .pre .1 .0) (l .e) (l .u) _
-          (c .degree-of .ensures) (c .before .loop-test .taken) room (l .inv .2 ks ps),
+      below-more (now (start .args .work)) (start .args .v) (l .u) (l .e) _ (l .inv .1) (c .count-of .ensures),
+      λ ks ps. offsets-put ks ps (now (start .args .work)) (start .args .v) (start .args .known) (start .pre .1 .0) (l .e) (l .u) _
+          (c .count-of .ensures) (c .before .loop-test .taken) room (l .inv .2 ks ps),
     )
 
 mul-game-2 : tie.Need-mul-game-2 Inv-loop μ-loop
 mul-game-2 c =
-    let s = c .before .before .before .before in
-    omega (arith, offsets-room [] [] (now (s .args .work)) (s .args .v) (s .args .known) (s .pre .1 .0) (c .before .loop .e) (c .before .loop .u) (c .before .loop .inv .0) (s .pre .1 .1 .1) (c .before .loop .inv .2 [] []), c .before .loop .inv .2 [] [] .long)
+    let at-loop = c .before in
+    let start = at-loop .before .before .before in
+    omega (arith, offsets-room [] [] (now (start .args .work)) (start .args .v) (start .args .known) (start .pre .1 .0) (at-loop .loop .e) (at-loop .loop .u) (at-loop .loop .inv .0) (start .pre .1 .1 .1) (at-loop .loop .inv .2 [] []), at-loop .loop .inv .2 [] [] .long)
 
 slice-write-game-2 : tie.Need-slice-write-game-2 Inv-loop μ-loop
 slice-write-game-2 c =
-    let s = c .before .before .before .before in
-    offsets-room [] [] (now (s .args .work)) (s .args .v) (s .args .known) (s .pre .1 .0) (c .before .loop .e) (c .before .loop .u) (c .before .loop .inv .0) (s .pre .1 .1 .1) (c .before .loop .inv .2 [] [])
+    let at-loop = c .before in
+    let start = at-loop .before .before .before in
+    offsets-room [] [] (now (start .args .work)) (start .args .v) (start .args .known) (start .pre .1 .0) (at-loop .loop .e) (at-loop .loop .u) (at-loop .loop .inv .0) (start .pre .1 .1 .1) (at-loop .loop .inv .2 [] [])
 
 add-result : tie.Need-add-result Inv-loop μ-loop
 add-result c =
-    let s = c .before .before .before .before in
-    omega (arith, offsets-room [] [] (now (s .args .work)) (s .args .v) (s .args .known) (s .pre .1 .0) (c .before .loop .e) (c .before .loop .u) (c .before .loop .inv .0) (s .pre .1 .1 .1) (c .before .loop .inv .2 [] []), c .before .loop .inv .2 [] [] .long)
+    let at-loop = c .before in
+    let start = at-loop .before .before .before in
+    omega (arith, offsets-room [] [] (now (start .args .work)) (start .args .v) (start .args .known) (start .pre .1 .0) (at-loop .loop .e) (at-loop .loop .u) (at-loop .loop .inv .0) (start .pre .1 .1 .1) (at-loop .loop .inv .2 [] []), at-loop .loop .inv .2 [] [] .long)
 
 same-length : tie.Need-same-length Inv-loop μ-loop
-same-length c = length-set {A = ℕ} (c .before .loop .game) (c .before .loop .p) (c .before .loop .e) ∙ c .before .loop .inv .2 [] [] .long
+same-length c =
+    let at-loop = c .before in
+    length-set {A = ℕ} (at-loop .loop .game) (at-loop .loop .p) (at-loop .loop .e) ∙ at-loop .loop .inv .2 [] [] .long
 
 returns : tie.Need-returns Inv-loop μ-loop
 returns c =
-    let s = c .before .before .before .before in
+    let start = c .before .before .before .before in
     let l = c .before .loop in
-    let room = offsets-room [] [] (now (s .args .work)) (s .args .v) (s .args .known) (s .pre .1 .0) (l .e) (l .u) (l .inv .0) (s .pre .1 .1 .1) (l .inv .2 [] []) in
-    λ ks ps. offsets-done ks ps (now (s .args .work)) (s .args .v) (s .args .known) (s .pre .1 .0) (l .e) (l .u) (c .loop-test .left) room (l .inv .2 ks ps)
+    let room = offsets-room [] [] (now (start .args .work)) (start .args .v) (start .args .known) (start .pre .1 .0) (l .e) (l .u) (l .inv .0) (start .pre .1 .1 .1) (l .inv .2 [] []) in
+    λ ks ps. offsets-done ks ps (now (start .args .work)) (start .args .v) (start .args .known) (start .pre .1 .0) (l .e) (l .u) (c .loop-test .left) room (l .inv .2 ks ps)
 
 pub write-offsets-spec : {M : Type 1} → statement M
 write-offsets-spec =
@@ -102,7 +111,7 @@ write-offsets-spec =
     Inv-loop
     μ-loop
     loop-holds
-    degree-of-requires
+    count-of-requires
     mul-game
     slice-write-game
     add-p

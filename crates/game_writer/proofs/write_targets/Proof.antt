@@ -19,19 +19,20 @@ abbrev μ-loop : tie.MeasureT-loop
 
 loop-holds : tie.Need-loop-holds Inv-loop μ-loop
 loop-holds c =
-    let s = c .before .before in
-    (omega arith, λ ks ps. targets-start ks ps (now (s .args .work)) (s .args .v) (s .args .known) (s .pre .1 .0))
+    let start = c .before .before in
+    (omega arith, λ ks ps. targets-start ks ps (now (start .args .work)) (start .args .v) (start .args .known) (start .pre .1 .0))
 
 write-edges-requires : tie.Need-write-edges-requires Inv-loop μ-loop
 write-edges-requires c κs =
-    let s = c .before .before .before .before .before in
+    let at-loop = c .before .before in
+    let start = at-loop .before .before .before in
     let t = c .before .loop-test .taken in (
       (
-        s .pre .0 .regions,
-        omega (arith, s .pre .0 .known, t),
-        targets-room [] [] (now (s .args .work)) (s .args .v) (s .args .known) (s .pre .1 .0) (c .before .before .loop .u) t (s .pre .1 .1) (c .before .before .loop .inv .1 [] []),
+        start .pre .0 .regions,
+        omega (arith, start .pre .0 .known, t),
+        targets-room [] [] (now (start .args .work)) (start .args .v) (start .args .known) (start .pre .1 .0) (at-loop .loop .u) t (start .pre .1 .1) (at-loop .loop .inv .1 [] []),
       ),
-      s .pre .1 .0 .stretch _ t,
+      start .pre .1 .0 .stretch _ t,
     )
 
 add-u : tie.Need-add-u Inv-loop μ-loop
@@ -42,10 +43,11 @@ loop-less c = omega arith
 
 loop-again : tie.Need-loop-again Inv-loop μ-loop
 loop-again c =
-    let s = c .before .before .before .before .before .before .before .before in
-    let l = c .before .before .before .before .before .loop in (
+    let at-write-edges = c .before .before in
+    let start = at-write-edges .before .before .before .before .before .before in
+    let l = at-write-edges .before .before .before .loop in (
       omega arith,
-      λ ks ps. targets-put ks ps (now (s .args .work)) (s .args .v) (s .args .known) (s .pre .1 .0) (l .u) (c .before .before .before .before .loop-test .taken) (c .before .before .write-edges .kept .1 .1 .1 .0) (c .before .before .write-edges .ensures) (l .inv .1 ks ps),
+      λ ks ps. targets-put ks ps (now (start .args .work)) (start .args .v) (start .args .known) (start .pre .1 .0) (l .u) (at-write-edges .before .before .loop-test .taken) (at-write-edges .write-edges .kept .1 .1 .1 .0) (at-write-edges .write-edges .ensures) (l .inv .1 ks ps),
     )
 
 same-length : tie.Need-same-length Inv-loop μ-loop
@@ -53,8 +55,9 @@ same-length c = c .before .loop .inv .1 [] [] .long
 
 returns : tie.Need-returns Inv-loop μ-loop
 returns c =
-    let s = c .before .before .before .before in
-    λ ks ps. targets-done ks ps (now (s .args .work)) (s .args .v) (s .args .known) (s .pre .1 .0) (c .before .loop .u) (c .loop-test .left) (c .before .loop .inv .1 ks ps)
+    let at-loop = c .before in
+    let start = at-loop .before .before .before in
+    λ ks ps. targets-done ks ps (now (start .args .work)) (start .args .v) (start .args .known) (start .pre .1 .0) (at-loop .loop .u) (c .loop-test .left) (at-loop .loop .inv .1 ks ps)
 
 pub write-targets-spec : {M : Type 1} → statement M
 write-targets-spec =

@@ -12,14 +12,8 @@ slice-aggregate-read-full c = search needs
 read-full-requires : tie.Need-read-full-requires
 read-full-requires c κs = search needs
 
-array-share-prefix-bytes : tie.Need-array-share-prefix-bytes
-array-share-prefix-bytes c = search needs
-
 slice-aggregate-put-text : tie.Need-slice-aggregate-put-text
 slice-aggregate-put-text c = search needs
-
-slice-aggregate-put-text-2 : tie.Need-slice-aggregate-put-text-2
-slice-aggregate-put-text-2 c = search needs
 
 put-text-requires : tie.Need-put-text-requires
 unfolding gateTextLength
@@ -43,9 +37,7 @@ main-spec =
     (tie.spec
     slice-aggregate-read-full
     read-full-requires
-    array-share-prefix-bytes
     slice-aggregate-put-text
-    slice-aggregate-put-text-2
     put-text-requires
     array-share-prefix-text
     slice-aggregate-write-all

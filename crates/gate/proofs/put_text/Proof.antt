@@ -1,15 +1,13 @@
 -- `put_text` meets its contract: the slice is long enough, so the text is written and no other answer is given. Assumes
 -- nothing.
-use mathlib.Core.Path.{_∙_}
 use denote.Ref.{now}
-use Rattle.rules.specs.Program.{printed, gateTextLength, programText}
-use Rattle.text_writer.proofs.Endings.{text-front, text-done, text-not-cut, text-not-refused}
 use borrow.Author.Needs.{needs}
+use Rattle.gate.proofs.Fronts.{front-done, front-not-cut, front-not-refused}
 use Rattle.gate.proofs.put_text.Statement.{statement}
 use Rattle.gate.proofs.put_text.Tie as tie
 
-gate-requires : tie.Need-gate-requires
-gate-requires c κs = search needs
+gate-buffer-requires : tie.Need-gate-buffer-requires
+gate-buffer-requires c κs = search needs
 
 enum-known-n : tie.Need-enum-known-n
 enum-known-n c = search needs
@@ -27,44 +25,46 @@ same-length : tie.Need-same-length
 same-length c = search needs
 
 returns : tie.Need-returns
-unfolding programText
 returns c =
-    let s = c .before .before .before .before .before .before .before .before .before .before in
-    let t = printed (now (s .args .bytes)) in
-    let g = c .before .before .before .before .before .before .gate in
-    let d = text-done gateTextLength t (now (s .args .text)) (g .result) _ (s .pre) (g .ensures) in
-    let n = d _ _ _ (c .before .before .n .given .1) in
-    text-front gateTextLength t (now (s .args .text)) (g .result) _ (s .pre) (g .ensures) _ (c .size .ensures ∙ n)
+    let told = c .before .before in
+    let call = told .before .before .before .before in
+    let start = call .before .before .before in
+    front-done (now (start .args .buffer)) (now (start .args .text)) _ (start .args .count) (call .gate-buffer .result)
+    (start .pre .0) (start .pre .1) (call .gate-buffer .ensures) _ _ _ (told .n .given .1) _ (c .size .ensures)
 
 same-length-2 : tie.Need-same-length-2
 same-length-2 c = search needs
 
 returns-2 : tie.Need-returns-2
-unfolding programText
 returns-2 c =
-    let s = c .before .before .before .before .before .before .before .before .before in
-    let t = printed (now (s .args .bytes)) in
-    let g = c .before .before .before .before .before .gate in
-    let no = text-not-cut gateTextLength t (now (s .args .text)) (g .result) _ (s .pre) (g .ensures) in
-    absurd (no _ _ _ (c .before .n2 .given .1))
+    let told = c .before in
+    let call = told .before .before .before .before in
+    let start = call .before .before .before in
+    let no =
+    front-not-cut (now (start .args .buffer)) (now (start .args .text)) _ (start .args .count)
+    (call .gate-buffer .result) (start .pre .0) (start .pre .1) (call .gate-buffer .ensures)
+    in
+    absurd (no _ _ _ (told .n2 .given .1))
 
 same-length-3 : tie.Need-same-length-3
 same-length-3 c = search needs
 
 returns-3 : tie.Need-returns-3
-unfolding programText
 returns-3 c =
-    let s = c .before .before .before .before .before .before .before .before .before in
-    let t = printed (now (s .args .bytes)) in
-    let g = c .before .before .before .before .before .gate in
-    let no = text-not-refused gateTextLength t (now (s .args .text)) (g .result) _ (s .pre) (g .ensures) in
-    absurd (no _ _ (c .before .n3 .given .1))
+    let told = c .before in
+    let call = told .before .before .before .before in
+    let start = call .before .before .before in
+    let no =
+    front-not-refused (now (start .args .buffer)) (now (start .args .text)) _ (start .args .count)
+    (call .gate-buffer .result) (start .pre .0) (start .pre .1) (call .gate-buffer .ensures)
+    in
+    absurd (no _ _ (told .n3 .given .1))
 
 pub put-text-spec : {M : Type 1} → statement M
 put-text-spec =
     tie.close
     (tie.spec
-    gate-requires
+    gate-buffer-requires
     enum-known-n
     size-requires
     enum-known-n-2

@@ -30,7 +30,10 @@ add-result-4 : tie.Need-add-result-4
 add-result-4 c = search needs
 
 returns : tie.Need-returns
-returns c = agree-by (now (c .before .before .before .before .before .args .words)) _ _ _ _ _ (c .before .before .before .at .ensures .0) (c .before .before .at2 .ensures .0) (c .before .at3 .ensures .0) (c .at4 .ensures .0) (c .before .before .before .before .before .pre)
+returns c =
+    let start = c .before .before .before .before .before in
+    agree-by (now (start .args .words)) _ _ _ _ _ (c .before .before .before .at .ensures .0)
+    (c .before .before .at2 .ensures .0) (c .before .at3 .ensures .0) (c .at4 .ensures .0) (start .pre)
 
 pub lengths-agree-spec : {M : Type 1} → statement M
 lengths-agree-spec =

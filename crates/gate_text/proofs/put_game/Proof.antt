@@ -12,25 +12,29 @@ use Rattle.gate_text.proofs.put_game.Tie as tie
 
 put-line-requires : tie.Need-put-line-requires
 put-line-requires c κs =
-    let s = c .before .before .before .before .before in
-    let g = now (s .args .game) in
-    let first = line (now (s .args .name)) (now (s .args .numbers)) in
-    omega (arith, s .pre .1, length-append first (vertexLines g 0 (vertexCount g)))
+    let start = c .before .before .before .before .before in
+    let g = now (start .args .game) in
+    let first = line (now (start .args .name)) (now (start .args .numbers)) in
+    omega (arith, start .pre .1, length-append first (vertexLines g 0 (vertexCount g)))
 
 put-vertices-requires : tie.Need-put-vertices-requires
 put-vertices-requires c κs =
-    let s = c .before .before .before .before .before .before .before .before .before in
-    let g = now (s .args .game) in
-    let first = line (now (s .args .name)) (now (s .args .numbers)) in
+    let start = c .before .before .before .before .before .before .before .before .before in
+    let g = now (start .args .game) in
+    let first = line (now (start .args .name)) (now (start .args .numbers)) in
     let p = c .before .before .before .put-line in
     let l = length-append first (vertexLines g 0 (vertexCount g)) in
-    (s .pre .0, omega (arith, s .pre .1, l, p .ensures .past, p .kept .0))
+    (start .pre .0, omega (arith, start .pre .1, l, p .ensures .past, p .kept .0))
 
 same-length : tie.Need-same-length
-same-length c = c .before .before .put-vertices .kept .0 ∙ c .before .before .before .before .before .before .put-line .kept .0
+same-length c =
+    let at-put-line = c .before .before .before .before .before .before in
+    c .before .before .put-vertices .kept .0 ∙ at-put-line .put-line .kept .0
 
 returns : tie.Need-returns
-returns c = wrote-both (c .before .before .before .before .before .before .put-line .ensures) (c .before .before .put-vertices .ensures)
+returns c =
+    let at-put-line = c .before .before .before .before .before .before in
+    wrote-both (at-put-line .put-line .ensures) (c .before .before .put-vertices .ensures)
 
 pub put-game-spec : {M : Type 1} → statement M
 put-game-spec = tie.close (tie.spec put-line-requires put-vertices-requires same-length returns)

@@ -20,24 +20,27 @@ enum-known-read c = search needs
 
 array-share-prefix-ws : tie.Need-array-share-prefix-ws
 array-share-prefix-ws c =
-    let d = c .before .before .before .before .decode in
+    let at-decode = c .before .before .before .before in
+    let d = at-decode .decode in
     let n = c .before .read .given in
     omega (arith, read-count (d .result) (n .0 .0) (n .1) (d .ensures .1), d .kept .1 .0)
 
 slice-aggregate-run-words : tie.Need-slice-aggregate-run-words
 slice-aggregate-run-words c =
-    let d = c .before .before .before .before .before .decode in
+    let at-decode = c .before .before .before .before .before in
+    let d = at-decode .decode in
     let n = c .before .before .read .given in
     let few = read-count (d .result) (n .0 .0) (n .1) (d .ensures .1) in
     sym (length-take-le (n .0 .0) (d .last .1 .0) (omega (arith, few, d .kept .1 .0)))
 
 run-words-requires : tie.Need-run-words-requires
 run-words-requires c κs =
-    let s = c .before .before .before .before .before .before .before .before .before .before in
-    let b = s .args .bytes .now in
-    let d = c .before .before .before .before .before .before .decode in
+    let at-decode = c .before .before .before .before .before .before in
+    let start = at-decode .before .before .before .before in
+    let b = start .args .bytes .now in
+    let d = at-decode .decode in
     let n = c .before .before .before .read .given in
-    (read-agrees b (d .last .1 .0) (d .result) (d .ensures .0) (n .0 .0) (n .1), s .pre)
+    (read-agrees b (d .last .1 .0) (d .result) (d .ensures .0) (n .0 .0) (n .1), start .pre)
 
 enum-told : tie.Need-enum-told
 enum-told c = search needs
@@ -50,23 +53,26 @@ slice-aggregate-put-line-2 c = search needs
 
 put-line-requires : tie.Need-put-line-requires
 put-line-requires c κs =
-    let s = c .before .before .before .before .before .before .before .before .before .before in
-    let b = s .args .bytes .now in
-    let d = c .before .before .before .before .before .before .decode in
+    let at-decode = c .before .before .before .before .before .before in
+    let start = at-decode .before .before .before .before in
+    let b = start .args .bytes .now in
+    let d = at-decode .decode in
     let u = c .before .before .before .enum-told .given .1 in
-    unreadable-room b (d .last .1 .0) (d .result) (d .ensures .0) u _ (s .pre)
+    unreadable-room b (d .last .1 .0) (d .result) (d .ensures .0) u _ (start .pre)
 
 same-length : tie.Need-same-length
 same-length c = c .before .before .run-words .kept .1 .0
 
 returns : tie.Need-returns
 returns c =
+    let at-read = c .before .before .before .before .before .before in
+    let start = at-read .before .before .before .before .before .before .before in
     let s =
-    c .before .before .before .before .before .before .before .before .before .before .before .before .before
+    start
     in
     let b = s .args .bytes .now in
-    let d = c .before .before .before .before .before .before .before .before .before .decode in
-    let n = c .before .before .before .before .before .before .read .given in
+    let d = at-read .before .before .before .decode in
+    let n = at-read .read .given in
     wrote-as
     (read-printed b (d .last .1 .0) (d .result) (d .ensures .0) (n .0 .0) (n .1))
     (c .before .before .run-words .ensures)
@@ -76,12 +82,14 @@ same-length-2 c = c .before .before .put-line .kept .0
 
 returns-2 : tie.Need-returns-2
 returns-2 c =
+    let at-enum-told = c .before .before .before .before .before .before in
+    let start = at-enum-told .before .before .before .before .before .before .before in
     let s =
-    c .before .before .before .before .before .before .before .before .before .before .before .before .before
+    start
     in
     let b = s .args .bytes .now in
-    let d = c .before .before .before .before .before .before .before .before .before .decode in
-    let u = c .before .before .before .before .before .before .enum-told .given .1 in
+    let d = at-enum-told .before .before .before .decode in
+    let u = at-enum-told .enum-told .given .1 in
     wrote-as (unreadable-printed b (d .last .1 .0) (d .result) (d .ensures .0) u) (c .before .before .put-line .ensures)
 
 pub put-program-spec : {M : Type 1} → statement M

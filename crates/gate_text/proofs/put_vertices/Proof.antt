@@ -10,7 +10,9 @@ use Rattle.gate_text.proofs.put_vertices.Statement.{statement}
 use Rattle.gate_text.proofs.put_vertices.Tie as tie
 
 abbrev Inv-loop : tie.InvT-loop
-Inv-loop text₀ start game n v₀ p₀ text v p = (v ≤ n) × Writing p (vertexLines game v (vertexCount game - v)) text start (vertexLines game 0 (vertexCount game)) text₀
+Inv-loop text₀ start game n v₀ p₀ text v p =
+    (v ≤ n) × Writing p (vertexLines game v (vertexCount game - v)) text start (vertexLines game 0 (vertexCount game))
+    text₀
 
 abbrev μ-loop : tie.MeasureT-loop
 μ-loop text₀ start game n v₀ p₀ text v p = n - v
@@ -22,22 +24,49 @@ loop-holds : tie.Need-loop-holds Inv-loop μ-loop
 loop-holds c = (omega arith, lines-start _ _ _)
 
 put-vertex-requires : tie.Need-put-vertex-requires Inv-loop μ-loop
-put-vertex-requires c κs = let h : c .before .before .loop .v < vertexCount (now (c .before .before .before .before .before .before .args .game)) = omega (arith, c .before .before .before .at .ensures .0, c .before .loop-test .taken) in (c .before .before .before .before .before .before .pre .0, (h, lines-room (now (c .before .before .before .before .before .before .args .game)) (c .before .before .loop .v) h (c .before .before .before .before .before .before .pre .1) (c .before .before .loop .inv .1)))
+put-vertex-requires c κs =
+    let at-loop = c .before .before in
+    let start = at-loop .before .before .before .before in
+    let h : at-loop .loop .vertex < vertexCount (now (start .args .game)) = omega
+    (arith, at-loop .before .at .ensures .0, c .before .loop-test .taken)
+    in (
+      start .pre .0,
+      (
+        h,
+        lines-room (now (start .args .game)) (at-loop .loop .vertex) h (start .pre .1)
+            (at-loop .loop .inv .1),
+      ),
+    )
 
-add-v : tie.Need-add-v Inv-loop μ-loop
-add-v c = omega arith
+add-vertex : tie.Need-add-vertex Inv-loop μ-loop
+add-vertex c = omega arith
 
 loop-less : tie.Need-loop-less Inv-loop μ-loop
 loop-less c = omega arith
 
 loop-again : tie.Need-loop-again Inv-loop μ-loop
-loop-again c = let h : c .before .before .before .before .before .loop .v < vertexCount (now (c .before .before .before .before .before .before .before .before .before .args .game)) = omega (arith, c .before .before .before .before .before .before .at .ensures .0, c .before .before .before .before .loop-test .taken) in (omega arith, lines-put (now (c .before .before .before .before .before .before .before .before .before .args .game)) (c .before .before .before .before .before .loop .v) h (c .before .before .put-vertex .kept .0) (c .before .before .put-vertex .ensures) (c .before .before .before .before .before .loop .inv .1))
+loop-again c =
+    let at-put-vertex = c .before .before in
+    let at-loop = at-put-vertex .before .before .before in
+    let start = at-loop .before .before .before .before in
+    let h : at-loop .loop .vertex < vertexCount (now (start .args .game)) = omega
+    (arith, at-loop .before .at .ensures .0, at-put-vertex .before .before .loop-test .taken)
+    in (
+      omega arith,
+      lines-put (now (start .args .game)) (at-loop .loop .vertex) h (at-put-vertex .put-vertex .kept .0)
+          (at-put-vertex .put-vertex .ensures) (at-loop .loop .inv .1),
+    )
 
 same-length : tie.Need-same-length Inv-loop μ-loop
 same-length c = c .before .loop .inv .1 .long
 
 returns : tie.Need-returns Inv-loop μ-loop
-returns c = let h : vertexCount (now (c .before .before .before .before .before .args .game)) ≤ c .before .loop .v = omega (arith, c .before .before .at .ensures .0, c .loop-test .left) in lines-done (now (c .before .before .before .before .before .args .game)) (c .before .loop .v) h (c .before .loop .inv .1)
+returns c =
+    let at-loop = c .before in
+    let start = at-loop .before .before .before .before in
+    let h : vertexCount (now (start .args .game)) ≤ at-loop .loop .vertex = omega
+    (arith, at-loop .before .at .ensures .0, c .loop-test .left) in lines-done (now (start .args .game))
+    (at-loop .loop .vertex) h (at-loop .loop .inv .1)
 
 pub put-vertices-spec : {M : Type 1} → statement M
 put-vertices-spec =
@@ -48,7 +77,7 @@ put-vertices-spec =
     at-requires
     loop-holds
     put-vertex-requires
-    add-v
+    add-vertex
     loop-less
     loop-again
     same-length

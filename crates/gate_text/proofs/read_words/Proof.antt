@@ -1,4 +1,5 @@
--- `read_words` meets its contract: the words read, followed by the words of the bytes that are left, are the words of the bytes. Assumes nothing.
+-- `read_words` meets its contract: the words read, followed by the words of the bytes that are left, are the words of
+-- the bytes. Assumes nothing.
 use mathlib.Core.Path.{_≡_, refl, subst}
 use Prim.Native.Nat.{ℕ, _*_, _-_, _/_, _≤_}
 use native.Mathlib.Nat.{le-antisymm}
@@ -16,7 +17,9 @@ abbrev μ-loop : tie.MeasureT-loop
 μ-loop bytes words₀ n i₀ words i = n - i
 
 loop-holds : tie.Need-loop-holds Inv-loop μ-loop
-loop-holds c = (omega arith, refl, read-start (c .before .before .args .bytes .now) (c .before .before .args .words .now))
+loop-holds c =
+    let start = c .before .before in
+    (omega arith, refl, read-start (start .args .bytes .now) (start .args .words .now))
 
 mul-word-at : tie.Need-mul-word-at Inv-loop μ-loop
 mul-word-at c = omega arith
@@ -37,13 +40,28 @@ loop-less : tie.Need-loop-less Inv-loop μ-loop
 loop-less c = omega arith
 
 loop-again : tie.Need-loop-again Inv-loop μ-loop
-loop-again c = (omega arith, simp length-set (c .before .before .loop .inv .1), read-more (c .before .before .before .before .before .args .bytes .now) (c .before .before .loop .words) (c .before .before .loop .i) _ _ (c .word-at .ensures) (omega arith) (omega arith) (c .before .before .loop .inv .2))
+loop-again c =
+    let at-loop = c .before .before in (
+      omega arith,
+      simp length-set (at-loop .loop .inv .1),
+      read-more
+          (at-loop .before .before .before .args .bytes .now) (at-loop .loop .words) (at-loop .loop .i) _ _
+          (c .word-at .ensures) (omega arith) (omega arith) (at-loop .loop .inv .2),
+    )
 
 same-length : tie.Need-same-length Inv-loop μ-loop
 same-length c = c .before .loop .inv .1
 
 returns : tie.Need-returns Inv-loop μ-loop
-returns c = (omega arith, read-done (c .before .before .before .before .args .bytes .now) (c .before .loop .words) (length (c .before .before .before .before .args .bytes .now) / 4) _ (omega arith) (subst (λ (m : ℕ). wordsOf (c .before .before .before .before .args .bytes .now) ≡ followed (take m (c .before .loop .words)) (wordsOf (drop (4 * m) (c .before .before .before .before .args .bytes .now)))) (le-antisymm (c .before .loop .inv .0) (c .loop-test .left)) (c .before .loop .inv .2)))
+returns c =
+    let at-loop = c .before in
+    let start = at-loop .before .before .before in (
+      omega arith,
+      read-done (start .args .bytes .now) (at-loop .loop .words) (length (start .args .bytes .now) / 4) _
+          (omega arith) (subst (λ (m : ℕ). wordsOf (start .args .bytes .now) ≡ followed (take m (at-loop .loop .words))
+          (wordsOf (drop (4 * m) (start .args .bytes .now)))) (le-antisymm (at-loop .loop .inv .0) (c .loop-test .left))
+          (at-loop .loop .inv .2)),
+    )
 
 pub read-words-spec : {M : Type 1} → statement M
 read-words-spec =

@@ -23,10 +23,11 @@ slice-aggregate-print c = search needs
 print-requires : tie.Need-print-requires
 unfolding gateRun gateRoom gateSteps gameLength workLength
 print-requires c κs =
-    let s = c .before .before .before .before .before .before .before .before .before .before .before .before in
-    let x = inputOf (now (s .args .labels)) (now (s .args .system)) (now (s .args .actions)) (now (s .args .formula)) in
-    let t = c .before .before .before .before .translate in
-    (run-room x (t .result) _ _ (t .ensures .0) _ (s .pre), game-shown x (t .result) _ _ (t .ensures .0))
+    let at-translate = c .before .before .before .before in
+    let start = at-translate .before .before .before .before .before .before .before .before in
+    let x = inputOf (now (start .args .labels)) (now (start .args .system)) (now (start .args .actions)) (now (start .args .formula)) in
+    let t = at-translate .translate in
+    (run-room x (t .result) _ _ (t .ensures .0) _ (start .pre), game-shown x (t .result) _ _ (t .ensures .0))
 
 same-length : tie.Need-same-length
 same-length c = search needs
@@ -34,10 +35,10 @@ same-length c = search needs
 returns : tie.Need-returns
 unfolding gateRun gateRoom gateSteps gameLength workLength
 returns c =
-    let before = c .before .before .before .before .before .before .before in
-    let s = before .before .before .before .before .before .before .before .before in
-    let x = inputOf (now (s .args .labels)) (now (s .args .system)) (now (s .args .actions)) (now (s .args .formula)) in
-    let t = before .translate in
+    let at-translate = c .before .before .before .before .before .before .before in
+    let start = at-translate .before .before .before .before .before .before .before .before in
+    let x = inputOf (now (start .args .labels)) (now (start .args .system)) (now (start .args .actions)) (now (start .args .formula)) in
+    let t = at-translate .translate in
     wrote-as (run-printed x (t .result) _ _ (t .ensures .0)) (c .before .before .print .ensures)
 
 pub run-input-spec : {M : Type 1} → statement M

@@ -11,22 +11,28 @@ use Rattle.gate_text.proofs.run_words.Statement.{statement}
 use Rattle.gate_text.proofs.run_words.Tie as tie
 
 at-requires : tie.Need-at-requires
-at-requires c κs = omega (arith, four-words (now (c .before .before .args .ws)) (c .before .before .pre .0))
+at-requires c κs =
+    let start = c .before .before in
+    omega (arith, four-words (now (start .args .ws)) (start .pre .0))
 
-add-a : tie.Need-add-a
-add-a c = search needs
+add-labels-end : tie.Need-add-labels-end
+add-labels-end c = search needs
 
 at-requires-2 : tie.Need-at-requires-2
-at-requires-2 c κs = omega (arith, four-words (now (c .before .before .before .args .ws)) (c .before .before .before .pre .0))
+at-requires-2 c κs =
+    let start = c .before .before .before in
+    omega (arith, four-words (now (start .args .ws)) (start .pre .0))
 
-add-b : tie.Need-add-b
-add-b c = search needs
+add-system-end : tie.Need-add-system-end
+add-system-end c = search needs
 
 at-requires-3 : tie.Need-at-requires-3
-at-requires-3 c κs = omega (arith, four-words (now (c .before .before .before .before .args .ws)) (c .before .before .before .before .pre .0))
+at-requires-3 c κs =
+    let start = c .before .before .before .before in
+    omega (arith, four-words (now (start .args .ws)) (start .pre .0))
 
-add-c : tie.Need-add-c
-add-c c = search needs
+add-actions-end : tie.Need-add-actions-end
+add-actions-end c = search needs
 
 sub-run-input : tie.Need-sub-run-input
 sub-run-input c = search needs
@@ -35,7 +41,9 @@ part-run-input-start : tie.Need-part-run-input-start
 part-run-input-start c = search needs
 
 part-run-input-end : tie.Need-part-run-input-end
-part-run-input-end c = omega (arith, all-words (now (c .before .before .before .before .before .args .ws)) (c .before .before .before .before .before .pre .0), c .before .before .at .ensures .0, c .before .at2 .ensures .0, c .at3 .ensures .0)
+part-run-input-end c =
+    let start = c .before .before .before .before .before in
+    omega (arith, all-words (now (start .args .ws)) (start .pre .0), c .before .before .at .ensures .0, c .before .at2 .ensures .0, c .at3 .ensures .0)
 
 mul-run-input : tie.Need-mul-run-input
 mul-run-input c = search needs
@@ -47,7 +55,15 @@ part-run-input-start-2 : tie.Need-part-run-input-start-2
 part-run-input-start-2 c = search needs
 
 part-run-input-end-2 : tie.Need-part-run-input-end-2
-part-run-input-end-2 c = omega (arith, all-words (now (c .before .before .before .before .before .before .args .ws)) (c .before .before .before .before .before .before .pre .0), c .before .before .before .at .ensures .0, c .before .before .at2 .ensures .0, c .before .at3 .ensures .0)
+part-run-input-end-2 c =
+    let start = c .before .before .before .before .before .before in
+    omega (
+      arith,
+      all-words (now (start .args .ws)) (start .pre .0),
+      c .before .before .before .at .ensures .0,
+      c .before .before .at2 .ensures .0,
+      c .before .at3 .ensures .0,
+    )
 
 mul-run-input-2 : tie.Need-mul-run-input-2
 mul-run-input-2 c = search needs
@@ -59,16 +75,43 @@ part-run-input-start-3 : tie.Need-part-run-input-start-3
 part-run-input-start-3 c = search needs
 
 part-run-input-end-3 : tie.Need-part-run-input-end-3
-part-run-input-end-3 c = omega (arith, all-words (now (c .before .before .before .before .before .before .before .args .ws)) (c .before .before .before .before .before .before .before .pre .0), c .before .before .before .before .at .ensures .0, c .before .before .before .at2 .ensures .0, c .before .before .at3 .ensures .0)
+part-run-input-end-3 c =
+    let at-at = c .before .before .before .before in
+    let start = at-at .before .before .before in
+    omega (
+      arith,
+      all-words (now (start .args .ws)) (start .pre .0),
+      at-at .at .ensures .0,
+      c .before .before .before .at2 .ensures .0,
+      c .before .before .at3 .ensures .0,
+    )
 
 mul-run-input-3 : tie.Need-mul-run-input-3
 mul-run-input-3 c = search needs
 
 sub-run-input-4 : tie.Need-sub-run-input-4
-sub-run-input-4 c = omega (arith, all-words (now (c .before .before .before .before .before .before .before .before .args .ws)) (c .before .before .before .before .before .before .before .before .pre .0), c .before .before .before .before .before .at .ensures .0, c .before .before .before .before .at2 .ensures .0, c .before .before .before .at3 .ensures .0)
+sub-run-input-4 c =
+    let at-at2 = c .before .before .before .before in
+    let start = at-at2 .before .before .before .before in
+    omega (
+      arith,
+      all-words (now (start .args .ws)) (start .pre .0),
+      at-at2 .before .at .ensures .0,
+      at-at2 .at2 .ensures .0,
+      c .before .before .before .at3 .ensures .0,
+    )
 
 part-run-input-start-4 : tie.Need-part-run-input-start-4
-part-run-input-start-4 c = omega (arith, all-words (now (c .before .before .before .before .before .before .before .before .args .ws)) (c .before .before .before .before .before .before .before .before .pre .0), c .before .before .before .before .before .at .ensures .0, c .before .before .before .before .at2 .ensures .0, c .before .before .before .at3 .ensures .0)
+part-run-input-start-4 c =
+    let at-at2 = c .before .before .before .before in
+    let start = at-at2 .before .before .before .before in
+    omega (
+      arith,
+      all-words (now (start .args .ws)) (start .pre .0),
+      at-at2 .before .at .ensures .0,
+      at-at2 .at2 .ensures .0,
+      c .before .before .before .at3 .ensures .0,
+    )
 
 part-run-input-end-4 : tie.Need-part-run-input-end-4
 part-run-input-end-4 c = search needs
@@ -80,18 +123,25 @@ same-length : tie.Need-same-length
 same-length c = search needs
 
 returns : tie.Need-returns
-returns c = wrote-as (ap (λ (x : Input). reported (gateRun x)) (parts-are (now (c .before .before .before .before .before .before .before .before .before .before .before .before .before .args .ws)) (c .before .before .before .before .before .before .before .before .before .before .at .result) (c .before .before .before .before .before .before .before .before .before .at2 .result) (c .before .before .before .before .before .before .before .before .at3 .result) (c .before .before .before .before .before .before .before .before .before .before .at .ensures .0) (c .before .before .before .before .before .before .before .before .before .at2 .ensures .0) (c .before .before .before .before .before .before .before .before .at3 .ensures .0))) (c .before .before .run-input .ensures)
+returns c =
+    let at-at3 = c .before .before .before .before .before .before .before .before in
+    let at-at2 = at-at3 .before in
+    let at-at = at-at2 .before in
+    wrote-as (ap (λ (x : Input). reported (gateRun x))
+    (parts-are (now (at-at .before .before .before .args .ws)) (at-at .at .result) (at-at2 .at2 .result)
+    (at-at3 .at3 .result) (at-at .at .ensures .0) (at-at2 .at2 .ensures .0) (at-at3 .at3 .ensures .0)))
+    (c .before .before .run-input .ensures)
 
 pub run-words-spec : {M : Type 1} → statement M
 run-words-spec =
     tie.close
     (tie.spec
     at-requires
-    add-a
+    add-labels-end
     at-requires-2
-    add-b
+    add-system-end
     at-requires-3
-    add-c
+    add-actions-end
     sub-run-input
     part-run-input-start
     part-run-input-end

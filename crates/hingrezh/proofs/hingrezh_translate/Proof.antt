@@ -2,28 +2,19 @@ use Rattle.hingrezh.proofs.Carried.{run-carried}
 use borrow.Author.Needs.{needs}
 use Rattle.hingrezh.proofs.hingrezh_translate.Statement.{statement}
 use Rattle.hingrezh.proofs.hingrezh_translate.Tie as tie
-use Rattle.hingrezh.proofs.hingrezh_translate.Reads as reads
-use Rattle.hingrezh.proofs.hingrezh_translate.Lts as lts
-use Rattle.hingrezh.proofs.put_answer.Reads as put-answer-reads
-use Rattle.translate.proofs.translate.Reads as translate-reads
 
--- src/lib.rt:51:9
 translate-requires : tie.Need-translate-requires
 translate-requires c κs = search needs
 
--- src/lib.rt:54:5
 put-answer-requires : tie.Need-put-answer-requires
 put-answer-requires c κs = search needs
 
--- src/lib.rt:32:1
 same-length : tie.Need-same-length
 same-length c = search needs
 
--- src/lib.rt:32:1
 same-length-2 : tie.Need-same-length-2
 same-length-2 c = search needs
 
--- src/lib.rt:32:1
 returns : tie.Need-returns
 returns c = run-carried _ _ _ _ _ _ _ _ _ (c .put-answer .ensures) (c .before .before .before .before .before .before .translate .ensures)
 

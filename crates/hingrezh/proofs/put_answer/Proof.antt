@@ -3,32 +3,24 @@ use Rattle.rules.specs.Answers.{said}
 use borrow.Author.Needs.{needs}
 use Rattle.hingrezh.proofs.put_answer.Statement.{statement}
 use Rattle.hingrezh.proofs.put_answer.Tie as tie
-use Rattle.hingrezh.proofs.put_answer.Reads as reads
-use Rattle.hingrezh.proofs.put_answer.Lts as lts
 
--- src/lib.rt:19:22
 enum-known-a : tie.Need-enum-known-a
 enum-known-a c = search needs
 
--- src/lib.rt:22:21
 enum-known-a-2 : tie.Need-enum-known-a-2
 enum-known-a-2 c = search needs
 
--- src/lib.rt:25:25
 enum-known-a-3 : tie.Need-enum-known-a-3
 enum-known-a-3 c = search needs
 
--- src/lib.rt:15:1
 returns : tie.Need-returns
 unfolding said
 returns c = sym (ap said (c .before .before .a .given .1))
 
--- src/lib.rt:15:1
 returns-2 : tie.Need-returns-2
 unfolding said
 returns-2 c = sym (ap said (c .before .before .a2 .given .1))
 
--- src/lib.rt:15:1
 returns-3 : tie.Need-returns-3
 unfolding said
 returns-3 c = sym (ap said (c .before .before .a3 .given .1))

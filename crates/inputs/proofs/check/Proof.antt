@@ -10,8 +10,8 @@ check-room-requires : tie.Need-check-room-requires
 check-room-requires c κs = search needs
 
 -- src/lib.rt:82:22
-enum-known-room : tie.Need-enum-known-room
-enum-known-room c = search needs
+enum-known-checked : tie.Need-enum-known-checked
+enum-known-checked c = search needs
 
 -- src/lib.rt:83:26
 enum-told : tie.Need-enum-told
@@ -23,7 +23,7 @@ check-words-requires c κs = search needs
 
 -- src/lib.rt:68:1
 returns : tie.Need-returns
-returns c = sym (run-order _ _ _ _ ∙ then-fault _ (sym (c .before .before .before .check-room .ensures) ∙ c .before .room .given .1))
+returns c = sym (run-order _ _ _ _ ∙ then-fault _ (sym (c .before .before .before .check-room .ensures) ∙ c .before .checked .given .1))
 
 -- src/lib.rt:68:1
 returns-2 : tie.Need-returns-2
@@ -32,4 +32,4 @@ returns-2 c = c .check-words .ensures ∙ sym (run-order _ _ _ _ ∙ then-passed
 pub check-spec : {M : Type 1} → statement M
 check-spec =
     tie.close
-    (tie.spec check-room-requires enum-known-room enum-told check-words-requires returns returns-2)
+    (tie.spec check-room-requires enum-known-checked enum-told check-words-requires returns returns-2)

@@ -25,12 +25,16 @@ check-formula-requires c κs = actions-passed _ _ (sym (c .before .before .check
 
 -- src/lib.rt:39:1
 returns : tie.Need-returns
-returns c = let a = c .before .before .before .before .before .before .before .args in
+returns c =
+    let start = c .before .before .before .before .before .before .before in
+    let a = start .args in
     sym (first-fault-of (actionChecks (now (a .labels)) (now (a .actions))) _ (sym (c .before .before .before .check-actions .ensures) ∙ c .before .checked .given .1))
 
 -- src/lib.rt:39:1
 returns-2 : tie.Need-returns-2
-returns-2 c = let a = c .before .before .before .before .before .before .before .args in
+returns-2 c =
+    let start = c .before .before .before .before .before .before .before in
+    let a = start .args in
     c .check-formula .ensures ∙ sym (first-next-of (actionChecks (now (a .labels)) (now (a .actions))) _ (sym (c .before .before .before .check-actions .ensures) ∙ c .before .enum-told .given .1))
 
 pub check-formulas-spec : {M : Type 1} → statement M

@@ -22,6 +22,14 @@ returns-3 c = sym (then-fault _ (no-edge _ _ (omega arith)))
 returns-4 : tie.Need-returns-4
 returns-4 c = sym (then-fault _ (many-edges _ _ (omega arith)))
 
+-- src/lib.rt:33:20
+cast-vertices : tie.Need-cast-vertices
+cast-vertices c = search needs
+
+-- src/lib.rt:34:17
+cast-edges : tie.Need-cast-edges
+cast-edges c = search needs
+
 -- src/lib.rt:29:24
 mul-if5 : tie.Need-mul-if5
 mul-if5 c = search needs
@@ -66,6 +74,8 @@ check-room-spec =
     returns-2
     returns-3
     returns-4
+    cast-vertices
+    cast-edges
     mul-if5
     add-if5
     add-if5-2

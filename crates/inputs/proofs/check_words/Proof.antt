@@ -23,7 +23,9 @@ enum-told c = search needs
 
 -- src/lib.rt:58:17
 check-system-requires : tie.Need-check-system-requires
-check-system-requires c κs = omega (arith, labels-passed (now (c .before .before .before .before .before .before .before .args .labels)) (sym (c .before .before .check-labels .ensures) ∙ c .enum-told .given .1))
+check-system-requires c κs =
+    let start = c .before .before .before .before .before .before .before in
+    omega (arith, labels-passed (now (start .args .labels)) (sym (c .before .before .check-labels .ensures) ∙ c .enum-told .given .1))
 
 -- src/lib.rt:60:30
 enum-known-second : tie.Need-enum-known-second
@@ -35,23 +37,34 @@ enum-told-2 c = search needs
 
 -- src/lib.rt:61:34
 check-formulas-requires : tie.Need-check-formulas-requires
-check-formulas-requires c κs = omega (arith, labels-passed (now (c .before .before .before .before .before .before .before .before .before .before .args .labels)) (sym (c .before .before .before .before .before .check-labels .ensures) ∙ c .before .before .before .enum-told .given .1))
+check-formulas-requires c κs =
+    let at-check-labels = c .before .before .before .before .before in
+    let start = at-check-labels .before .before .before .before .before in
+    omega (arith, labels-passed (now (start .args .labels)) (sym (at-check-labels .check-labels .ensures) ∙ c .before .before .before .enum-told .given .1))
 
 -- src/lib.rt:51:1
 returns : tie.Need-returns
-returns c = let a = c .before .before .before .before .before .before .before .before .args in
+returns c =
+    let start = c .before .before .before .before .before .before .before .before in
+    let a = start .args in
     sym (words-order _ _ _ _ ∙ first-fault-of (labelChecks (now (a .labels))) _ (sym (c .before .before .before .check-labels .ensures) ∙ c .before .first .given .1))
 
 -- src/lib.rt:51:1
 returns-2 : tie.Need-returns-2
-returns-2 c = let a = c .before .before .before .before .before .before .before .before .before .before .before .args in
-    sym (words-order _ _ _ _ ∙ first-next-of (labelChecks (now (a .labels))) _ (sym (c .before .before .before .before .before .before .check-labels .ensures) ∙ c .before .before .before .before .enum-told .given .1)
+returns-2 c =
+    let at-enum-told = c .before .before .before .before in
+    let start = at-enum-told .before .before .before .before .before .before .before in
+    let a = start .args in
+    sym (words-order _ _ _ _ ∙ first-next-of (labelChecks (now (a .labels))) _ (sym (at-enum-told .before .before .check-labels .ensures) ∙ at-enum-told .enum-told .given .1)
     ∙ first-fault-of (systemChecks (now (a .labels)) (now (a .system))) _ (sym (c .before .before .before .check-system .ensures) ∙ c .before .second .given .1))
 
 -- src/lib.rt:51:1
 returns-3 : tie.Need-returns-3
-returns-3 c = let a = c .before .before .before .before .before .before .before .before .before .before .before .args in
-    c .check-formulas .ensures ∙ sym (words-order _ _ _ _ ∙ first-next-of (labelChecks (now (a .labels))) _ (sym (c .before .before .before .before .before .before .check-labels .ensures) ∙ c .before .before .before .before .enum-told .given .1)
+returns-3 c =
+    let at-enum-told = c .before .before .before .before in
+    let start = at-enum-told .before .before .before .before .before .before .before in
+    let a = start .args in
+    c .check-formulas .ensures ∙ sym (words-order _ _ _ _ ∙ first-next-of (labelChecks (now (a .labels))) _ (sym (at-enum-told .before .before .check-labels .ensures) ∙ at-enum-told .enum-told .given .1)
     ∙ first-next-of (systemChecks (now (a .labels)) (now (a .system))) _ (sym (c .before .before .before .check-system .ensures) ∙ c .before .enum-told2 .given .1))
 
 pub check-words-spec : {M : Type 1} → statement M

@@ -10,4 +10,8 @@ returns : tie.Need-returns
 returns c = unfold firstBodyNode in c .fixpoints-at .ensures .0
 
 pub first-body-node-spec : {M : Type 1} → statement M
-first-body-node-spec = tie.close (tie.spec fixpoints-at-requires returns)
+first-body-node-spec =
+    tie.close
+    (tie.spec
+    fixpoints-at-requires
+    returns)

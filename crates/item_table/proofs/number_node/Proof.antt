@@ -7,63 +7,48 @@ use Rattle.item_table.proofs.number_node.Tie as tie
 use Rattle.item_table.proofs.number_node.Reads as reads
 use Rattle.item_table.proofs.number_node.Lts as lts
 
--- src/lib.rt:43:15
 mul-old : tie.Need-mul-old
 mul-old c = search needs
 
--- src/lib.rt:43:15
 slice-read-old : tie.Need-slice-read-old
 slice-read-old c = search needs
 
--- src/lib.rt:45:9
 mul-numbers : tie.Need-mul-numbers
 mul-numbers c = search needs
 
--- src/lib.rt:45:9
 slice-write-numbers : tie.Need-slice-write-numbers
 slice-write-numbers c = search needs
 
--- src/lib.rt:46:9
 same-length : tie.Need-same-length
 same-length c = search needs
 
--- src/lib.rt:46:9
 returns : tie.Need-returns
 returns c = inr (c .if1 .taken, refl, refl)
 
--- src/lib.rt:48:22
 cast-numbers : tie.Need-cast-numbers
 cast-numbers c = search needs
 
--- src/lib.rt:48:5
 mul-numbers-2 : tie.Need-mul-numbers-2
 mul-numbers-2 c = search needs
 
--- src/lib.rt:48:5
 slice-write-numbers-2 : tie.Need-slice-write-numbers-2
 slice-write-numbers-2 c = search needs
 
--- src/lib.rt:49:21
 cast-numbers-2 : tie.Need-cast-numbers-2
 cast-numbers-2 c = search needs
 
--- src/lib.rt:49:5
 mul-numbers-3 : tie.Need-mul-numbers-3
 mul-numbers-3 c = search needs
 
--- src/lib.rt:49:5
 slice-write-numbers-3 : tie.Need-slice-write-numbers-3
 slice-write-numbers-3 c = search needs
 
--- src/lib.rt:50:5
 add-result : tie.Need-add-result
 add-result c = search needs
 
--- src/lib.rt:39:1
 same-length-2 : tie.Need-same-length-2
 same-length-2 c = search needs
 
--- src/lib.rt:39:1
 returns-2 : tie.Need-returns-2
 returns-2 c = inl (c .if1 .left, refl, refl)
 

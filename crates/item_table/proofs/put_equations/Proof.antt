@@ -1,5 +1,5 @@
 -- `put_equations` meets its contract. The first i equations are shown. Assumes nothing.
-use mathlib.Core.Path.{_≡_, refl, subst, _∙_}
+use mathlib.Core.Path.{_≡_, subst, _∙_}
 use Prim.Native.Nat.{ℕ, _-_, _≤_, _<_}
 use native.Mathlib.Omega.{arith}
 use lib.ListN.{length}
@@ -7,9 +7,10 @@ use Rattle.rules.specs.Words.{inputOf}
 use Rattle.rules.specs.Table.{size}
 use Rattle.rules.specs.Formula.{equationCount}
 use Rattle.trees.proofs.Equations.{count-few, count-limit}
-use Rattle.item_table.specs.Entries.{FirstShown}
+use Rattle.compiled.specs.Stretches.{wordCount}
+use Rattle.item_table.specs.Entries.{ShownIn, ItemsOnly}
 use Rattle.item_table.proofs.Filling.{first-none, body-room, body-small, operator-bit, first-next}
-use borrow.Author.Needs.{needs}
+use Rattle.item_table.proofs.Parts.{only-none, only-more, columns-room}
 use Rattle.item_table.proofs.put_equations.Statement.{statement}
 use Rattle.item_table.proofs.put_equations.Tie as tie
 use Rattle.item_table.proofs.put_equations.Reads as reads
@@ -19,82 +20,152 @@ use Rattle.modal_equation_system.proofs.body_of.Reads as body-of-reads
 use Rattle.modal_equation_system.proofs.operator_of.Reads as operator-of-reads
 
 abbrev Inv-loop : tie.InvT-loop
-Inv-loop labels system actions formula table numbers count kinds₀ lefts₀ rights₀ i₀ kinds lefts rights i = (length kinds ≡ length kinds₀) × (length lefts ≡ length lefts₀) × (length rights ≡ length rights₀) × (i ≤ count) × FirstShown (inputOf labels system actions formula) i kinds lefts rights
+Inv-loop labels system actions formula table numbers count compiled₀ equation₀ compiled equation =
+    (equation ≤ count) × ShownIn (inputOf labels system actions formula) equation compiled × ItemsOnly compiled₀ compiled
 
 abbrev μ-loop : tie.MeasureT-loop
-μ-loop labels system actions formula table numbers count kinds₀ lefts₀ rights₀ i₀ kinds lefts rights i = count - i
+μ-loop labels system actions formula table numbers count compiled₀ equation₀ compiled equation = count - equation
 
--- src/lib.rt:119:5
 loop-holds : tie.Need-loop-holds Inv-loop μ-loop
-loop-holds c = let s = c .before .before .before .before .before .before .before .before in (refl, refl, refl, omega arith, first-none (inputOf (s .args .labels .now) (s .args .system .now) (s .args .actions .now) (s .args .formula .now)) (s .pre .0) (s .args .kinds .now) (s .args .lefts .now) (s .args .rights .now))
+loop-holds c =
+    let start = c .before .before .before .before .before in (
+      omega arith,
+      first-none (inputOf (start .args .labels .now) (start .args .system .now)
+          (start .args .actions .now) (start .args .formula .now)) (start .pre .0 .0) _ _ _,
+      only-none _,
+    )
 
--- src/lib.rt:120:13
 body-of-requires : tie.Need-body-of-requires Inv-loop μ-loop
-body-of-requires c κs = let s = c .before .before .before .before .before .before .before .before .before .before in omega (arith, count-limit (size (s .args .actions .now)) (s .args .formula .now) (s .pre .0 .formula), s .pre .1 .1 .1 .0, c .loop-test .taken)
+body-of-requires c κs =
+    let start = c .before .before .before .before .before .before .before in
+    omega (
+      arith,
+      count-limit (size (start .args .actions .now)) (start .args .formula .now)
+          (start .pre .0 .0 .formula),
+      start .pre .1 .0,
+      c .loop-test .taken,
+    )
 
--- src/lib.rt:121:13
 operator-of-requires : tie.Need-operator-of-requires Inv-loop μ-loop
-operator-of-requires c κs = let s = c .before .before .before .before .before .before .before .before .before .before .before in omega (arith, count-limit (size (s .args .actions .now)) (s .args .formula .now) (s .pre .0 .formula), s .pre .1 .1 .1 .0, c .before .loop-test .taken)
+operator-of-requires c κs =
+    let start = c .before .before .before .before .before .before .before .before in
+    omega (
+      arith,
+      count-limit (size (start .args .actions .now)) (start .args .formula .now)
+          (start .pre .0 .0 .formula),
+      start .pre .1 .0,
+      c .before .loop-test .taken,
+    )
 
--- src/lib.rt:122:44
-sub-put-entry : tie.Need-sub-put-entry Inv-loop μ-loop
-sub-put-entry c = let s = c .before .before .before .before .before .before .before .before .before .before .before .before .before .before .before in omega (arith, c .before .before .before .operator-of .ensures, operator-bit (inputOf (s .args .labels .now) (s .args .system .now) (s .args .actions .now) (s .args .formula .now)) (s .pre .0) (s .args .table .now) (s .args .numbers .now) (s .pre .1 .0) (s .pre .1 .1 .0) (c .before .before .before .before .before .before .loop .i) (omega (arith, s .pre .1 .1 .1 .0, c .before .before .before .before .before .loop-test .taken)))
+sub-t14 : tie.Need-sub-t14 Inv-loop μ-loop
+sub-t14 c =
+    let start = c .before .before .before .before .before .before .before .before .before in
+    omega (
+      arith,
+      c .operator-of .ensures,
+      operator-bit
+          (inputOf (start .args .labels .now) (start .args .system .now) (start .args .actions .now)
+          (start .args .formula .now)) (start .pre .0 .0) (start .args .table .now) (start .args .numbers .now)
+          (start .pre .0 .1) (start .pre .0 .2) (c .before .before .before .loop .equation)
+          (omega (arith, start .pre .1 .0, c .before .before .loop-test .taken)),
+    )
 
--- src/lib.rt:122:58
-mul-put-entry : tie.Need-mul-put-entry Inv-loop μ-loop
-mul-put-entry c = let s = c .before .before .before .before .before .before .before .before .before .before .before .before .before .before .before in omega (arith, body-small (inputOf (s .args .labels .now) (s .args .system .now) (s .args .actions .now) (s .args .formula .now)) (s .pre .0) (s .args .table .now) (s .args .numbers .now) (s .pre .1 .0) (s .pre .1 .1 .0) (c .before .before .before .before .before .before .loop .i) (omega (arith, s .pre .1 .1 .1 .0, c .before .before .before .before .before .loop-test .taken)) (c .before .before .before .before .body-of .result) (c .before .before .before .before .body-of .ensures), count-limit (size (s .args .actions .now)) (s .args .formula .now) (s .pre .0 .formula), s .pre .1 .1 .1 .0, c .before .before .before .before .before .loop-test .taken)
+mul-t15 : tie.Need-mul-t15 Inv-loop μ-loop
+mul-t15 c =
+    let at-body-of = c .before in
+    let at-loop-test = at-body-of .before in
+    let start = at-loop-test .before .before .before .before .before .before .before in
+    omega (
+      arith,
+      body-small (inputOf (start .args .labels .now) (start .args .system .now)
+          (start .args .actions .now) (start .args .formula .now)) (start .pre .0 .0) (start .args .table .now)
+          (start .args .numbers .now) (start .pre .0 .1) (start .pre .0 .2) (at-loop-test .before .loop .equation)
+          (omega (arith, start .pre .1 .0, at-loop-test .loop-test .taken)) (at-body-of .body-of .result)
+          (at-body-of .body-of .ensures),
+      count-limit (size (start .args .actions .now)) (start .args .formula .now)
+          (start .pre .0 .0 .formula),
+      start .pre .1 .0,
+      at-loop-test .loop-test .taken,
+    )
 
--- src/lib.rt:122:58
-shared-slice-read-put-entry : tie.Need-shared-slice-read-put-entry Inv-loop μ-loop
-shared-slice-read-put-entry c = let s = c .before .before .before .before .before .before .before .before .before .before .before .before .before .before .before .before in omega (arith, body-room (inputOf (s .args .labels .now) (s .args .system .now) (s .args .actions .now) (s .args .formula .now)) (s .pre .0) (s .args .table .now) (s .args .numbers .now) (s .pre .1 .0) (s .pre .1 .1 .0) (c .before .before .before .before .before .before .before .loop .i) (omega (arith, s .pre .1 .1 .1 .0, c .before .before .before .before .before .before .loop-test .taken)) (c .before .before .before .before .before .body-of .result) (c .before .before .before .before .before .body-of .ensures), count-few (size (s .args .actions .now)) (s .args .formula .now) (s .pre .0 .formula), s .pre .1 .1 .0 .room, s .pre .1 .1 .1 .0, c .before .before .before .before .before .before .loop-test .taken)
+shared-slice-read-t17 : tie.Need-shared-slice-read-t17 Inv-loop μ-loop
+shared-slice-read-t17 c =
+    let at-body-of = c .before .before in
+    let at-loop-test = at-body-of .before in
+    let start = at-loop-test .before .before .before .before .before .before .before in
+    omega (
+      arith,
+      body-room (inputOf (start .args .labels .now) (start .args .system .now) (start .args .actions .now)
+          (start .args .formula .now)) (start .pre .0 .0) (start .args .table .now) (start .args .numbers .now)
+          (start .pre .0 .1) (start .pre .0 .2) (at-loop-test .before .loop .equation)
+          (omega (arith, start .pre .1 .0, at-loop-test .loop-test .taken)) (at-body-of .body-of .result)
+          (at-body-of .body-of .ensures),
+      count-few (size (start .args .actions .now)) (start .args .formula .now)
+          (start .pre .0 .0 .formula),
+      start .pre .0 .2 .room,
+      start .pre .1 .0,
+      at-loop-test .loop-test .taken,
+    )
 
--- src/lib.rt:122:9
 put-entry-requires : tie.Need-put-entry-requires Inv-loop μ-loop
 put-entry-requires c κs =
-    let s = c .before .before .before .before .before .before .before .before .before .before .before .before .before .before .before .before in
-    let i = c .before .before .before .before .before .before .before .loop in
-    let few = count-limit (size (s .args .actions .now)) (s .args .formula .now) (s .pre .0 .formula) in
-    let small : i .i < 2048 = omega (arith, few, s .pre .1 .1 .1 .0, c .before .before .before .before .before .before .loop-test .taken) in
-    (omega (arith, small, s .pre .1 .1 .1 .1, i .inv .0), omega (arith, small, s .pre .1 .1 .1 .2, i .inv .1), omega (arith, small, s .pre .1 .1 .1 .3, i .inv .2))
+    let at-loop-test = c .before .before .before .before in
+    let start = at-loop-test .before .before .before .before .before .before .before in
+    omega (
+      arith,
+      count-limit (size (start .args .actions .now)) (start .args .formula .now)
+          (start .pre .0 .0 .formula),
+      start .pre .1 .0,
+      at-loop-test .loop-test .taken,
+    )
 
--- src/lib.rt:123:9
-add-i : tie.Need-add-i Inv-loop μ-loop
-add-i c = let s = c .before .before .before .before .before .before .before .before .before .before .before .before .before .before .before .before .before .before .before .before .before .before .before in omega (arith, count-limit (size (s .args .actions .now)) (s .args .formula .now) (s .pre .0 .formula), s .pre .1 .1 .1 .0, c .before .before .before .before .before .before .before .before .before .before .before .before .before .loop-test .taken)
+add-equation : tie.Need-add-equation Inv-loop μ-loop
+add-equation c =
+    let at-loop-test = c .before .before .before .before .before in
+    let start = at-loop-test .before .before .before .before .before .before .before in
+    omega (
+      arith,
+      count-limit (size (start .args .actions .now)) (start .args .formula .now)
+          (start .pre .0 .0 .formula),
+      start .pre .1 .0,
+      at-loop-test .loop-test .taken,
+    )
 
--- src/lib.rt:119:5
 loop-less : tie.Need-loop-less Inv-loop μ-loop
-loop-less c = omega (arith, c .before .before .before .before .before .before .before .before .before .before .before .before .before .loop-test .taken)
+loop-less c =
+    let at-loop-test = c .before .before .before .before .before in
+    omega (arith, at-loop-test .loop-test .taken)
 
--- src/lib.rt:119:5
 loop-again : tie.Need-loop-again Inv-loop μ-loop
 loop-again c =
-    let s = c .before .before .before .before .before .before .before .before .before .before .before .before .before .before .before .before .before .before .before .before .before .before .before in
-    let i = c .before .before .before .before .before .before .before .before .before .before .before .before .before .before .loop in
-    let p = c .before .before .before .before .before .before .put-entry in
-    let few = count-limit (size (s .args .actions .now)) (s .args .formula .now) (s .pre .0 .formula) in
-    let below : i .i < equationCount (s .args .formula .now) = omega (arith, s .pre .1 .1 .1 .0, c .before .before .before .before .before .before .before .before .before .before .before .before .before .loop-test .taken) in
-    let small : i .i < 2048 = omega (arith, few, below) in
-    (p .kept .0 ∙ i .inv .0, p .kept .1 .0 ∙ i .inv .1, p .kept .1 .1 .0 ∙ i .inv .2, omega (arith, c .before .before .before .before .before .before .before .before .before .before .before .before .before .loop-test .taken), first-next (inputOf (s .args .labels .now) (s .args .system .now) (s .args .actions .now) (s .args .formula .now)) (s .pre .0) (s .args .table .now) (s .args .numbers .now) (s .pre .1 .0) (s .pre .1 .1 .0) (i .i) below (i .kinds) (i .lefts) (i .rights) _ _ _ (c .before .before .before .before .before .before .before .before .before .before .before .before .body-of .result) (c .before .before .before .before .before .before .before .before .before .before .before .operator-of .result) (omega (arith, small, s .pre .1 .1 .1 .1, i .inv .0)) (omega (arith, small, s .pre .1 .1 .1 .2, i .inv .1)) (omega (arith, small, s .pre .1 .1 .1 .3, i .inv .2)) (c .before .before .before .before .before .before .before .before .before .before .before .before .body-of .ensures) (c .before .before .before .before .before .before .before .before .before .before .before .operator-of .ensures) (p .ensures .0) (p .ensures .1 .0) (p .ensures .1 .1) (i .inv .4))
+    let at-operator-of = c .before .before .before in
+    let at-body-of = at-operator-of .before in
+    let at-loop-test = at-body-of .before in
+    let start = at-loop-test .before .before .before .before .before .before .before in
+    let i = at-loop-test .before .loop in
+    let p = c .put-entry .ensures in
+    let few = count-limit (size (start .args .actions .now)) (start .args .formula .now) (start .pre .0 .0 .formula) in
+    let below : i .equation < equationCount (start .args .formula .now) = omega
+    (arith, start .pre .1 .0, at-loop-test .loop-test .taken) in
+    let whole : length (i .compiled) ≡ wordCount = i .inv .2 .sized ∙ start .pre .1 .1 in
+    let room = columns-room (i .compiled) whole (i .equation) (omega (arith, few, below)) in (
+      omega (arith, at-loop-test .loop-test .taken),
+      first-next
+          (inputOf (start .args .labels .now) (start .args .system .now) (start .args .actions .now)
+          (start .args .formula .now)) (start .pre .0 .0) (start .args .table .now) (start .args .numbers .now)
+          (start .pre .0 .1) (start .pre .0 .2) (i .equation) below _ _ _ _ _ _ (at-body-of .body-of .result)
+          (at-operator-of .operator-of .result) (room .0) (room .1) (room .2) (at-body-of .body-of .ensures)
+          (at-operator-of .operator-of .ensures) (p .kinds) (p .lefts) (p .rights) (i .inv .1),
+      only-more _ _ _
+          (i .inv .2) (p .only),
+    )
 
--- src/lib.rt:100:1
-same-length : tie.Need-same-length Inv-loop μ-loop
-same-length c = search needs
-
--- src/lib.rt:100:1
-same-length-2 : tie.Need-same-length-2 Inv-loop μ-loop
-same-length-2 c = search needs
-
--- src/lib.rt:100:1
-same-length-3 : tie.Need-same-length-3 Inv-loop μ-loop
-same-length-3 c = search needs
-
--- src/lib.rt:100:1
 returns : tie.Need-returns Inv-loop μ-loop
 returns c =
-    let s = c .before .before .before .before .before .before .before .before .before .before in
+    let start = c .before .before .before .before .before .before .before in
     let i = c .before .loop in
-    let e : i .i ≡ s .args .count = omega (arith, c .loop-test .left, i .inv .3) in
-    subst (λ (n : ℕ). FirstShown (inputOf (s .args .labels .now) (s .args .system .now) (s .args .actions .now) (s .args .formula .now)) n (i .kinds) (i .lefts) (i .rights)) e (i .inv .4)
+    let e : i .equation ≡ start .args .count = omega (arith, c .loop-test .left, i .inv .0) in
+    (subst (λ (n : ℕ). ShownIn (inputOf (start .args .labels .now) (start .args .system .now) (start .args .actions .now) (start .args .formula .now)) n (i .compiled)) e (i .inv .1), i .inv .2)
 
 pub put-equations-spec : {M : Type 1} → statement M
 put-equations-spec =
@@ -105,14 +176,11 @@ put-equations-spec =
     loop-holds
     body-of-requires
     operator-of-requires
-    sub-put-entry
-    mul-put-entry
-    shared-slice-read-put-entry
+    sub-t14
+    mul-t15
+    shared-slice-read-t17
     put-entry-requires
-    add-i
+    add-equation
     loop-less
     loop-again
-    same-length
-    same-length-2
-    same-length-3
     returns)

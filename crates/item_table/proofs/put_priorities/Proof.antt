@@ -1,8 +1,12 @@
 -- `put_priorities` meets its contract, by what the two calls ensure. Assumes nothing.
+use mathlib.Core.Path.{ap, _∙_}
 use native.Mathlib.Omega.{arith}
 use Rattle.rules.specs.Depth.{byDepth}
+use lib.ListN.{length}
+use Rattle.compiled.specs.Stretches.{stretch}
 use Rattle.trees.proofs.Equations.{count-limit}
-use Rattle.item_table.proofs.Filling.{ranked-from}
+use Rattle.item_table.proofs.Filling.{ranked-between}
+use Rattle.item_table.proofs.Parts.{priorities-length, once-part, twice-part, twice-only}
 use borrow.Author.Needs.{needs}
 use Rattle.item_table.proofs.put_priorities.Statement.{statement}
 use Rattle.item_table.proofs.put_priorities.Tie as tie
@@ -11,22 +15,78 @@ use Rattle.item_table.proofs.put_priorities.Lts as lts
 use Rattle.modal_equation_system.proofs.list_priorities.Reads as list-priorities-reads
 use Rattle.words.proofs.clear.Reads as clear-reads
 
--- src/lib.rt:269:5
+sub-clear : tie.Need-sub-clear
+sub-clear c = search needs
+
+part-clear-start : tie.Need-part-clear-start
+part-clear-start c = search needs
+
+part-clear-end : tie.Need-part-clear-end
+part-clear-end c = search needs
+
 clear-requires : tie.Need-clear-requires
 clear-requires c κs = search needs
 
--- src/lib.rt:270:5
-list-priorities-requires : tie.Need-list-priorities-requires
-list-priorities-requires c κs = let s = c .before .before .before .before .before .before .before in (s .pre .0, (s .pre .1 .0, omega (arith, s .pre .1, c .before .before .before .clear .kept .0, count-limit (s .pre .0 .good .actions) (s .args .formula .now) (s .pre .0 .good .formula))))
+sub-list-priorities : tie.Need-sub-list-priorities
+sub-list-priorities c = search needs
 
--- src/lib.rt:259:1
+part-list-priorities-start : tie.Need-part-list-priorities-start
+part-list-priorities-start c = search needs
+
+part-list-priorities-end : tie.Need-part-list-priorities-end
+part-list-priorities-end c = search needs
+
+list-priorities-requires : tie.Need-list-priorities-requires
+list-priorities-requires c κs =
+    let at-clear = c .before .before .before in
+    let start = at-clear .before .before .before .before in
+    let ys-sized = at-clear .clear .kept .0 ∙ priorities-length (start .args .compiled .now) (omega (arith, start .pre .1)) in (
+      start .pre .0 .0,
+      (
+        start .pre .0 .1,
+        omega (
+          arith,
+          ap length
+              (once-part (start .args .compiled .now) (at-clear .clear .last .0) (omega (arith, start .pre .1)) ys-sized),
+          ys-sized,
+          count-limit (start .pre .0 .0 .good .actions) (start .args .formula .now)
+              (start .pre .0 .0 .good .formula),
+          start .pre .0 .1,
+        ),
+      ),
+    )
+
 same-length : tie.Need-same-length
 same-length c = search needs
 
--- src/lib.rt:259:1
 returns : tie.Need-returns
-returns c = let s = c .before .before .before .before .before .before .before .before .before .before in ranked-from byDepth (s .args .formula .now) (s .args .count) _ _ _ (c .before .before .before .before .before .before .clear .ensures) (c .before .before .list-priorities .ensures)
+unfolding stretch
+returns c =
+    let at-list-priorities = c .before .before in
+    let at-clear = at-list-priorities .before .before .before .before in
+    let start = at-clear .before .before .before .before in
+    let t = start .args .compiled .now in
+    let ys = at-clear .clear .last .0 in
+    let zs = at-list-priorities .list-priorities .last .1 .1 .1 .0 in
+    let ys-sized = at-clear .clear .kept .0 ∙ priorities-length t (omega (arith, start .pre .1)) in
+    let part = once-part t ys (omega (arith, start .pre .1)) ys-sized in
+    let zs-sized = at-list-priorities .list-priorities .kept .1 .1 .1 .0 ∙ ap length part ∙ ys-sized in (
+      ranked-between byDepth (start .args .formula .now) (start .args .count) _ _ zs _ (part ∙ at-clear .clear .ensures)
+          (twice-part t ys (omega (arith, start .pre .1)) ys-sized zs zs-sized) (at-list-priorities .list-priorities .ensures),
+      twice-only t ys (omega (arith, start .pre .1)) ys-sized zs zs-sized,
+    )
 
 pub put-priorities-spec : {M : Type 1} → statement M
 put-priorities-spec =
-    tie.close (tie.spec clear-requires list-priorities-requires same-length returns)
+    tie.close
+    (tie.spec
+    sub-clear
+    part-clear-start
+    part-clear-end
+    clear-requires
+    sub-list-priorities
+    part-list-priorities-start
+    part-list-priorities-end
+    list-priorities-requires
+    same-length
+    returns)

@@ -9,6 +9,9 @@ use Rattle.rules.specs.Formula.{firstBodyNode}
 use Rattle.arena.proofs.ItemNumbers.{items-few}
 use Rattle.item_table.proofs.Numbers.{first-most}
 use Rattle.item_table.proofs.Filling.{NodesShown, nodes-first, number-room, nodes-next, nodes-last}
+use Rattle.compiled.specs.Stretches.{wordCount, kindsIn, leftsIn, rightsIn}
+use Rattle.item_table.specs.Entries.{ItemsOnly}
+use Rattle.item_table.proofs.Parts.{only-none, only-more, columns-room}
 use borrow.Author.Needs.{needs}
 use Rattle.item_table.proofs.put_subformulas.Statement.{statement}
 use Rattle.item_table.proofs.put_subformulas.Tie as tie
@@ -20,75 +23,118 @@ use Rattle.item_table.proofs.put_entry.Reads as put-entry-reads
 use Rattle.words.proofs.at.Reads as at-reads
 
 abbrev Inv-loop : tie.InvT-loop
-Inv-loop labels system actions formula acts equations numbers count kinds₀ lefts₀ rights₀ n v₀ kinds lefts rights v = (length kinds ≡ length kinds₀) × (length lefts ≡ length lefts₀) × (length rights ≡ length rights₀) × (v ≤ n) × (firstBodyNode formula ≤ v) × (n ≡ size formula) × NodesShown (inputOf labels system actions formula) v kinds lefts rights
+Inv-loop labels system actions formula acts equations numbers compiled₀ total node₀ compiled node =
+    (node ≤ total) × (firstBodyNode formula ≤ node) × (total ≡ size formula)
+    × NodesShown (inputOf labels system actions formula) node (kindsIn compiled) (leftsIn compiled) (rightsIn compiled)
+    × ItemsOnly compiled₀ compiled
 
 abbrev μ-loop : tie.MeasureT-loop
-μ-loop labels system actions formula acts equations numbers count kinds₀ lefts₀ rights₀ n v₀ kinds lefts rights v = n - v
+μ-loop labels system actions formula acts equations numbers compiled₀ total node₀ compiled node = total - node
 
--- src/lib.rt:145:9
 at-requires : tie.Need-at-requires Inv-loop μ-loop
 at-requires c κs = search needs
 
--- src/lib.rt:146:9
 first-body-node-requires : tie.Need-first-body-node-requires Inv-loop μ-loop
-first-body-node-requires c κs = let s = c .before .before .before .before .before .before .before .before .before .before .before in record { actions = size (s .args .actions .now); formula = s .pre .0 .formula }
+first-body-node-requires c κs =
+    let start = c .before .before .before .before .before .before .before .before in
+    record { actions = size (start .args .actions .now); formula = start .pre .0 .0 .formula }
 
--- src/lib.rt:147:5
 loop-holds : tie.Need-loop-holds Inv-loop μ-loop
-loop-holds c = let s = c .before .before .before .before .before .before .before .before .before .before .before .before in
-    (refl, refl, refl, omega (arith, c .first-body-node .ensures, first-most (s .args .formula .now), c .before .at .ensures .0, s .pre .0 .formula .some), omega (arith, c .first-body-node .ensures), c .before .at .ensures .0, nodes-first (inputOf (s .args .labels .now) (s .args .system .now) (s .args .actions .now) (s .args .formula .now)) (s .pre .0) (c .first-body-node .result) (s .args .count) (s .args .kinds .now) (s .args .lefts .now) (s .args .rights .now) (c .first-body-node .ensures) (s .pre .1 .1 .1 .1 .0 .0) (s .pre .1 .1 .1 .1 .1))
+loop-holds c =
+    let at-at = c .before in
+    let start = at-at .before .before .before .before .before .before .before .before in (
+      omega (
+        arith,
+        c .first-body-node .ensures,
+        first-most (start .args .formula .now),
+        at-at .at .ensures .0,
+        start .pre .0 .0 .formula .some,
+      ),
+      omega (arith, c .first-body-node .ensures),
+      at-at .at .ensures .0,
+      nodes-first (inputOf (start .args .labels .now) (start .args .system .now) (start .args .actions .now)
+          (start .args .formula .now)) (start .pre .0 .0) (c .first-body-node .result) _ _ _ _
+          (c .first-body-node .ensures) refl (start .pre .1 .1 .1),
+      only-none _,
+    )
 
--- src/lib.rt:148:13
 at-requires-2 : tie.Need-at-requires-2 Inv-loop μ-loop
-at-requires-2 c κs = let s = c .before .before .before .before .before .before .before .before .before .before .before .before .before .before in omega (arith, s .pre .1 .1 .1 .0 .room, c .loop-test .taken, c .before .loop .inv .5)
+at-requires-2 c κs =
+    let start = c .before .before .before .before .before .before .before .before .before .before .before in
+    omega (arith, start .pre .1 .0 .1 .room, c .loop-test .taken, c .before .loop .inv .2)
 
--- src/lib.rt:149:13
 formula-shape-requires : tie.Need-formula-shape-requires Inv-loop μ-loop
-formula-shape-requires c κs = let s = c .before .before .before .before .before .before .before .before .before .before .before .before .before .before .before in (s .pre .0, (s .pre .1 .0, (s .pre .1 .1 .0, (omega (arith, c .before .loop-test .taken, c .before .before .loop .inv .5), s .pre .1 .1 .1 .0 .room))))
+formula-shape-requires c κs =
+    let start = c .before .before .before .before .before .before .before .before .before .before .before .before in (
+      (
+        start .pre .0 .0,
+        omega (arith, c .before .loop-test .taken, c .before .before .loop .inv .2),
+        start .pre .1 .0 .1 .room,
+      ),
+      (start .pre .0 .1, start .pre .1 .0 .0),
+    )
 
--- src/lib.rt:150:9
 put-entry-requires : tie.Need-put-entry-requires Inv-loop μ-loop
-put-entry-requires c κs = let s = c .before .before .before .before .before .before .before .before .before .before .before .before .before .before .before .before .before .before .before in
-    let i = c .before .before .before .before .before .before .loop in
-    let below = number-room (inputOf (s .args .labels .now) (s .args .system .now) (s .args .actions .now) (s .args .formula .now)) (s .pre .0) (s .args .numbers .now) (s .pre .1 .1 .1 .0) (i .v) (i .inv .4, omega (arith, c .before .before .before .before .before .loop-test .taken, i .inv .5)) (c .before .before .before .before .at2 .result) (c .before .before .before .before .at2 .ensures .0) in
-    let few = items-few (inputOf (s .args .labels .now) (s .args .system .now) (s .args .actions .now) (s .args .formula .now)) (s .pre .0) in
-    (omega (arith, below, few, s .pre .1 .1 .1 .1 .0 .1, i .inv .0), omega (arith, below, few, s .pre .1 .1 .1 .1 .0 .2, i .inv .1), omega (arith, below, few, s .pre .1 .1 .1 .1 .0 .3, i .inv .2))
+put-entry-requires c κs =
+    let at-at2 = c .before .before in
+    let start = at-at2 .before .before .before .before .before .before .before .before .before .before .before .before in
+    let i = at-at2 .before .before .loop in
+    let below = number-room (inputOf (start .args .labels .now) (start .args .system .now) (start .args .actions .now)
+    (start .args .formula .now)) (start .pre .0 .0) (start .args .numbers .now) (start .pre .1 .0 .1) (i .node)
+    (i .inv .1, omega (arith, at-at2 .before .loop-test .taken, i .inv .2)) (at-at2 .at2 .result)
+    (at-at2 .at2 .ensures .0) in
+    let few = items-few (inputOf (start .args .labels .now) (start .args .system .now) (start .args .actions .now)
+    (start .args .formula .now)) (start .pre .0 .0) in
+    omega (arith, below, few)
 
--- src/lib.rt:151:9
-add-v : tie.Need-add-v Inv-loop μ-loop
-add-v c = omega (arith, c .before .before .before .before .before .before .before .before .before .before .before .before .before .before .before .before .before .before .before .before .before .before .before .before .before .before .pre .0 .formula .few, c .before .before .before .before .before .before .before .before .before .before .before .before .loop-test .taken, c .before .before .before .before .before .before .before .before .before .before .before .before .before .loop .inv .5)
+add-node : tie.Need-add-node Inv-loop μ-loop
+add-node c =
+    let at-loop-test = c .before .before .before .before in
+    let start = at-loop-test .before .before .before .before .before .before .before .before .before .before .before in
+    omega (arith, start .pre .0 .0 .formula .few, at-loop-test .loop-test .taken, at-loop-test .before .loop .inv .2)
 
--- src/lib.rt:147:5
 loop-less : tie.Need-loop-less Inv-loop μ-loop
-loop-less c = omega (arith, c .before .before .before .before .before .before .before .before .before .before .before .before .loop-test .taken)
+loop-less c =
+    let at-loop-test = c .before .before .before .before in
+    omega (arith, at-loop-test .loop-test .taken)
 
--- src/lib.rt:147:5
 loop-again : tie.Need-loop-again Inv-loop μ-loop
-loop-again c = let s = c .before .before .before .before .before .before .before .before .before .before .before .before .before .before .before .before .before .before .before .before .before .before .before .before .before .before in
-    let i = c .before .before .before .before .before .before .before .before .before .before .before .before .before .loop in
-    let p = c .before .before .before .before .before .before .put-entry in
-    let f = c .before .before .before .before .before .before .before .before .before .before .formula-shape in
-    let below = number-room (inputOf (s .args .labels .now) (s .args .system .now) (s .args .actions .now) (s .args .formula .now)) (s .pre .0) (s .args .numbers .now) (s .pre .1 .1 .1 .0) (i .v) (i .inv .4, omega (arith, c .before .before .before .before .before .before .before .before .before .before .before .before .loop-test .taken, i .inv .5)) (c .before .before .before .before .before .before .before .before .before .before .before .at2 .result) (c .before .before .before .before .before .before .before .before .before .before .before .at2 .ensures .0) in
-    let few = items-few (inputOf (s .args .labels .now) (s .args .system .now) (s .args .actions .now) (s .args .formula .now)) (s .pre .0) in
-    (p .kept .0 ∙ i .inv .0, p .kept .1 .0 ∙ i .inv .1, p .kept .1 .1 .0 ∙ i .inv .2, omega (arith, c .before .before .before .before .before .before .before .before .before .before .before .before .loop-test .taken), omega (arith, i .inv .4), i .inv .5, nodes-next (inputOf (s .args .labels .now) (s .args .system .now) (s .args .actions .now) (s .args .formula .now)) (s .pre .0) (s .args .numbers .now) (s .pre .1 .1 .1 .0) (i .v) (i .inv .4, omega (arith, c .before .before .before .before .before .before .before .before .before .before .before .before .loop-test .taken, i .inv .5)) (i .kinds) (i .lefts) (i .rights) _ _ _ (c .before .before .before .before .before .before .before .before .before .before .before .at2 .result) (f .result .kind) (f .result .left) (f .result .right) (omega (arith, below, few, s .pre .1 .1 .1 .1 .0 .1, i .inv .0)) (omega (arith, below, few, s .pre .1 .1 .1 .1 .0 .2, i .inv .1)) (omega (arith, below, few, s .pre .1 .1 .1 .1 .0 .3, i .inv .2)) (c .before .before .before .before .before .before .before .before .before .before .before .at2 .ensures .0) (f .ensures) (p .ensures .0) (p .ensures .1 .0) (p .ensures .1 .1) (i .inv .6))
+loop-again c =
+    let at-at2 = c .before .before .before in
+    let at-loop-test = at-at2 .before in
+    let start = at-loop-test .before .before .before .before .before .before .before .before .before .before .before in
+    let i = at-loop-test .before .loop in
+    let p = c .put-entry .ensures in
+    let f = c .before .before .formula-shape in
+    let below = number-room (inputOf (start .args .labels .now) (start .args .system .now) (start .args .actions .now)
+    (start .args .formula .now)) (start .pre .0 .0) (start .args .numbers .now) (start .pre .1 .0 .1) (i .node)
+    (i .inv .1, omega (arith, at-loop-test .loop-test .taken, i .inv .2)) (at-at2 .at2 .result)
+    (at-at2 .at2 .ensures .0) in
+    let few = items-few (inputOf (start .args .labels .now) (start .args .system .now) (start .args .actions .now)
+    (start .args .formula .now)) (start .pre .0 .0) in
+    let whole : length (i .compiled) ≡ wordCount = i .inv .4 .sized ∙ start .pre .1 .1 .0 in
+    let room = columns-room (i .compiled) whole (at-at2 .at2 .result) (omega (arith, below, few)) in (
+      omega (arith, at-loop-test .loop-test .taken),
+      omega (arith, i .inv .1),
+      i .inv .2,
+      nodes-next
+          (inputOf (start .args .labels .now) (start .args .system .now) (start .args .actions .now)
+          (start .args .formula .now)) (start .pre .0 .0) (start .args .numbers .now) (start .pre .1 .0 .1) (i .node)
+          (i .inv .1, omega (arith, at-loop-test .loop-test .taken, i .inv .2)) _ _ _ _ _ _ (at-at2 .at2 .result)
+          (f .result .kind) (f .result .left) (f .result .right) (room .0) (room .1) (room .2) (at-at2 .at2 .ensures .0)
+          (f .ensures) (p .kinds) (p .lefts) (p .rights) (i .inv .3),
+      only-more _ _ _ (i .inv .4) (p .only),
+    )
 
--- src/lib.rt:124:1
-same-length : tie.Need-same-length Inv-loop μ-loop
-same-length c = search needs
-
--- src/lib.rt:124:1
-same-length-2 : tie.Need-same-length-2 Inv-loop μ-loop
-same-length-2 c = search needs
-
--- src/lib.rt:124:1
-same-length-3 : tie.Need-same-length-3 Inv-loop μ-loop
-same-length-3 c = search needs
-
--- src/lib.rt:124:1
 returns : tie.Need-returns Inv-loop μ-loop
-returns c = let s = c .before .before .before .before .before .before .before .before .before .before .before .before .before .before in
-    let i = c .before .loop in
-    nodes-last (inputOf (s .args .labels .now) (s .args .system .now) (s .args .actions .now) (s .args .formula .now)) (s .pre .0) (i .v) (i .kinds) (i .lefts) (i .rights) (omega (arith, c .loop-test .left, i .inv .3, i .inv .5)) (i .inv .6)
+returns c =
+    let start = c .before .before .before .before .before .before .before .before .before .before .before in
+    let i = c .before .loop in (
+      nodes-last (inputOf (start .args .labels .now) (start .args .system .now) (start .args .actions .now)
+          (start .args .formula .now)) (start .pre .0 .0) (i .node) _ _ _
+          (omega (arith, c .loop-test .left, i .inv .0, i .inv .2)) (i .inv .3),
+      i .inv .4,
+    )
 
 pub put-subformulas-spec : {M : Type 1} → statement M
 put-subformulas-spec =
@@ -102,10 +148,7 @@ put-subformulas-spec =
     at-requires-2
     formula-shape-requires
     put-entry-requires
-    add-v
+    add-node
     loop-less
     loop-again
-    same-length
-    same-length-2
-    same-length-3
     returns)

@@ -1,4 +1,5 @@
--- `mark_labels` meets its contract. The labels that the loop passed have their entries, and label l starts at b. Assumes nothing.
+-- `mark_labels` meets its contract. The labels that the loop passed have their entries, and the next label starts at
+-- `from`. Assumes nothing.
 use mathlib.Core.Path.{_≡_, refl, _∙_}
 use Prim.Native.Nat.{_-_, _≤_}
 use native.Mathlib.Omega.{arith}
@@ -17,89 +18,77 @@ use Rattle.labels.proofs.mark_of.Reads as mark-of-reads
 use Rattle.labels.proofs.stretch_end.Reads as stretch-end-reads
 
 abbrev Inv-loop : tie.InvT-loop
-Inv-loop labels starts₀ marks₀ n l₀ b₀ starts marks l b = (length starts ≡ 4_096) × (length marks ≡ length marks₀) × (l ≤ n) × (n ≡ labelCount labels) × Starts labels l b × Marked labels starts marks l
+Inv-loop labels starts₀ marks₀ count label₀ from₀ starts marks label from =
+    (length starts ≡ 4_096) × (length marks ≡ length marks₀) × (label ≤ count) × (count ≡ labelCount labels)
+    × Starts labels label from × Marked labels starts marks label
 
 abbrev μ-loop : tie.MeasureT-loop
-μ-loop labels starts₀ marks₀ n l₀ b₀ starts marks l b = n - l
+μ-loop labels starts₀ marks₀ count label₀ from₀ starts marks label from = count - label
 
--- src/lib.rt:135:13
-shared-slice-read-n : tie.Need-shared-slice-read-n Inv-loop μ-loop
-shared-slice-read-n c = search needs
+shared-slice-read-count : tie.Need-shared-slice-read-count Inv-loop μ-loop
+shared-slice-read-count c = search needs
 
--- src/lib.rt:138:5
 loop-holds : tie.Need-loop-holds Inv-loop μ-loop
 loop-holds c =
-    let s = c .before .before .before in
-    (s .pre .1 .0, refl, omega arith, refl, starts-first (s .args .labels .now), λ z h. absurd (omega arith))
+    let start = c .before .before .before in
+    (start .pre .1 .0, refl, omega arith, refl, starts-first (start .args .labels .now), λ z h. absurd (omega arith))
 
--- src/lib.rt:139:13
 stretch-end-requires : tie.Need-stretch-end-requires Inv-loop μ-loop
 stretch-end-requires c κs = search needs
 
--- src/lib.rt:140:13
 mark-of-requires : tie.Need-mark-of-requires Inv-loop μ-loop
 mark-of-requires c κs =
-    let s = c .before .before .before .before .before .before in
+    let start = c .before .before .before .before .before .before in
     let e = c .stretch-end .ensures in
-    (s .pre .0, (e .forward, e .ends .within))
+    (start .pre .0, (e .forward, e .ends .within))
 
--- src/lib.rt:141:18
 cast-at : tie.Need-cast-at Inv-loop μ-loop
 cast-at c = search needs
 
--- src/lib.rt:142:22
 cast-starts : tie.Need-cast-starts Inv-loop μ-loop
 cast-starts c =
-    let s = c .before .before .before .before .before .before .before in
+    let start = c .before .before .before .before .before .before .before in
     let i = c .before .before .before .loop .inv in
-    omega (arith, i .4 .within, s .pre .0 .small)
+    omega (arith, i .4 .within, start .pre .0 .small)
 
--- src/lib.rt:142:9
 mul-starts : tie.Need-mul-starts Inv-loop μ-loop
 mul-starts c = search needs
 
--- src/lib.rt:142:9
 element-write-starts : tie.Need-element-write-starts Inv-loop μ-loop
 element-write-starts c =
-    let s = c .before .before .before .before .before .before .before in
-    omega (arith, s .pre .0 .few)
+    let start = c .before .before .before .before .before .before .before in
+    omega (arith, start .pre .0 .few)
 
--- src/lib.rt:143:9
 mul-marks : tie.Need-mul-marks Inv-loop μ-loop
 mul-marks c = search needs
 
--- src/lib.rt:143:9
 slice-write-marks : tie.Need-slice-write-marks Inv-loop μ-loop
 slice-write-marks c = search needs
 
--- src/lib.rt:145:9
-add-l : tie.Need-add-l Inv-loop μ-loop
-add-l c = search needs
+add-label : tie.Need-add-label Inv-loop μ-loop
+add-label c = search needs
 
--- src/lib.rt:138:5
 loop-less : tie.Need-loop-less Inv-loop μ-loop
 loop-less c = omega arith
 
--- src/lib.rt:138:5
 loop-again : tie.Need-loop-again Inv-loop μ-loop
 loop-again c =
-    let s = c .before .before .before .before .before .before .before in
+    let start = c .before .before .before .before .before .before .before in
     let l = c .before .before .before .loop in
     let f = c .before .stretch-end in (
-      length-set (l .starts) (l .l) (l .b) ∙ l .inv .0,
-      length-set (l .marks) (l .l) (c .mark-of .result) ∙ l .inv .1,
+      length-set (l .starts) (l .label) (l .from) ∙ l .inv .0,
+      length-set (l .marks) (l .label) (c .mark-of .result) ∙ l .inv .1,
       omega arith,
       refl,
       f .ensures .ends,
-      marked-more (s .args .labels .now) (l .starts) (l .marks) (l .l) (l .b) (c .mark-of .result) (omega (arith, l .inv .0, s .pre .0 .few)) (omega (arith, l .inv .1, s .pre .1 .1))
+      marked-more (start .args .labels .now) (l .starts) (l .marks) (l .label) (l .from) (c .mark-of .result)
+          (omega (arith, l .inv .0, start .pre .0 .few)) (omega (arith, l .inv .1, start .pre .1 .1))
           (record { end = f .result; stretch = f .ensures; sum = c .mark-of .ensures }) (l .inv .5),
     )
 
--- src/lib.rt:130:1
 same-length : tie.Need-same-length Inv-loop μ-loop
 same-length c = search needs
 
--- src/lib.rt:130:1
 returns : tie.Need-returns Inv-loop μ-loop
 returns c = λ z h. c .before .loop .inv .5 z (omega arith)
 
@@ -109,7 +98,7 @@ mark-labels-spec =
     (tie.spec
     Inv-loop
     μ-loop
-    shared-slice-read-n
+    shared-slice-read-count
     loop-holds
     stretch-end-requires
     mark-of-requires
@@ -119,7 +108,7 @@ mark-labels-spec =
     element-write-starts
     mul-marks
     slice-write-marks
-    add-l
+    add-label
     loop-less
     loop-again
     same-length

@@ -13,57 +13,57 @@ use Rattle.labels.proofs.action_at.Reads as action-at-reads
 use Rattle.labels.proofs.weight_of.Reads as weight-of-reads
 
 abbrev Inv-loop : tie.InvT-loop
-Inv-loop labels from to sum₀ i₀ sum i = (from ≤ i) × (i ≤ to) × (sum ≡ weightIn labels from i) × (sum ≤ (i - from) * 4_294_967_296)
+Inv-loop labels from to sum₀ i₀ sum i = (from ≤ i) × (i ≤ to) × (sum ≡ weightIn labels from i) ×
+    (sum ≤ (i - from) * 4_294_967_296)
 
 abbrev μ-loop : tie.MeasureT-loop
 μ-loop labels from to sum₀ i₀ sum i = to - i
 
--- src/lib.rt:121:5
 loop-holds : tie.Need-loop-holds Inv-loop μ-loop
-loop-holds c = (omega arith, omega arith, weights-none (c .before .args .labels .now) (c .before .args .from), omega arith)
+loop-holds c =
+    let start = c .before in
+    (omega arith, omega arith, weights-none (start .args .labels .now) (start .args .from), omega arith)
 
--- src/lib.rt:122:13
 action-at-requires : tie.Need-action-at-requires Inv-loop μ-loop
 action-at-requires c κs = search needs
 
--- src/lib.rt:123:16
 weight-of-requires : tie.Need-weight-of-requires Inv-loop μ-loop
 weight-of-requires c κs = tt
 
--- src/lib.rt:123:9
 add-sum : tie.Need-add-sum Inv-loop μ-loop
 add-sum c =
+    let start = c .before .before .before .before .before in
     let w = c .weight-of .ensures in
     let b = weight-below (c .before .action-at .result) in
     let l = c .before .before .before .loop in
-    let s = c .before .before .before .before .before in
-    omega (arith, w, b, l .inv .3, s .pre .0 .small, s .pre .1 .1)
+    omega (arith, w, b, l .inv .3, start .pre .0 .small, start .pre .1 .1)
 
--- src/lib.rt:124:9
 add-i : tie.Need-add-i Inv-loop μ-loop
 add-i c = search needs
 
--- src/lib.rt:121:5
 loop-less : tie.Need-loop-less Inv-loop μ-loop
 loop-less c = omega arith
 
--- src/lib.rt:121:5
 loop-again : tie.Need-loop-again Inv-loop μ-loop
 loop-again c =
-    let s = c .before .before .before .before .before in
-    let l = c .before .before .before .loop in
-    (omega arith, omega arith, weights-more (s .args .labels .now) (s .args .from) (l .i) _ _ (l .sum) (l .inv .0) (l .inv .2) (c .before .action-at .ensures) (c .weight-of .ensures), omega (arith, c .weight-of .ensures, weight-below (c .before .action-at .result), l .inv .3, l .inv .0))
+    let at-action-at = c .before in
+    let start = at-action-at .before .before .before .before in
+    let l = at-action-at .before .before .loop in (
+      omega arith,
+      omega arith,
+      weights-more (start .args .labels .now) (start .args .from) (l .i) _ _ (l .sum)
+          (l .inv .0) (l .inv .2) (at-action-at .action-at .ensures) (c .weight-of .ensures),
+      omega
+          (arith, c .weight-of .ensures, weight-below (at-action-at .action-at .result), l .inv .3, l .inv .0),
+    )
 
--- src/lib.rt:126:5
 cast-result : tie.Need-cast-result Inv-loop μ-loop
 cast-result c = search needs
 
--- src/lib.rt:114:1
 returns : tie.Need-returns Inv-loop μ-loop
 returns c =
-    let s = c .before .before .before in
     let l = c .before .loop in
-    let e : l .i ≡ s .args .to = omega arith in
+    let e : l .i ≡ c .before .before .before .args .to = omega arith in
     ap (λ (n : ℕ). n % 4294967296) (rw e at (l .inv .2))
 
 pub mark-of-spec : {M : Type 1} → statement M

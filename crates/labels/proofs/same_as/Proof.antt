@@ -9,42 +9,34 @@ use Rattle.labels.proofs.same_as.Lts as lts
 use Rattle.labels.proofs.same_label.Reads as same-label-reads
 use Rattle.labels.proofs.stretch_end.Reads as stretch-end-reads
 
--- src/lib.rt:177:8
 mul-if1 : tie.Need-mul-if1
 mul-if1 c = search needs
 
--- src/lib.rt:177:8
 shared-slice-read-if1 : tie.Need-shared-slice-read-if1
 shared-slice-read-if1 c = search needs
 
--- src/lib.rt:178:9
 returns : tie.Need-returns
 returns c =
-    let s = c .before .before .before .before in
-    let x = s .args in
-    sym (other-multiset (x .labels .now) (x .k) _ _ (x .l) (x .b) (x .m) (s .pre .1 .1 .0) (s .pre .1 .1 .1 .1) (c .if1 .taken))
+    let start = c .before .before .before .before in
+    let x = start .args in
+    sym (other-multiset (x .labels .now) (x .lower) _ _ (x .label) (x .places .from) (x .mark) (start .pre .1 .0)
+    (start .pre .1 .1 .1) (c .if1 .taken))
 
--- src/lib.rt:180:13
-mul-a : tie.Need-mul-a
-mul-a c = search needs
+mul-from : tie.Need-mul-from
+mul-from c = search needs
 
--- src/lib.rt:180:13
-element-copy-out-a : tie.Need-element-copy-out-a
-element-copy-out-a c = search needs
+element-copy-out-from : tie.Need-element-copy-out-from
+element-copy-out-from c = search needs
 
--- src/lib.rt:180:13
-cast-a : tie.Need-cast-a
-cast-a c = search needs
+cast-from : tie.Need-cast-from
+cast-from c = search needs
 
--- src/lib.rt:181:9
 stretch-end-requires : tie.Need-stretch-end-requires
 stretch-end-requires c κs = search needs
 
--- src/lib.rt:182:5
 same-label-requires : tie.Need-same-label-requires
 same-label-requires c κs = search needs
 
--- src/lib.rt:168:1
 returns-2 : tie.Need-returns-2
 returns-2 c = search needs
 
@@ -55,9 +47,9 @@ same-as-spec =
     mul-if1
     shared-slice-read-if1
     returns
-    mul-a
-    element-copy-out-a
-    cast-a
+    mul-from
+    element-copy-out-from
+    cast-from
     stretch-end-requires
     same-label-requires
     returns-2)

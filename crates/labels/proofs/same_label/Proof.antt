@@ -7,31 +7,35 @@ use Rattle.labels.proofs.same_label.Reads as reads
 use Rattle.labels.proofs.same_label.Lts as lts
 use Rattle.labels.proofs.covers.Reads as covers-reads
 
--- src/lib.rt:97:8
 sub-if1 : tie.Need-sub-if1
 sub-if1 c = search needs
 
--- src/lib.rt:97:17
 sub-if1-2 : tie.Need-sub-if1-2
 sub-if1-2 c = search needs
 
--- src/lib.rt:98:9
 returns : tie.Need-returns
 returns c =
-    let s = c .before .before in
-    let x = s .args in
-    sizes-differ (x .labels .now) (x .l) (x .a) (x .e) (x .m) (x .b) (x .f) (s .pre .1 .0) (s .pre .1 .1) (c .if1 .taken)
+    let start = c .before .before .before .before in
+    let x = start .args in
+    sizes-differ (x .labels .now) (x .label) (x .own .from) (x .own .to) (x .another) (x .other .from) (x .other .to)
+    (start .pre .1 .0) (start .pre .1 .1) (c .if1 .taken)
 
--- src/lib.rt:100:5
 covers-requires : tie.Need-covers-requires
 covers-requires c κs = search needs
 
--- src/lib.rt:91:1
 returns-2 : tie.Need-returns-2
 returns-2 c =
-    let s = c .before .before .before in
-    let x = s .args in
-    sizes-agree (x .labels .now) (x .l) (x .a) (x .e) (x .m) (x .b) (x .f) (s .pre .1 .0) (s .pre .1 .1) _ (c .covers .ensures) (c .before .if1 .left)
+    let start = c .before .before .before .before .before in
+    let x = start .args in
+    sizes-agree (x .labels .now) (x .label) (x .own .from) (x .own .to) (x .another) (x .other .from) (x .other .to)
+    (start .pre .1 .0) (start .pre .1 .1) _ (c .covers .ensures) (c .before .if1 .left)
 
 pub same-label-spec : {M : Type 1} → statement M
-same-label-spec = tie.close (tie.spec sub-if1 sub-if1-2 returns covers-requires returns-2)
+same-label-spec =
+    tie.close
+    (tie.spec
+    sub-if1
+    sub-if1-2
+    returns
+    covers-requires
+    returns-2)

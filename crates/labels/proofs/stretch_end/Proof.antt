@@ -12,63 +12,66 @@ use Rattle.labels.proofs.stretch_end.Lts as lts
 use Rattle.labels.proofs.label_at.Reads as label-at-reads
 
 abbrev Inv-loop : tie.InvT-loop
-Inv-loop labels from l n i₀ i = (from ≤ i) × (i ≤ actionCount labels) × (n ≡ actionCount labels) × ((p : ℕ) → p < i → labelAt labels p < l + 1)
+Inv-loop labels from label count i₀ i =
+    (from ≤ i) × (i ≤ actionCount labels) × (count ≡ actionCount labels)
+    × ((p : ℕ) → p < i → labelAt labels p < label + 1)
 
 abbrev μ-loop : tie.MeasureT-loop
-μ-loop labels from l n i₀ i = n - i
+μ-loop labels from label count i₀ i = count - i
 
--- src/lib.rt:74:13
-shared-slice-read-n : tie.Need-shared-slice-read-n Inv-loop μ-loop
-shared-slice-read-n c = search needs
+shared-slice-read-count : tie.Need-shared-slice-read-count Inv-loop μ-loop
+shared-slice-read-count c = search needs
 
--- src/lib.rt:74:13
-cast-n : tie.Need-cast-n Inv-loop μ-loop
-cast-n c = search needs
+cast-count : tie.Need-cast-count Inv-loop μ-loop
+cast-count c = search needs
 
--- src/lib.rt:76:5
 loop-holds : tie.Need-loop-holds Inv-loop μ-loop
 loop-holds c =
-    let s = c .before .before in
-    (omega arith, s .pre .1 .within, refl, λ p h. omega (arith, s .pre .1 .before p h))
+    let start = c .before .before in
+    (omega arith, start .pre .1 .within, refl, λ p h. omega (arith, start .pre .1 .before p h))
 
--- src/lib.rt:77:13
 label-at-requires : tie.Need-label-at-requires Inv-loop μ-loop
 label-at-requires c κs = search needs
 
--- src/lib.rt:79:13
 returns : tie.Need-returns Inv-loop μ-loop
 returns c =
-    let s = c .before .before .before .before .before .before in
+    let start = c .before .before .before .before .before .before in
     let l = c .before .before .before .loop in
     let k = c .before .label-at .ensures in
-    let here = s .pre .1 .after (l .i) (l .inv .0) (omega arith) in
+    let here = start .pre .1 .after (l .i) (l .inv .0) (omega arith) in
     record {
       forward = l .inv .0;
-      starts = s .pre .1;
-      ends = record { within = l .inv .1; before = l .inv .3; after = λ p h u. omega (arith, s .pre .0 .order (l .i) p h u, here, k, c .if1 .taken) };
+      starts = start .pre .1;
+      ends = record {
+        within = l .inv .1;
+        before = l .inv .3;
+        after =
+            λ p h u. omega (arith, start .pre .0 .order (l .i) p h u, here, k, c .if1 .taken);
+      };
     }
 
--- src/lib.rt:81:9
 add-i : tie.Need-add-i Inv-loop μ-loop
 add-i c = search needs
 
--- src/lib.rt:76:5
 loop-less : tie.Need-loop-less Inv-loop μ-loop
 loop-less c = omega arith
 
--- src/lib.rt:76:5
 loop-again : tie.Need-loop-again Inv-loop μ-loop
 loop-again c =
     let l = c .before .before .before .loop in
     (omega arith, omega arith, refl, below-more _ _ (l .inv .3) (omega (arith, c .before .label-at .ensures, c .if1 .left)))
 
--- src/lib.rt:69:1
 returns-2 : tie.Need-returns-2 Inv-loop μ-loop
 returns-2 c =
-    let s = c .before .before .before .before in
+    let start = c .before .before .before .before in
     let l = c .before .loop in
-    let e : l .i ≡ actionCount (s .args .labels .now) = omega arith in
-    record { forward = l .inv .0; starts = s .pre .1; ends = record { within = l .inv .1; before = l .inv .3; after = λ p h u. absurd (omega arith) } }
+    let e : l .i ≡ actionCount (start .args .labels .now) = omega arith in
+    record {
+      forward = l .inv .0;
+      starts = start .pre .1;
+      ends = record
+          { within = l .inv .1; before = l .inv .3; after = λ p h u. absurd (omega arith) };
+    }
 
 pub stretch-end-spec : {M : Type 1} → statement M
 stretch-end-spec =
@@ -76,8 +79,8 @@ stretch-end-spec =
     (tie.spec
     Inv-loop
     μ-loop
-    shared-slice-read-n
-    cast-n
+    shared-slice-read-count
+    cast-count
     loop-holds
     label-at-requires
     returns

@@ -13,50 +13,45 @@ use Rattle.labels.proofs.times_in.Lts as lts
 use Rattle.labels.proofs.action_at.Reads as action-at-reads
 
 abbrev Inv-loop : tie.InvT-loop
-Inv-loop labels from to action n₀ i₀ n i = (from ≤ i) × (i ≤ to) × (n ≡ timesIn labels from i action) × (n ≤ i - from)
+Inv-loop labels from to action times₀ i₀ times i =
+    (from ≤ i) × (i ≤ to) × (times ≡ timesIn labels from i action) × (times ≤ i - from)
 
 abbrev μ-loop : tie.MeasureT-loop
-μ-loop labels from to action n₀ i₀ n i = to - i
+μ-loop labels from to action times₀ i₀ times i = to - i
 
--- src/lib.rt:37:5
 loop-holds : tie.Need-loop-holds Inv-loop μ-loop
-loop-holds c = (omega arith, omega arith, times-none (c .before .args .labels .now) (c .before .args .from) (c .before .args .action), omega arith)
+loop-holds c =
+    let start = c .before in
+    (omega arith, omega arith, times-none (start .args .labels .now) (start .args .from) (start .args .action), omega arith)
 
--- src/lib.rt:38:13
 action-at-requires : tie.Need-action-at-requires Inv-loop μ-loop
 action-at-requires c κs = search needs
 
--- src/lib.rt:40:13
-add-n : tie.Need-add-n Inv-loop μ-loop
-add-n c =
-    let s = c .before .before .before .before .before in
-    omega (arith, s .pre .0 .small)
+add-times : tie.Need-add-times Inv-loop μ-loop
+add-times c =
+    let start = c .before .before .before .before .before in
+    omega (arith, start .pre .0 .small)
 
--- src/lib.rt:42:9
 add-i : tie.Need-add-i Inv-loop μ-loop
 add-i c = omega arith
 
--- src/lib.rt:37:5
 loop-less : tie.Need-loop-less Inv-loop μ-loop
 loop-less c = omega arith
 
--- src/lib.rt:37:5
 loop-again : tie.Need-loop-again Inv-loop μ-loop
 loop-again c =
-    let s = c .before .before .before .before .before in
+    let start = c .before .before .before .before .before in
     let l = c .before .before .before .loop in
     let e = c .before .action-at .ensures in
     ⊎-elim
-    (λ w. (omega arith, omega arith, w .1 ∙ times-hit (s .args .labels .now) (s .args .from) (l .i) (s .args .action) (l .n) (l .inv .0) (l .inv .2) (sym e ∙ w .0 .taken), omega (arith, w .1)))
-    (λ w. (omega arith, omega arith, w .1 ∙ times-miss (s .args .labels .now) (s .args .from) (l .i) (s .args .action) (l .n) (l .inv .0) (l .inv .2) (λ z. w .0 .left (e ∙ z)), omega (arith, w .1)))
+    (λ w. (omega arith, omega arith, w .1 ∙ times-hit (start .args .labels .now) (start .args .from) (l .i) (start .args .action) (l .times) (l .inv .0) (l .inv .2) (sym e ∙ w .0 .taken), omega (arith, w .1)))
+    (λ w. (omega arith, omega arith, w .1 ∙ times-miss (start .args .labels .now) (start .args .from) (l .i) (start .args .action) (l .times) (l .inv .0) (l .inv .2) (λ z. w .0 .left (e ∙ z)), omega (arith, w .1)))
     (c .if1 .came)
 
--- src/lib.rt:30:1
 returns : tie.Need-returns Inv-loop μ-loop
 returns c =
-    let s = c .before .before .before in
     let l = c .before .loop in
-    let e : l .i ≡ s .args .to = omega arith in
+    let e : l .i ≡ c .before .before .before .args .to = omega arith in
     rw e at (l .inv .2)
 
 pub times-in-spec : {M : Type 1} → statement M
@@ -67,7 +62,7 @@ times-in-spec =
     μ-loop
     loop-holds
     action-at-requires
-    add-n
+    add-times
     add-i
     loop-less
     loop-again

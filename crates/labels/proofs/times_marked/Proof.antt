@@ -13,50 +13,44 @@ use Rattle.labels.proofs.times_marked.Reads as reads
 use Rattle.labels.proofs.times_marked.Lts as lts
 
 abbrev Inv-loop : tie.InvT-loop
-Inv-loop marks n m times₀ i₀ times i = (i ≤ n) × (times ≡ tally (λ j. eqb (word marks j) m) 0 i) × (times ≤ i)
+Inv-loop marks count mark times₀ i₀ times i =
+    (i ≤ count) × (times ≡ tally (λ j. eqb (word marks j) mark) 0 i) × (times ≤ i)
 
 abbrev μ-loop : tie.MeasureT-loop
-μ-loop marks n m times₀ i₀ times i = n - i
+μ-loop marks count mark times₀ i₀ times i = count - i
 
--- src/lib.rt:156:5
 loop-holds : tie.Need-loop-holds Inv-loop μ-loop
-loop-holds c = (omega arith, marked-none (c .args .marks .now) (c .args .m), omega arith)
+loop-holds c = (omega arith, marked-none (c .args .marks .now) (c .args .mark), omega arith)
 
--- src/lib.rt:157:12
 mul-if1 : tie.Need-mul-if1 Inv-loop μ-loop
 mul-if1 c = search needs
 
--- src/lib.rt:157:12
 shared-slice-read-if1 : tie.Need-shared-slice-read-if1 Inv-loop μ-loop
 shared-slice-read-if1 c = search needs
 
--- src/lib.rt:158:13
 add-times : tie.Need-add-times Inv-loop μ-loop
 add-times c = omega arith
 
--- src/lib.rt:160:9
 add-i : tie.Need-add-i Inv-loop μ-loop
 add-i c = search needs
 
--- src/lib.rt:156:5
 loop-less : tie.Need-loop-less Inv-loop μ-loop
 loop-less c = omega arith
 
--- src/lib.rt:156:5
 loop-again : tie.Need-loop-again Inv-loop μ-loop
 loop-again c =
-    let x = c .before .before .before .before .args in
+    let start = c .before .before .before .before in
+    let x = start .args in
     let l = c .before .before .before .loop in
     ⊎-elim
-    (λ w. (omega arith, w .1 ∙ marked-hit (x .marks .now) (x .m) (l .i) (l .times) (l .inv .1) (w .0 .taken), omega (arith, w .1)))
-    (λ w. (omega arith, w .1 ∙ marked-miss (x .marks .now) (x .m) (l .i) (l .times) (l .inv .1) (w .0 .left), omega (arith, w .1)))
+    (λ w. (omega arith, w .1 ∙ marked-hit (x .marks .now) (x .mark) (l .i) (l .times) (l .inv .1) (w .0 .taken), omega (arith, w .1)))
+    (λ w. (omega arith, w .1 ∙ marked-miss (x .marks .now) (x .mark) (l .i) (l .times) (l .inv .1) (w .0 .left), omega (arith, w .1)))
     (c .if1 .came)
 
--- src/lib.rt:150:1
 returns : tie.Need-returns Inv-loop μ-loop
 returns c =
     let l = c .before .loop in
-    let e : l .i ≡ c .before .before .args .n = omega arith in
+    let e : l .i ≡ c .before .before .args .count = omega arith in
     rw e at (l .inv .1)
 
 pub times-marked-spec : {M : Type 1} → statement M

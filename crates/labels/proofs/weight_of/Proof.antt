@@ -8,23 +8,25 @@ use Rattle.labels.proofs.weight_of.Tie as tie
 use Rattle.labels.proofs.weight_of.Reads as reads
 use Rattle.labels.proofs.weight_of.Lts as lts
 
--- src/lib.rt:109:14
-mul-t : tie.Need-mul-t
-mul-t c = search needs
+mul-stirred : tie.Need-mul-stirred
+mul-stirred c = search needs
 
--- src/lib.rt:109:14
-add-t : tie.Need-add-t
-add-t c = search needs
+add-stirred : tie.Need-add-stirred
+add-stirred c = search needs
 
--- src/lib.rt:110:5
 mul-result : tie.Need-mul-result
 unfolding stirred
 mul-result c = record { fits = square-fits (c .args .action) }
 
--- src/lib.rt:106:1
 returns : tie.Need-returns
 unfolding stirred weight
 returns c = refl
 
 pub weight-of-spec : {M : Type 1} → statement M
-weight-of-spec = tie.close (tie.spec mul-t add-t mul-result returns)
+weight-of-spec =
+    tie.close
+    (tie.spec
+    mul-stirred
+    add-stirred
+    mul-result
+    returns)

@@ -1,7 +1,6 @@
-use mathlib.Core.Path.{sym}
+use mathlib.Core.List.{[], _∷_}
 use native.Mathlib.Omega.{arith}
-use lib.ListN.{set, length-set}
-use lib.Seq.{length-take-le}
+use Rattle.limits.proofs.Prefix.{inside, front}
 use borrow.Author.Needs.{needs}
 use Rattle.limits.proofs.actions.Statement.{statement}
 use Rattle.limits.proofs.actions.Tie as tie
@@ -29,10 +28,16 @@ add-end : tie.Need-add-end
 add-end c = search needs
 
 array-share-prefix-labels : tie.Need-array-share-prefix-labels
-array-share-prefix-labels c = omega (arith, c .label-room .ensures, length-set (c .label-room .result) 0 1, length-set (set (c .label-room .result) 0 1) 1 (c .before .args .count))
+array-share-prefix-labels c =
+    let s = c .before in
+    let room = c .label-room in
+    inside (room .result) ((0, 1) ∷ (1, s .args .count) ∷ []) 32772 _ (room .ensures) (omega arith)
 
 slice-aggregate-attempt : tie.Need-slice-aggregate-attempt
-slice-aggregate-attempt c = sym (length-take-le _ _ (omega (arith, c .before .label-room .ensures, length-set (c .before .label-room .result) 0 1, length-set (set (c .before .label-room .result) 0 1) 1 (c .before .before .args .count))))
+slice-aggregate-attempt c =
+    let s = c .before .before in
+    let room = c .before .label-room in
+    front (room .result) ((0, 1) ∷ (1, s .args .count) ∷ []) 32772 _ (room .ensures) (omega arith)
 
 slice-aggregate-attempt-2 : tie.Need-slice-aggregate-attempt-2
 slice-aggregate-attempt-2 c = search needs

@@ -1,7 +1,6 @@
-use mathlib.Core.Path.{sym}
+use mathlib.Core.List.{[], _∷_}
 use native.Mathlib.Omega.{arith}
-use lib.ListN.{length-set}
-use lib.Seq.{length-take-le}
+use Rattle.limits.proofs.Prefix.{inside, front}
 use borrow.Author.Needs.{needs}
 use Rattle.limits.proofs.row.Statement.{statement}
 use Rattle.limits.proofs.row.Tie as tie
@@ -40,11 +39,17 @@ slice-aggregate-attempt-2 c = search needs
 
 -- src/main.rt:105:43
 array-share-prefix-actions : tie.Need-array-share-prefix-actions
-array-share-prefix-actions c = omega (arith, c .before .before .table .ensures, length-set (c .before .before .table .result) 0 (c .before .before .before .args .count))
+array-share-prefix-actions c =
+    let s = c .before .before .before in
+    let room = c .before .before .table in
+    inside (room .result) ((0, s .args .count) ∷ []) 2051 _ (room .ensures) (omega arith)
 
 -- src/main.rt:105:43
 slice-aggregate-attempt-3 : tie.Need-slice-aggregate-attempt-3
-slice-aggregate-attempt-3 c = sym (length-take-le _ _ (omega (arith, c .before .before .before .table .ensures, length-set (c .before .before .before .table .result) 0 (c .before .before .before .before .args .count))))
+slice-aggregate-attempt-3 c =
+    let s = c .before .before .before .before in
+    let room = c .before .before .before .table in
+    front (room .result) ((0, s .args .count) ∷ []) 2051 _ (room .ensures) (omega arith)
 
 -- src/main.rt:105:60
 slice-aggregate-attempt-4 : tie.Need-slice-aggregate-attempt-4

@@ -1,7 +1,6 @@
-use mathlib.Core.Path.{sym}
+use mathlib.Core.List.{[], _∷_}
 use native.Mathlib.Omega.{arith}
-use lib.ListN.{length-set}
-use lib.Seq.{length-take-le}
+use Rattle.limits.proofs.Prefix.{inside, front}
 use borrow.Author.Needs.{needs}
 use Rattle.limits.proofs.states.Statement.{statement}
 use Rattle.limits.proofs.states.Tie as tie
@@ -26,10 +25,16 @@ slice-aggregate-attempt : tie.Need-slice-aggregate-attempt
 slice-aggregate-attempt c = search needs
 
 array-share-prefix-system : tie.Need-array-share-prefix-system
-array-share-prefix-system c = omega (arith, c .before .blank .ensures, length-set (c .before .blank .result) 0 (c .before .before .args .count))
+array-share-prefix-system c =
+    let s = c .before .before in
+    let room = c .before .blank in
+    inside (room .result) ((0, s .args .count) ∷ []) 65539 _ (room .ensures) (omega arith)
 
 slice-aggregate-attempt-2 : tie.Need-slice-aggregate-attempt-2
-slice-aggregate-attempt-2 c = sym (length-take-le _ _ (omega (arith, c .before .before .blank .ensures, length-set (c .before .before .blank .result) 0 (c .before .before .before .args .count))))
+slice-aggregate-attempt-2 c =
+    let s = c .before .before .before in
+    let room = c .before .before .blank in
+    front (room .result) ((0, s .args .count) ∷ []) 65539 _ (room .ensures) (omega arith)
 
 slice-aggregate-attempt-3 : tie.Need-slice-aggregate-attempt-3
 slice-aggregate-attempt-3 c = search needs

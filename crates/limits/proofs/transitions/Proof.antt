@@ -1,7 +1,6 @@
-use mathlib.Core.Path.{sym}
+use mathlib.Core.List.{[], _∷_}
 use native.Mathlib.Omega.{arith}
-use lib.ListN.{set, length-set}
-use lib.Seq.{length-take-le}
+use Rattle.limits.proofs.Prefix.{inside, front}
 use borrow.Author.Needs.{needs}
 use Rattle.limits.proofs.transitions.Statement.{statement}
 use Rattle.limits.proofs.transitions.Tie as tie
@@ -38,10 +37,16 @@ slice-aggregate-attempt : tie.Need-slice-aggregate-attempt
 slice-aggregate-attempt c = search needs
 
 array-share-prefix-system : tie.Need-array-share-prefix-system
-array-share-prefix-system c = omega (arith, c .before .system-room .ensures, length-set (c .before .system-room .result) 0 1, length-set (set (c .before .system-room .result) 0 1) 1 (c .before .before .args .count), length-set (set (set (c .before .system-room .result) 0 1) 1 (c .before .before .args .count)) 3 (c .before .before .args .count))
+array-share-prefix-system c =
+    let s = c .before .before in
+    let room = c .before .system-room in
+    inside (room .result) ((0, 1) ∷ (1, s .args .count) ∷ (3, s .args .count) ∷ []) 524294 _ (room .ensures) (omega arith)
 
 slice-aggregate-attempt-2 : tie.Need-slice-aggregate-attempt-2
-slice-aggregate-attempt-2 c = sym (length-take-le _ _ (omega (arith, c .before .before .system-room .ensures, length-set (c .before .before .system-room .result) 0 1, length-set (set (c .before .before .system-room .result) 0 1) 1 (c .before .before .before .args .count), length-set (set (set (c .before .before .system-room .result) 0 1) 1 (c .before .before .before .args .count)) 3 (c .before .before .before .args .count))))
+slice-aggregate-attempt-2 c =
+    let s = c .before .before .before in
+    let room = c .before .before .system-room in
+    front (room .result) ((0, 1) ∷ (1, s .args .count) ∷ (3, s .args .count) ∷ []) 524294 _ (room .ensures) (omega arith)
 
 slice-aggregate-attempt-3 : tie.Need-slice-aggregate-attempt-3
 slice-aggregate-attempt-3 c = search needs

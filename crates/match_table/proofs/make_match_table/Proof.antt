@@ -11,36 +11,47 @@ use Rattle.match_table.proofs.make_match_table.Lts as lts
 use Rattle.match_table.proofs.give_item_row.Reads as give-item-row-reads
 
 abbrev Inv-loop : tie.InvT-loop
-Inv-loop labels actions classes kinds rights items matched₀ rows₀ q₀ matched rows q = (q ≤ items) × FirstRows labels actions matched rows
+Inv-loop labels actions compiled items matched₀ rows₀ item₀ matched rows item = (item ≤ items) × FirstRows labels
+    actions matched rows
 
 abbrev μ-loop : tie.MeasureT-loop
-μ-loop labels actions classes kinds rights items matched₀ rows₀ q₀ matched rows q = items - q
+μ-loop labels actions compiled items matched₀ rows₀ item₀ matched rows item = items - item
 
--- src/lib.rt:126:5
 loop-holds : tie.Need-loop-holds Inv-loop μ-loop
-loop-holds c = (omega arith, rows-none _ _ _ (c .before .before .before .before .before .pre .1 .1) (c .before .before .before .before .before .pre .0 .1 .few))
+loop-holds c =
+    let start = c .before .before in
+    (omega arith, rows-none _ _ _ (start .pre .1) (start .pre .0 .0 .1 .few))
 
--- src/lib.rt:127:9
+cast-give-item-row : tie.Need-cast-give-item-row Inv-loop μ-loop
+cast-give-item-row c = search needs
+
 give-item-row-requires : tie.Need-give-item-row-requires Inv-loop μ-loop
-give-item-row-requires c κs = let s = c .before .before .before .before .before .before .before .before in (s .pre .0, ((omega (arith, s .pre .1 .0 .0, c .before .loop-test .taken), omega (arith, s .pre .1 .0 .1, c .before .loop-test .taken)), c .before .before .loop .inv .1))
+give-item-row-requires c κs =
+    let start = c .before .before .before .before .before in
+    ((start .pre .0 .0, omega (arith, start .pre .0 .1, c .before .loop-test .taken)), c .before .before .loop .inv .1)
 
--- src/lib.rt:128:9
-add-q : tie.Need-add-q Inv-loop μ-loop
-add-q c = search needs
+add-item : tie.Need-add-item Inv-loop μ-loop
+add-item c = search needs
 
--- src/lib.rt:126:5
 loop-less : tie.Need-loop-less Inv-loop μ-loop
 loop-less c = search needs
 
--- src/lib.rt:126:5
 loop-again : tie.Need-loop-again Inv-loop μ-loop
 loop-again c = search needs
 
--- src/lib.rt:110:1
 returns : tie.Need-returns Inv-loop μ-loop
 returns c = search needs
 
 pub make-match-table-spec : {M : Type 1} → statement M
 make-match-table-spec =
     tie.close
-    (tie.spec Inv-loop μ-loop loop-holds give-item-row-requires add-q loop-less loop-again returns)
+    (tie.spec
+    Inv-loop
+    μ-loop
+    loop-holds
+    cast-give-item-row
+    give-item-row-requires
+    add-item
+    loop-less
+    loop-again
+    returns)

@@ -1,4 +1,5 @@
--- `match_action_formula` meets its contract. The measure is the number of nodes less the node; each answer is the law of the kind of the node. Assumes nothing.
+-- `match_action_formula` meets its contract. The measure is the number of nodes less the node; each answer is the law
+-- of the kind of the node. Assumes nothing.
 use Prim.Native.Nat.{_+_, _-_, _≤_}
 use native.Mathlib.Omega.{arith}
 use Rattle.rules.specs.Table.{size}
@@ -15,26 +16,25 @@ use Rattle.words.proofs.at.Reads as at-reads
 use Rattle.matching.proofs.+match_action_formula.{statement}
 use Rattle.matching.proofs.+match_action_formula.Tie.{close}
 
-abbrev μ-match-action-formula : Measures 3 match-action-formula-kinds.ps ℕ
-μ-match-action-formula κs a = size (a .1 .0 .now) - a .1 .1 .1 .1 .0
+abbrev μ-match-action-formula : Measures 2 match-action-formula-kinds.ps ℕ
+μ-match-action-formula κs a = size (a .0 .now) - a .1 .1 .1 .0
 
-abbrev match-action-formula-at : ℕ → In 3 match-action-formula-kinds.ps
+abbrev match-action-formula-at : ℕ → In 2 match-action-formula-kinds.ps
 match-action-formula-at t =
     and
-    3
+    2
     match-action-formula-kinds.ps
-    (is 3 match-action-formula-kinds.ps μ-match-action-formula t)
+    (is 2 match-action-formula-kinds.ps μ-match-action-formula t)
     match-action-formula.Pre
 
-abbrev match-action-formula-below : ℕ → In 3 match-action-formula-kinds.ps
+abbrev match-action-formula-below : ℕ → In 2 match-action-formula-kinds.ps
 match-action-formula-below t =
     and
-    3
+    2
     match-action-formula-kinds.ps
-    (falls 3 match-action-formula-kinds.ps _<_ μ-match-action-formula t)
+    (falls 2 match-action-formula-kinds.ps _<_ μ-match-action-formula t)
     match-action-formula.Pre
 
--- src/lib.rt:38:9
 match-action-formula-kind-at-requires : (t : ℕ) → match-action-formula-lts.Need-kind-at-requires (
   kind-at-reads.Asked,
   kind-at-reads.Learnt,
@@ -45,9 +45,10 @@ match-action-formula-kind-at-requires : (t : ℕ) → match-action-formula-lts.N
   match-action-formula-below t,
   match-action-formula.Post,
 ) (match-action-formula-at t) match-action-formula.Post
-match-action-formula-kind-at-requires t c κs = omega (arith, c .before .before .before .pre .1 .0 .sized, c .before .before .before .pre .1 .1 .1)
+match-action-formula-kind-at-requires t c κs =
+    let start = c .before .before in
+    omega (arith, start .pre .1 .0 .sized, start .pre .1 .1)
 
--- src/lib.rt:40:9
 match-action-formula-returns : (t : ℕ) → match-action-formula-lts.Need-returns (
   kind-at-reads.Asked,
   kind-at-reads.Learnt,
@@ -59,11 +60,11 @@ match-action-formula-returns : (t : ℕ) → match-action-formula-lts.Need-retur
   match-action-formula.Post,
 ) (match-action-formula-at t) match-action-formula.Post
 match-action-formula-returns t c =
-    let s = c .before .before .before .before .before in
-    let p = s .pre .1 in
-    at-true (s .args .labels .now) (s .args .actions .now) (p .0) (s .args .node) (p .1 .1) _ (c .before .kind-at .ensures) (s .args .multiset) (c .if1 .taken)
+    let start = c .before .before .before .before in
+    let p = start .pre .1 in
+    λ labels table good. at-true labels (start .args .actions .now) good (start .args .node) (p .1) _
+    (c .before .kind-at .ensures) (start .args .multiset) (c .if1 .taken)
 
--- src/lib.rt:43:9
 match-action-formula-returns-2 : (t : ℕ) → match-action-formula-lts.Need-returns-2 (
   kind-at-reads.Asked,
   kind-at-reads.Learnt,
@@ -75,11 +76,11 @@ match-action-formula-returns-2 : (t : ℕ) → match-action-formula-lts.Need-ret
   match-action-formula.Post,
 ) (match-action-formula-at t) match-action-formula.Post
 match-action-formula-returns-2 t c =
-    let s = c .before .before .before .before .before .before in
-    let p = s .pre .1 in
-    at-false (s .args .labels .now) (s .args .actions .now) (p .0) (s .args .node) (p .1 .1) _ (c .before .before .kind-at .ensures) (s .args .multiset) (c .if2 .taken)
+    let start = c .before .before .before .before .before in
+    let p = start .pre .1 in
+    λ labels table good. at-false labels (start .args .actions .now) good (start .args .node) (p .1) _
+    (c .before .before .kind-at .ensures) (start .args .multiset) (c .if2 .taken)
 
--- src/lib.rt:45:9
 match-action-formula-operand-at-requires :
     (t : ℕ) → match-action-formula-lts.Need-operand-at-requires (
       kind-at-reads.Asked,
@@ -91,9 +92,10 @@ match-action-formula-operand-at-requires :
       match-action-formula-below t,
       match-action-formula.Post,
     ) (match-action-formula-at t) match-action-formula.Post
-match-action-formula-operand-at-requires t c κs = omega (arith, c .before .before .before .before .before .before .pre .1 .0 .sized, c .before .before .before .before .before .before .pre .1 .1 .1)
+match-action-formula-operand-at-requires t c κs =
+    let start = c .before .before .before .before .before in
+    omega (arith, start .pre .1 .0 .sized, start .pre .1 .1)
 
--- src/lib.rt:47:16
 match-action-formula-at-requires : (t : ℕ) → match-action-formula-lts.Need-at-requires (
   kind-at-reads.Asked,
   kind-at-reads.Learnt,
@@ -105,11 +107,13 @@ match-action-formula-at-requires : (t : ℕ) → match-action-formula-lts.Need-a
   match-action-formula.Post,
 ) (match-action-formula-at t) match-action-formula.Post
 match-action-formula-at-requires t c κs =
-    let s = c .before .before .before .before .before .before .before .before in
-    let p = s .pre .1 in
-    label-within (s .args .labels .now) (s .args .actions .now) (p .0) (s .args .node) (p .1 .1) _ (c .before .before .before .before .kind-at .ensures) (s .args .classes .now) (p .1 .0) _ (c .before .operand-at .ensures) (c .if3 .taken)
+    let at-kind-at = c .before .before .before .before in
+    let start = at-kind-at .before .before .before in
+    let p = start .pre .1 in
+    label-within _ (start .args .actions .now) (p .0) (start .args .node) (p .1) _
+    (at-kind-at .kind-at .ensures) _ (c .before .operand-at .ensures)
+    (c .if3 .taken)
 
--- src/lib.rt:47:9
 match-action-formula-returns-3 : (t : ℕ) → match-action-formula-lts.Need-returns-3 (
   kind-at-reads.Asked,
   kind-at-reads.Learnt,
@@ -121,11 +125,13 @@ match-action-formula-returns-3 : (t : ℕ) → match-action-formula-lts.Need-ret
   match-action-formula.Post,
 ) (match-action-formula-at t) match-action-formula.Post
 match-action-formula-returns-3 t c =
-    let s = c .before .before .before .before .before .before .before .before .before in
-    let p = s .pre .1 in
-    at-label (s .args .labels .now) (s .args .actions .now) (p .0) (s .args .node) (p .1 .1) _ (c .before .before .before .before .before .kind-at .ensures) (s .args .multiset) (s .args .classes .now) (p .1 .0) _ _ (c .before .before .operand-at .ensures) (c .at .ensures .0) (c .before .if3 .taken)
+    let at-kind-at = c .before .before .before .before .before in
+    let start = at-kind-at .before .before .before in
+    let p = start .pre .1 in
+    λ labels table good. at-label labels (start .args .actions .now) good (start .args .node) (p .1) _
+    (at-kind-at .kind-at .ensures) (start .args .multiset) (start .args .classes .now) table _ _
+    (c .before .before .operand-at .ensures) (c .at .ensures .0) (c .before .if3 .taken)
 
--- src/lib.rt:49:73
 match-action-formula-add-match-action-formula :
     (t : ℕ) → match-action-formula-lts.Need-add-match-action-formula (
       kind-at-reads.Asked,
@@ -137,9 +143,10 @@ match-action-formula-add-match-action-formula :
       match-action-formula-below t,
       match-action-formula.Post,
     ) (match-action-formula-at t) match-action-formula.Post
-match-action-formula-add-match-action-formula t c = omega (arith, c .before .before .before .before .before .before .before .before .pre .1 .0 .few, c .before .before .before .before .before .before .before .before .pre .1 .1 .1)
+match-action-formula-add-match-action-formula t c =
+    let start = c .before .before .before .before .before .before .before in
+    omega (arith, start .pre .1 .0 .few, start .pre .1 .1)
 
--- src/lib.rt:49:9
 match-action-formula-match-action-formula-requires :
     (t : ℕ) → match-action-formula-lts.Need-match-action-formula-requires (
       kind-at-reads.Asked,
@@ -152,13 +159,19 @@ match-action-formula-match-action-formula-requires :
       match-action-formula.Post,
     ) (match-action-formula-at t) match-action-formula.Post
 match-action-formula-match-action-formula-requires t c κs =
-    let s = c .before .before .before .before .before .before .before .before in
-    let p = s .pre .1 in
-    let big : 3 ≤ c .before .before .before .before .kind-at .result = omega (arith, c .before .before .before .if1 .left, c .before .before .if2 .left, c .if3 .left) in
-    let next = next-within (s .args .labels .now) (s .args .actions .now) (p .0) (s .args .node) (p .1 .1) _ (c .before .before .before .before .kind-at .ensures) big in
-    (omega (arith, next, s .pre .0), (p .0, (p .1 .0, next)))
+    let at-kind-at = c .before .before .before .before in
+    let start = at-kind-at .before .before .before in
+    let p = start .pre .1 in
+    let big : 3 ≤ at-kind-at .kind-at .result = omega (
+      arith,
+      c .before .before .before .if1 .left,
+      c .before .before .if2 .left,
+      c .if3 .left,
+    ) in
+    let next = next-within _ (start .args .actions .now) (p .0) (start .args .node) (p .1)
+    _ (at-kind-at .kind-at .ensures) big in
+    (omega (arith, next, start .pre .0), (p .0, next))
 
--- src/lib.rt:51:24
 match-action-formula-match-action-formula-requires-2 :
     (t : ℕ) → match-action-formula-lts.Need-match-action-formula-requires-2 (
       kind-at-reads.Asked,
@@ -171,12 +184,15 @@ match-action-formula-match-action-formula-requires-2 :
       match-action-formula.Post,
     ) (match-action-formula-at t) match-action-formula.Post
 match-action-formula-match-action-formula-requires-2 t c κs =
-    let s = c .before .before .before .before .before .before .before .before .before .before .before in
-    let p = s .pre .1 in
-    let r = right-within (s .args .labels .now) (s .args .actions .now) (p .0) (s .args .node) (p .1 .1) _ (c .before .before .before .before .before .before .before .kind-at .ensures) _ (c .before .before .before .before .operand-at .ensures) (omega (arith, c .before .if4 .taken)) (omega (arith, c .before .if4 .taken)) in
-    (omega (arith, r, s .pre .0), (p .0, (p .1 .0, r .1)))
+    let at-if4 = c .before in
+    let at-kind-at = at-if4 .before .before .before .before .before .before in
+    let start = at-kind-at .before .before .before in
+    let p = start .pre .1 in
+    let r = right-within _ (start .args .actions .now) (p .0) (start .args .node) (p .1) _
+    (at-kind-at .kind-at .ensures) _ (at-if4 .before .before .before .operand-at .ensures)
+    (omega (arith, at-if4 .if4 .taken)) (omega (arith, at-if4 .if4 .taken)) in
+    (omega (arith, r, start .pre .0), (p .0, r .1))
 
--- src/lib.rt:51:9
 match-action-formula-returns-4 : (t : ℕ) → match-action-formula-lts.Need-returns-4 (
   kind-at-reads.Asked,
   kind-at-reads.Learnt,
@@ -188,11 +204,14 @@ match-action-formula-returns-4 : (t : ℕ) → match-action-formula-lts.Need-ret
   match-action-formula.Post,
 ) (match-action-formula-at t) match-action-formula.Post
 match-action-formula-returns-4 t c =
-    let s = c .before .before .before .before .before .before .before .before .before .before .before in
-    let p = s .pre .1 in
-    union-by-left (s .args .labels .now) (s .args .actions .now) (p .0) (s .args .node) (p .1 .1) _ (c .before .before .before .before .before .before .before .kind-at .ensures) (s .args .multiset) _ (c .before .before .before .before .operand-at .ensures) _ (c .before .before .match-action-formula .ensures) (c .before .if4 .taken) (c .if5 .taken)
+    let at-operand-at = c .before .before .before .before in
+    let start = at-operand-at .before .before .before .before .before .before in
+    let p = start .pre .1 in
+    λ labels table good. union-by-left labels (start .args .actions .now) good (start .args .node) (p .1) _
+    (at-operand-at .before .before .before .kind-at .ensures) (start .args .multiset) _
+    (at-operand-at .operand-at .ensures) _ (c .before .before .match-action-formula .ensures labels table good)
+    (c .before .if4 .taken) (c .if5 .taken)
 
--- src/lib.rt:51:9
 match-action-formula-returns-5 : (t : ℕ) → match-action-formula-lts.Need-returns-5 (
   kind-at-reads.Asked,
   kind-at-reads.Learnt,
@@ -204,11 +223,14 @@ match-action-formula-returns-5 : (t : ℕ) → match-action-formula-lts.Need-ret
   match-action-formula.Post,
 ) (match-action-formula-at t) match-action-formula.Post
 match-action-formula-returns-5 t c =
-    let s = c .before .before .before .before .before .before .before .before .before .before .before .before in
-    let p = s .pre .1 in
-    union-by-right (s .args .labels .now) (s .args .actions .now) (p .0) (s .args .node) (p .1 .1) _ (c .before .before .before .before .before .before .before .before .kind-at .ensures) (s .args .multiset) _ (c .before .before .before .before .before .operand-at .ensures) _ (c .before .before .before .match-action-formula .ensures) (c .before .before .if4 .taken) (c .before .if5 .left) _ (c .match-action-formula2 .ensures)
+    let at-operand-at = c .before .before .before .before .before in
+    let start = at-operand-at .before .before .before .before .before .before in
+    let p = start .pre .1 in
+    λ labels table good. union-by-right labels (start .args .actions .now) good (start .args .node) (p .1) _
+    (at-operand-at .before .before .before .kind-at .ensures) (start .args .multiset) _
+    (at-operand-at .operand-at .ensures) _ (c .before .before .before .match-action-formula .ensures labels table good)
+    (c .before .before .if4 .taken) (c .before .if5 .left) _ (c .match-action-formula2 .ensures labels table good)
 
--- src/lib.rt:54:24
 match-action-formula-match-action-formula-requires-3 :
     (t : ℕ) → match-action-formula-lts.Need-match-action-formula-requires-3 (
       kind-at-reads.Asked,
@@ -221,12 +243,15 @@ match-action-formula-match-action-formula-requires-3 :
       match-action-formula.Post,
     ) (match-action-formula-at t) match-action-formula.Post
 match-action-formula-match-action-formula-requires-3 t c κs =
-    let s = c .before .before .before .before .before .before .before .before .before .before .before .before in
-    let p = s .pre .1 in
-    let r = right-within (s .args .labels .now) (s .args .actions .now) (p .0) (s .args .node) (p .1 .1) _ (c .before .before .before .before .before .before .before .before .kind-at .ensures) _ (c .before .before .before .before .before .operand-at .ensures) (omega (arith, c .before .if6 .taken)) (omega (arith, c .before .if6 .taken)) in
-    (omega (arith, r, s .pre .0), (p .0, (p .1 .0, r .1)))
+    let at-if6 = c .before in
+    let at-operand-at = at-if6 .before .before .before .before in
+    let start = at-operand-at .before .before .before .before .before .before in
+    let p = start .pre .1 in
+    let r = right-within _ (start .args .actions .now) (p .0) (start .args .node) (p .1) _
+    (at-operand-at .before .before .before .kind-at .ensures) _ (at-operand-at .operand-at .ensures)
+    (omega (arith, at-if6 .if6 .taken)) (omega (arith, at-if6 .if6 .taken)) in
+    (omega (arith, r, start .pre .0), (p .0, r .1))
 
--- src/lib.rt:54:9
 match-action-formula-returns-6 : (t : ℕ) → match-action-formula-lts.Need-returns-6 (
   kind-at-reads.Asked,
   kind-at-reads.Learnt,
@@ -238,11 +263,16 @@ match-action-formula-returns-6 : (t : ℕ) → match-action-formula-lts.Need-ret
   match-action-formula.Post,
 ) (match-action-formula-at t) match-action-formula.Post
 match-action-formula-returns-6 t c =
-    let s = c .before .before .before .before .before .before .before .before .before .before .before .before .before in
-    let p = s .pre .1 in
-    intersection-by-right (s .args .labels .now) (s .args .actions .now) (p .0) (s .args .node) (p .1 .1) _ (c .before .before .before .before .before .before .before .before .before .kind-at .ensures) (s .args .multiset) _ (c .before .before .before .before .before .before .operand-at .ensures) _ (c .before .before .before .before .match-action-formula .ensures) (c .before .before .if6 .taken) (c .before .if7 .taken) _ (c .match-action-formula3 .ensures)
+    let at-match-action-formula = c .before .before .before .before in
+    let at-kind-at = at-match-action-formula .before .before .before .before .before in
+    let start = at-kind-at .before .before .before in
+    let p = start .pre .1 in
+    λ labels table good. intersection-by-right labels (start .args .actions .now) good (start .args .node) (p .1)
+    _ (at-kind-at .kind-at .ensures) (start .args .multiset) _
+    (at-match-action-formula .before .before .operand-at .ensures) _
+    (at-match-action-formula .match-action-formula .ensures labels table good) (c .before .before .if6 .taken)
+    (c .before .if7 .taken) _ (c .match-action-formula3 .ensures labels table good)
 
--- src/lib.rt:54:9
 match-action-formula-returns-7 : (t : ℕ) → match-action-formula-lts.Need-returns-7 (
   kind-at-reads.Asked,
   kind-at-reads.Learnt,
@@ -254,11 +284,14 @@ match-action-formula-returns-7 : (t : ℕ) → match-action-formula-lts.Need-ret
   match-action-formula.Post,
 ) (match-action-formula-at t) match-action-formula.Post
 match-action-formula-returns-7 t c =
-    let s = c .before .before .before .before .before .before .before .before .before .before .before .before in
-    let p = s .pre .1 in
-    intersection-by-left (s .args .labels .now) (s .args .actions .now) (p .0) (s .args .node) (p .1 .1) _ (c .before .before .before .before .before .before .before .before .kind-at .ensures) (s .args .multiset) _ (c .before .before .before .before .before .operand-at .ensures) _ (c .before .before .before .match-action-formula .ensures) (c .before .if6 .taken) (c .if7 .left)
+    let at-operand-at = c .before .before .before .before .before in
+    let start = at-operand-at .before .before .before .before .before .before in
+    let p = start .pre .1 in
+    λ labels table good. intersection-by-left labels (start .args .actions .now) good (start .args .node) (p .1) _
+    (at-operand-at .before .before .before .kind-at .ensures) (start .args .multiset) _
+    (at-operand-at .operand-at .ensures) _ (c .before .before .before .match-action-formula .ensures labels table good)
+    (c .before .if6 .taken) (c .if7 .left)
 
--- src/lib.rt:32:1
 match-action-formula-returns-8 : (t : ℕ) → match-action-formula-lts.Need-returns-8 (
   kind-at-reads.Asked,
   kind-at-reads.Learnt,
@@ -270,10 +303,19 @@ match-action-formula-returns-8 : (t : ℕ) → match-action-formula-lts.Need-ret
   match-action-formula.Post,
 ) (match-action-formula-at t) match-action-formula.Post
 match-action-formula-returns-8 t c =
-    let s = c .before .before .before .before .before .before .before .before .before .before .before in
-    let p = s .pre .1 in
-    let big : 3 ≤ c .before .before .before .before .before .before .before .kind-at .result = omega (arith, c .before .before .before .before .before .before .if1 .left, c .before .before .before .before .before .if2 .left, c .before .before .before .if3 .left) in
-    at-negation (s .args .labels .now) (s .args .actions .now) (p .0) (s .args .node) (p .1 .1) _ (c .before .before .before .before .before .before .before .kind-at .ensures) (s .args .multiset) _ (c .before .before .match-action-formula .ensures) big (c .before .if4 .left) (c .if6 .left)
+    let at-if2 = c .before .before .before .before .before in
+    let at-kind-at = at-if2 .before .before in
+    let start = at-kind-at .before .before .before in
+    let p = start .pre .1 in
+    let big : 3 ≤ at-kind-at .kind-at .result = omega (
+      arith,
+      at-if2 .before .if1 .left,
+      at-if2 .if2 .left,
+      c .before .before .before .if3 .left,
+    ) in
+    λ labels table good. at-negation labels (start .args .actions .now) good (start .args .node) (p .1) _
+    (at-kind-at .kind-at .ensures) (start .args .multiset) _ (c .before .before .match-action-formula .ensures labels table good)
+    big (c .before .if4 .left) (c .if6 .left)
 
 pub +match-action-formula-spec : {M : Type 1} → statement M
 +match-action-formula-spec = close μ-match-action-formula λ t. match-action-formula-lts.spec (

@@ -1,5 +1,6 @@
--- The proof of the cycle of calls {read_body, read_equation}. The measure goes first by the equation, which rises where a later one is entered, then by the node; both
--- are below what a table has room for. Each answer is the law of the node's kind, for any formula that the table is of. Assumes nothing.
+-- The proof of the cycle of calls {read_body, read_equation}. The measure goes first by the equation, which rises where
+-- a later one is entered, then by the node; both are below what a table has room for. Each answer is the law of the
+-- node's kind, for any formula that the table is of. Assumes nothing.
 use mathlib.Core.Path.{ap₂, _∙_}
 use Prim.Native.Nat.{ℕ, _+_, _-_, _*_, _<_, max}
 use native.Mathlib.Omega.{arith}

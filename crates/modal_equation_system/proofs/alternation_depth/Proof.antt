@@ -14,7 +14,9 @@ read-equation-requires c κs = search needs
 -- src/lib.rt:211:1
 returns : tie.Need-returns
 unfolding depth
-returns c = let s = c .before .before in c .read-equation .ensures (s .args .formula .now) (s .pre .0) (s .pre .1)
+returns c =
+    let start = c .before .before in
+    c .read-equation .ensures (start .args .formula .now) (start .pre .0) (start .pre .1)
 
 pub alternation-depth-spec : {M : Type 1} → statement M
 alternation-depth-spec = tie.close (tie.spec read-equation-requires returns)

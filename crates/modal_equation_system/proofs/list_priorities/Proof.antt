@@ -1,4 +1,5 @@
--- `list_priorities` meets its contract. The loop's invariant: the table shows the priorities of the first i equations. Assumes nothing.
+-- `list_priorities` meets its contract. The loop's invariant: the table shows the priorities of the first i equations.
+-- Assumes nothing.
 use mathlib.Core.Path.{_≡_, refl, subst}
 use Prim.Native.Nat.{ℕ, _-_, _≤_}
 use native.Mathlib.Omega.{arith}
@@ -21,11 +22,15 @@ abbrev μ-loop : tie.MeasureT-loop
 
 -- src/lib.rt:214:5
 loop-holds : tie.Need-loop-holds Inv-loop μ-loop
-loop-holds c = (omega arith, refl, ranked-first byDepth (c .before .before .args .formula .now) (c .before .before .args .priorities .now))
+loop-holds c =
+    let start = c .before .before in
+    (omega arith, refl, ranked-first byDepth (start .args .formula .now) (start .args .priorities .now))
 
 -- src/lib.rt:215:13
 priority-of-requires : tie.Need-priority-of-requires Inv-loop μ-loop
-priority-of-requires c κs = let s = c .before .before .before .before in (s .pre .0, omega (arith, s .pre .1 .0, c .loop-test .taken))
+priority-of-requires c κs =
+    let start = c .before .before .before .before in
+    (start .pre .0, omega (arith, start .pre .1 .0, c .loop-test .taken))
 
 -- src/lib.rt:216:9
 mul-priorities : tie.Need-mul-priorities Inv-loop μ-loop
@@ -46,9 +51,9 @@ loop-less c = search needs
 -- src/lib.rt:214:5
 loop-again : tie.Need-loop-again Inv-loop μ-loop
 loop-again c =
-    let s = c .before .before .before .before .before in
+    let start = c .before .before .before .before .before in
     let l = c .before .before .loop in
-    let next = ranked-next byDepth (s .args .formula .now) (l .i) (s .args .priorities .now) (l .priorities) (c .priority-of .result .0) (omega (arith, l .inv .1, s .pre .1)) (c .priority-of .ensures) (l .inv .2) in
+    let next = ranked-next byDepth (start .args .formula .now) (l .i) (start .args .priorities .now) (l .priorities) (c .priority-of .result .0) (omega (arith, l .inv .1, start .pre .1)) (c .priority-of .ensures) (l .inv .2) in
     (omega arith, next .sized, next)
 
 -- src/lib.rt:201:1
@@ -58,10 +63,10 @@ same-length c = search needs
 -- src/lib.rt:201:1
 returns : tie.Need-returns Inv-loop μ-loop
 returns c =
-    let s = c .before .before .before .before in
+    let start = c .before .before .before .before in
     let l = c .before .loop in
-    let e : l .i ≡ s .args .count = omega arith in
-    subst (λ (n : ℕ). RankedBy byDepth (s .args .formula .now) n (s .args .priorities .now) (l .priorities)) e (l .inv .2)
+    let e : l .i ≡ start .args .count = omega arith in
+    subst (λ (n : ℕ). RankedBy byDepth (start .args .formula .now) n (start .args .priorities .now) (l .priorities)) e (l .inv .2)
 
 pub list-priorities-spec : {M : Type 1} → statement M
 list-priorities-spec =

@@ -24,19 +24,23 @@ mul-t6 c = search needs
 
 -- src/lib.rt:226:28
 operator-of-requires : tie.Need-operator-of-requires
-operator-of-requires c κs = let s = c .before .before in omega (arith, equation-few (s .args .formula .now) (s .args .table .now) (s .pre .0) (s .args .equation) (s .pre .1))
+operator-of-requires c κs =
+    let start = c .before .before in
+    omega (arith, equation-few (start .args .formula .now) (start .args .table .now) (start .pre .0) (start .args .equation) (start .pre .1))
 
 -- src/lib.rt:226:14
 add-t8 : tie.Need-add-t8
 unfolding byDepth
 add-t8 c =
-    let s = c .before .before .before in
-    omega (arith, c .before .alternation-depth .ensures, c .operator-of .ensures, s .pre .0 .operator (s .args .equation) (s .pre .1), byDepth-limit (s .pre .0 .good .actions) (formulaOnly (s .args .formula .now)) (s .pre .0 .good .formula) (s .args .equation))
+    let start = c .before .before .before in
+    omega (arith, c .before .alternation-depth .ensures, c .operator-of .ensures, start .pre .0 .operator (start .args .equation) (start .pre .1), byDepth-limit (start .pre .0 .good .actions) (formulaOnly (start .args .formula .now)) (start .pre .0 .good .formula) (start .args .equation))
 
 -- src/lib.rt:220:1
 returns : tie.Need-returns
 unfolding byDepth
-returns c = let s = c .before .before .before in ap₂ (λ (d b : ℕ). 2 * (d / 2) + b) (c .before .alternation-depth .ensures) (c .operator-of .ensures ∙ s .pre .0 .operator (s .args .equation) (s .pre .1))
+returns c =
+    let start = c .before .before .before in
+    ap₂ (λ (d b : ℕ). 2 * (d / 2) + b) (c .before .alternation-depth .ensures) (c .operator-of .ensures ∙ start .pre .0 .operator (start .args .equation) (start .pre .1))
 
 pub priority-of-spec : {M : Type 1} → statement M
 priority-of-spec =

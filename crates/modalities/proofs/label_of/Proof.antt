@@ -16,7 +16,9 @@ at-requires : tie.Need-at-requires
 at-requires c κs = search needs
 
 returns : tie.Need-returns
-returns c = let s = c .before .before in c .at .ensures .0 ∙ ap (λ (n : ℕ). word (s .args .system .now) (n + s .args .t)) (s .pre .1 .1)
+returns c =
+    let start = c .before .before .before in
+    c .at .ensures .0 ∙ ap (λ (n : ℕ). word (start .args .system .now) (n + start .args .t)) (start .pre .1 .labels)
 
 pub label-of-spec : {M : Type 1} → statement M
 label-of-spec = tie.close (tie.spec add-at at-requires returns)

@@ -8,8 +8,8 @@ use Rattle.modalities.proofs.target_of.Tie as tie
 use Rattle.modalities.proofs.target_of.Reads as reads
 use Rattle.modalities.proofs.target_of.Lts as lts
 
-add-result : tie.Need-add-result
-add-result c = search needs
+add-place : tie.Need-add-place
+add-place c = search needs
 
 mul-result : tie.Need-mul-result
 mul-result c = search needs
@@ -18,7 +18,9 @@ shared-slice-read-result : tie.Need-shared-slice-read-result
 shared-slice-read-result c = search needs
 
 returns : tie.Need-returns
-returns c = let s = c .before in ap (λ (n : ℕ). word (s .args .system .now) (n + s .args .t)) (s .pre .1 .1)
+returns c =
+    let start = c .before .before in
+    ap (λ (n : ℕ). word (start .args .system .now) (n + start .args .t)) (start .pre .1 .targets)
 
 pub target-of-spec : {M : Type 1} → statement M
-target-of-spec = tie.close (tie.spec add-result mul-result shared-slice-read-result returns)
+target-of-spec = tie.close (tie.spec add-place mul-result shared-slice-read-result returns)

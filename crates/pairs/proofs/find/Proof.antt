@@ -53,19 +53,28 @@ enum-told c = search needs
 
 -- src/lib.rt:413:27
 probe-requires-2 : tie.Need-probe-requires-2
-probe-requires-2 c κs = omega (arith, c .before .before .before .slot-of .ensures, slot-below (keyOf (c .before .before .before .before .before .args .state) (c .before .before .before .before .before .args .item)) (c .before .before .before .before .before .args .v + c .before .before .before .before .before .args .v / 2) (omega (arith, c .before .before .before .before .before .pre .1 .some)))
+probe-requires-2 c κs =
+    let start = c .before .before .before .before .before .before in
+    omega (arith, c .before .before .before .slot-of .ensures, slot-below (keyOf (start .args .state) (start .args .item)) (start .args .v + start .args .v / 2) (omega (arith, start .pre .1 .some)))
 
 -- src/lib.rt:402:1
 returns : tie.Need-returns
-returns c = first-known _ _ _ _ (c .before .before .before .before .before .before .pre .1 .table) _ (c .before .before .before .before .slot-of .ensures) _ _ (c .before .before .before .probe .ensures) (c .before .vertex .given .1)
+returns c =
+    let at-slot-of = c .before .before .before .before in
+    first-known _ _ _ _ (at-slot-of .before .before .before .pre .1 .table) _ (at-slot-of .slot-of .ensures) _ _ (c .before .before .before .probe .ensures) (c .before .vertex .given .1)
 
 -- src/lib.rt:402:1
 returns-2 : tie.Need-returns-2
-returns-2 c = first-free _ _ _ _ (c .before .before .before .before .before .before .pre .1 .table) _ (c .before .before .before .before .slot-of .ensures) _ _ (c .before .before .before .probe .ensures) (c .before .slot .given .1)
+returns-2 c =
+    let at-slot-of = c .before .before .before .before in
+    first-free _ _ _ _ (at-slot-of .before .before .before .pre .1 .table) _ (at-slot-of .slot-of .ensures) _ _ (c .before .before .before .probe .ensures) (c .before .slot .given .1)
 
 -- src/lib.rt:402:1
 returns-3 : tie.Need-returns-3
-returns-3 c = second _ _ _ _ (c .before .before .before .before .before .before .pre .1 .table) _ (c .before .before .before .before .slot-of .ensures) (c .probe2 .result) (slot-below _ _ (omega (arith, c .before .before .before .before .before .before .pre .1 .some))) _ (c .before .before .before .probe .ensures) (c .before .enum-told .given .1) (c .probe2 .ensures)
+returns-3 c =
+    let at-slot-of = c .before .before .before .before in
+    let start = at-slot-of .before .before .before in
+    second _ _ _ _ (start .pre .1 .table) _ (at-slot-of .slot-of .ensures) (c .probe2 .result) (slot-below _ _ (omega (arith, start .pre .1 .some))) _ (c .before .before .before .probe .ensures) (c .before .enum-told .given .1) (c .probe2 .ensures)
 
 pub find-spec : {M : Type 1} → statement M
 find-spec =

@@ -30,7 +30,10 @@ same-length c = search needs
 
 -- src/lib.rt:434:17
 returns : tie.Need-returns
-returns c = full _ _ _ _ _ (c .before .before .before .before .before .before .before .pre .1) _ _ (c .before .before .before .before .find .ensures) (c .before .before .slot .given .1) (c .if1 .taken)
+returns c =
+    let at-find = c .before .before .before .before in
+    let start = at-find .before .before .before .before in
+    full _ _ _ _ _ (start .pre .1) _ _ (at-find .find .ensures) (c .before .before .slot .given .1) (c .if1 .taken)
 
 -- src/lib.rt:436:23
 mul-key : tie.Need-mul-key
@@ -42,19 +45,31 @@ add-key c = search needs
 
 -- src/lib.rt:437:36
 mul-put-slot-word : tie.Need-mul-put-slot-word
-mul-put-slot-word c = omega (arith, c .before .before .before .before .before .before .before .before .pre .1 .most, free-within _ _ _ _ _ (c .before .before .before .before .before .before .before .before .pre .1) _ _ (c .before .before .before .before .before .find .ensures) (c .before .before .before .slot .given .1))
+mul-put-slot-word c =
+    let at-find = c .before .before .before .before .before in
+    let start = at-find .before .before .before .before in
+    omega (arith, start .pre .1 .most, free-within _ _ _ _ _ (start .pre .1) _ _ (at-find .find .ensures) (c .before .before .before .slot .given .1))
 
 -- src/lib.rt:437:13
 put-slot-word-requires : tie.Need-put-slot-word-requires
-put-slot-word-requires c κs = omega (arith, c .before .before .before .before .before .before .before .before .pre .1 .whole, free-within _ _ _ _ _ (c .before .before .before .before .before .before .before .before .pre .1) _ _ (c .before .before .before .before .before .find .ensures) (c .before .before .before .slot .given .1))
+put-slot-word-requires c κs =
+    let at-find = c .before .before .before .before .before in
+    let start = at-find .before .before .before .before in
+    omega (arith, start .pre .1 .whole, free-within _ _ _ _ _ (start .pre .1) _ _ (at-find .find .ensures) (c .before .before .before .slot .given .1))
 
 -- src/lib.rt:438:36
 mul-put-slot-word-2 : tie.Need-mul-put-slot-word-2
-mul-put-slot-word-2 c = omega (arith, c .before .before .before .before .before .before .before .before .before .before .before .before .pre .1 .most, free-within _ _ _ _ _ (c .before .before .before .before .before .before .before .before .before .before .before .before .pre .1) _ _ (c .before .before .before .before .before .before .before .before .before .find .ensures) (c .before .before .before .before .before .before .before .slot .given .1))
+mul-put-slot-word-2 c =
+    let at-slot = c .before .before .before .before .before .before .before in
+    let start = at-slot .before .before .before .before .before .before in
+    omega (arith, start .pre .1 .most, free-within _ _ _ _ _ (start .pre .1) _ _ (at-slot .before .before .find .ensures) (at-slot .slot .given .1))
 
 -- src/lib.rt:438:36
 add-put-slot-word : tie.Need-add-put-slot-word
-add-put-slot-word c = omega (arith, c .before .before .before .before .before .before .before .before .before .before .before .before .pre .1 .most, free-within _ _ _ _ _ (c .before .before .before .before .before .before .before .before .before .before .before .before .pre .1) _ _ (c .before .before .before .before .before .before .before .before .before .find .ensures) (c .before .before .before .before .before .before .before .slot .given .1))
+add-put-slot-word c =
+    let at-slot = c .before .before .before .before .before .before .before in
+    let start = at-slot .before .before .before .before .before .before in
+    omega (arith, start .pre .1 .most, free-within _ _ _ _ _ (start .pre .1) _ _ (at-slot .before .before .find .ensures) (at-slot .slot .given .1))
 
 -- src/lib.rt:438:50
 add-put-slot-word-2 : tie.Need-add-put-slot-word-2
@@ -62,7 +77,10 @@ add-put-slot-word-2 c = search needs
 
 -- src/lib.rt:438:13
 put-slot-word-requires-2 : tie.Need-put-slot-word-requires-2
-put-slot-word-requires-2 c κs = omega (arith, c .before .before .before .before .before .before .before .before .before .before .before .before .pre .1 .whole, free-within _ _ _ _ _ (c .before .before .before .before .before .before .before .before .before .before .before .before .pre .1) _ _ (c .before .before .before .before .before .before .before .before .before .find .ensures) (c .before .before .before .before .before .before .before .slot .given .1))
+put-slot-word-requires-2 c κs =
+    let at-slot = c .before .before .before .before .before .before .before in
+    let start = at-slot .before .before .before .before .before .before in
+    omega (arith, start .pre .1 .whole, free-within _ _ _ _ _ (start .pre .1) _ _ (at-slot .before .before .find .ensures) (at-slot .slot .given .1))
 
 -- src/lib.rt:439:13
 put-word-requires : tie.Need-put-word-requires
@@ -82,7 +100,9 @@ same-length-2 c = search needs
 
 -- src/lib.rt:418:1
 returns-2 : tie.Need-returns-2
-returns-2 c = there _ _ _ _ _ (c .before .before .before .before .before .before .pre .1) _ _ (c .before .before .before .find .ensures) (c .before .vertex .given .1)
+returns-2 c =
+    let start = c .before .before .before .before .before .before .before in
+    there _ _ _ _ _ (start .pre .1) _ _ (c .before .before .before .find .ensures) (c .before .vertex .given .1)
 
 -- src/lib.rt:418:1
 same-length-3 : tie.Need-same-length-3
@@ -90,7 +110,12 @@ same-length-3 c = search needs
 
 -- src/lib.rt:418:1
 returns-3 : tie.Need-returns-3
-returns-3 c = added-by _ _ _ _ _ (c .before .before .before .before .before .before .before .before .before .before .before .before .before .before .before .before .before .before .before .pre .1) _ _ _ _ _ (omega (arith, c .before .before .before .before .before .before .before .before .before .before .before .before .if1 .left, c .before .before .before .before .before .before .before .before .before .before .before .before .before .before .before .before .before .before .before .pre .1 .table .slots .room)) (c .before .before .before .before .before .before .before .before .before .before .before .before .before .before .before .before .find .ensures) (c .before .before .before .before .before .before .before .before .before .before .before .before .before .before .slot .given .1) (c .before .before .before .before .before .before .before .before .before .before .put-slot-word .ensures) (c .before .before .before .before .before .before .put-slot-word2 .ensures) (c .before .before .put-word .ensures)
+returns-3 c =
+    let at-put-slot-word2 = c .before .before .before .before .before .before in
+    let at-put-slot-word = at-put-slot-word2 .before .before .before .before in
+    let at-slot = at-put-slot-word .before .before .before .before in
+    let start = at-slot .before .before .before .before .before .before in
+    added-by _ _ _ _ _ (start .pre .1) _ _ _ _ _ (omega (arith, at-put-slot-word .before .before .if1 .left, start .pre .1 .table .slots .room)) (at-slot .before .before .find .ensures) (at-slot .slot .given .1) (at-put-slot-word .put-slot-word .ensures) (at-put-slot-word2 .put-slot-word2 .ensures) (c .before .before .put-word .ensures)
 
 -- src/lib.rt:418:1
 same-length-4 : tie.Need-same-length-4
@@ -98,7 +123,9 @@ same-length-4 c = search needs
 
 -- src/lib.rt:418:1
 returns-4 : tie.Need-returns-4
-returns-4 c = nowhere-full _ _ _ _ _ (c .before .before .before .before .before .pre .1) _ (c .before .before .find .ensures) (c .enum-told .given .1)
+returns-4 c =
+    let start = c .before .before .before .before .before .before in
+    nowhere-full _ _ _ _ _ (start .pre .1) _ (c .before .before .find .ensures) (c .enum-told .given .1)
 
 pub number-spec : {M : Type 1} → statement M
 number-spec =

@@ -28,7 +28,9 @@ held-in-requires c κs = search needs
 
 -- src/lib.rt:391:13
 returns : tie.Need-returns Inv-loop μ-loop
-returns c = record { from = c .before .before .before .loop .inv .0; to = c .before .before .loop-test .taken; empty = sym (c .before .held-in .ensures) ∙ c .if1 .taken; before = c .before .before .before .loop .inv .1 }
+returns c =
+    let at-loop = c .before .before .before in
+    record { from = at-loop .loop .inv .0; to = c .before .before .loop-test .taken; empty = sym (c .before .held-in .ensures) ∙ c .if1 .taken; before = at-loop .loop .inv .1 }
 
 -- src/lib.rt:393:12
 key-in-requires : tie.Need-key-in-requires Inv-loop μ-loop
@@ -40,7 +42,10 @@ sub-t10 c = search needs
 
 -- src/lib.rt:394:13
 returns-2 : tie.Need-returns-2 Inv-loop μ-loop
-returns-2 c = record { slot = c .before .before .before .before .before .loop .p; from = c .before .before .before .before .before .loop .inv .0; to = c .before .before .before .before .loop-test .taken; key = sym (c .before .key-in .ensures) ∙ c .if2 .taken; holds = omega (arith, c .before .before .before .held-in .ensures, c .before .before .if1 .left) }
+returns-2 c =
+    let at-loop-test = c .before .before .before .before in
+    let at-loop = at-loop-test .before in
+    record { slot = at-loop .loop .p; from = at-loop .loop .inv .0; to = at-loop-test .loop-test .taken; key = sym (c .before .key-in .ensures) ∙ c .if2 .taken; holds = omega (arith, c .before .before .before .held-in .ensures, c .before .before .if1 .left) }
 
 -- src/lib.rt:396:9
 add-p : tie.Need-add-p Inv-loop μ-loop
@@ -52,7 +57,9 @@ loop-less c = search needs
 
 -- src/lib.rt:388:5
 loop-again : tie.Need-loop-again Inv-loop μ-loop
-loop-again c = (omega (arith, c .before .before .before .before .before .loop .inv .0), one-more (c .before .before .before .before .before .loop .inv .1) (λ e. c .before .before .if1 .left (c .before .before .before .held-in .ensures ∙ e)) (λ e. c .if2 .left (c .before .key-in .ensures ∙ e)))
+loop-again c =
+    let at-loop = c .before .before .before .before .before in
+    (omega (arith, at-loop .loop .inv .0), one-more (at-loop .loop .inv .1) (λ e. c .before .before .if1 .left (c .before .before .before .held-in .ensures ∙ e)) (λ e. c .if2 .left (c .before .key-in .ensures ∙ e)))
 
 -- src/lib.rt:383:1
 returns-3 : tie.Need-returns-3 Inv-loop μ-loop

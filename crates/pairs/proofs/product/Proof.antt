@@ -20,7 +20,9 @@ wrapping-add-u32-requires : tie.Need-wrapping-add-u32-requires
 wrapping-add-u32-requires c κs = search needs
 
 returns : tie.Need-returns
-returns c = cc (bytes-product (c .before .before .before .args .x))
+returns c =
+    let start = c .before .before .before .before in
+    cc (bytes-product (start .args .x))
 
 pub product-spec : {M : Type 1} → statement M
 product-spec = tie.close (tie.spec cast-multiple multiple-requires cast-multiple-2 multiple-requires-2 wrapping-add-u32-requires returns)

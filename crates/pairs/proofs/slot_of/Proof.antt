@@ -18,16 +18,20 @@ cast-result : tie.Need-cast-result
 cast-result c = search needs
 
 mul-result : tie.Need-mul-result
-mul-result c = record { fits = wide (c .wrapping-add-u32 .result) (c .before .before .args .v) (c .wrapping-add-u32 .ok) (c .before .before .fits .v .fits) }
+mul-result c =
+    let start = c .before .before .before in
+    record { fits = wide (c .wrapping-add-u32 .result) (start .args .v) (c .wrapping-add-u32 .ok) (start .fits .v .fits) }
 
 cast-result-2 : tie.Need-cast-result-2
-cast-result-2 c = record { fits = scaled-fits (c .wrapping-add-u32 .result) (c .before .before .args .v) (c .wrapping-add-u32 .ok) (c .before .before .fits .v .fits) }
+cast-result-2 c =
+    let start = c .before .before .before in
+    record { fits = scaled-fits (c .wrapping-add-u32 .result) (start .args .v) (c .wrapping-add-u32 .ok) (start .fits .v .fits) }
 
 returns : tie.Need-returns
 unfolding slotOf
 returns c =
-    let s = c .before .before in
-    ap (λ (p : ℕ). p * s .args .v / 2 ^ 32) (let e = s .pre .0 .product in cc (key-product (s .args .state) (s .args .item)))
+    let start = c .before .before .before in
+    ap (λ (p : ℕ). p * start .args .v / 2 ^ 32) (let e = start .pre .0 .product in cc (key-product (start .args .state) (start .args .item)))
 
 pub slot-of-spec : {M : Type 1} → statement M
 slot-of-spec = tie.close (tie.spec product-requires wrapping-add-u32-requires cast-result mul-result cast-result-2 returns)

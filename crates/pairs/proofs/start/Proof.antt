@@ -38,7 +38,9 @@ loop-less c = search needs
 
 -- src/lib.rt:456:5
 loop-again : tie.Need-loop-again Inv-loop μ-loop
-loop-again c = clear-on _ (c .before .before .before .before .before .before .before .pre .1) (c .before .before .before .before .before .loop .inv) (omega (arith, c .before .before .before .before .loop-test .taken)) (c .before .before .put-slot-word .ensures)
+loop-again c =
+    let at-loop-test = c .before .before .before .before in
+    clear-on _ (at-loop-test .before .before .before .pre .1) (at-loop-test .before .loop .inv) (omega (arith, at-loop-test .loop-test .taken)) (c .before .before .put-slot-word .ensures)
 
 -- src/lib.rt:450:1
 same-length : tie.Need-same-length Inv-loop μ-loop

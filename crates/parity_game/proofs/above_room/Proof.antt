@@ -3,15 +3,11 @@ use Rattle.rules.specs.Words.{mostVertices, mostEdges}
 use Rattle.rules.specs.GameRefusal.{aboveRoom}
 use Rattle.parity_game.proofs.above_room.Statement.{statement}
 use Rattle.parity_game.proofs.above_room.Tie as tie
-use Rattle.parity_game.proofs.above_room.Reads as reads
-use Rattle.parity_game.proofs.above_room.Lts as lts
 
--- src/lib.rt:35:9
 returns : tie.Need-returns
 unfolding aboveRoom mostVertices
 returns c = simp (lt-ltb _ _ (c .if1 .taken))
 
--- src/lib.rt:31:1
 returns-2 : tie.Need-returns-2
 unfolding aboveRoom mostVertices mostEdges
 returns-2 c = simp (le-ltb _ _ (c .if1 .left))

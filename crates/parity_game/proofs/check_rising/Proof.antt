@@ -7,53 +7,44 @@ use Rattle.tables.proofs.Faults.{from-stop, from-next, from-done}
 use Rattle.parity_game.proofs.Refusals.{falls-yes, falls-no}
 use Rattle.parity_game.proofs.check_rising.Statement.{statement}
 use Rattle.parity_game.proofs.check_rising.Tie as tie
-use Rattle.parity_game.proofs.check_rising.Reads as reads
-use Rattle.parity_game.proofs.check_rising.Lts as lts
-use Rattle.words.proofs.at.Reads as at-reads
 
 abbrev Inv-loop : tie.InvT-loop
-Inv-loop ws first end p₀ p = (first ≤ p) × (faultFrom 52 first end (falls ws) ≡ faultFrom 52 p end (falls ws))
+Inv-loop ws first end place₀ place = (first ≤ place) × (faultFrom 52 first end (falls ws) ≡ faultFrom 52 place end (falls ws))
 
 abbrev μ-loop : tie.MeasureT-loop
-μ-loop ws first end p₀ p = end - p
+μ-loop ws first end place₀ place = end - place
 
--- src/lib.rt:36:5
 loop-holds : tie.Need-loop-holds Inv-loop μ-loop
 loop-holds c = (omega arith, refl)
 
--- src/lib.rt:37:36
 sub-at : tie.Need-sub-at Inv-loop μ-loop
 sub-at c = omega arith
 
--- src/lib.rt:37:13
 at-requires : tie.Need-at-requires Inv-loop μ-loop
 at-requires c κs = omega arith
 
--- src/lib.rt:38:12
 at-requires-2 : tie.Need-at-requires-2 Inv-loop μ-loop
 at-requires-2 c κs = omega arith
 
--- src/lib.rt:39:37
 cast-t8 : tie.Need-cast-t8 Inv-loop μ-loop
 cast-t8 c = omega arith
 
--- src/lib.rt:39:13
 returns : tie.Need-returns Inv-loop μ-loop
-returns c = sym (c .before .before .before .before .loop .inv .1 ∙ from-stop _ _ _ _ (omega arith) (falls-yes _ _ (omega arith)))
+returns c =
+    let at-loop = c .before .before .before .before in
+    sym (at-loop .loop .inv .1 ∙ from-stop _ _ _ _ (omega arith) (falls-yes _ _ (omega arith)))
 
--- src/lib.rt:41:9
-add-p : tie.Need-add-p Inv-loop μ-loop
-add-p c = omega arith
+add-place : tie.Need-add-place Inv-loop μ-loop
+add-place c = omega arith
 
--- src/lib.rt:36:5
 loop-less : tie.Need-loop-less Inv-loop μ-loop
 loop-less c = omega arith
 
--- src/lib.rt:36:5
 loop-again : tie.Need-loop-again Inv-loop μ-loop
-loop-again c = (omega arith, c .before .before .before .before .loop .inv .1 ∙ from-next _ _ _ _ (falls-no _ _ (omega arith)))
+loop-again c =
+    let at-loop = c .before .before .before .before in
+    (omega arith, at-loop .loop .inv .1 ∙ from-next _ _ _ _ (falls-no _ _ (omega arith)))
 
--- src/lib.rt:31:1
 returns-2 : tie.Need-returns-2 Inv-loop μ-loop
 returns-2 c = sym (c .before .loop .inv .1 ∙ from-done _ _ _ _ (omega arith))
 
@@ -69,7 +60,7 @@ check-rising-spec =
     at-requires-2
     cast-t8
     returns
-    add-p
+    add-place
     loop-less
     loop-again
     returns-2)

@@ -4,45 +4,31 @@ use Rattle.parity_game.proofs.Refusals.{few-words, other-length, no-ver
 use borrow.Author.Needs.{needs}
 use Rattle.parity_game.proofs.check_sizes.Statement.{statement}
 use Rattle.parity_game.proofs.check_sizes.Tie as tie
-use Rattle.parity_game.proofs.check_sizes.Reads as reads
-use Rattle.parity_game.proofs.check_sizes.Lts as lts
-use Rattle.parity_game.proofs.game_words.Reads as game-words-reads
-use Rattle.words.proofs.at.Reads as at-reads
-use Rattle.parity_game.proofs.above_room.Reads as above-room-reads
 
--- src/lib.rt:91:9
 returns : tie.Need-returns
 returns c = sym (few-words _ (omega arith))
 
--- src/lib.rt:93:9
 at-requires : tie.Need-at-requires
 at-requires c κs = search needs
 
--- src/lib.rt:94:9
 at-requires-2 : tie.Need-at-requires-2
 at-requires-2 c κs = search needs
 
--- src/lib.rt:95:22
 game-words-requires : tie.Need-game-words-requires
 game-words-requires c κs = search needs
 
--- src/lib.rt:96:9
 returns-2 : tie.Need-returns-2
 returns-2 c = sym (other-length _ (omega arith))
 
--- src/lib.rt:99:9
 returns-3 : tie.Need-returns-3
 returns-3 c = sym (no-vertex _ (omega arith))
 
--- src/lib.rt:71:8
 above-room-requires : tie.Need-above-room-requires
 above-room-requires c κs = search needs
 
--- src/lib.rt:72:9
 returns-4 : tie.Need-returns-4
 returns-4 c = sym (too-large _ cc)
 
--- src/lib.rt:57:1
 returns-5 : tie.Need-returns-5
 returns-5 c = sym (right-sizes _ (omega arith) (omega arith) (omega arith) cc)
 

@@ -3,18 +3,13 @@ use native.Mathlib.Nat.{mul-le-mul-right}
 use borrow.Author.Needs.{needs}
 use Rattle.parity_game.proofs.vertex_column_at.Statement.{statement}
 use Rattle.parity_game.proofs.vertex_column_at.Tie as tie
-use Rattle.parity_game.proofs.vertex_column_at.Reads as reads
-use Rattle.parity_game.proofs.vertex_column_at.Lts as lts
 
--- src/lib.rt:20:9
 mul-result : tie.Need-mul-result
-mul-result c = omega (arith, mul-le-mul-right (c .args .n) (c .pre .1))
+mul-result c = omega (arith, mul-le-mul-right (c .args .vertices) (c .pre .1))
 
--- src/lib.rt:20:5
 add-result : tie.Need-add-result
-add-result c = omega (arith, mul-le-mul-right (c .args .n) (c .pre .1))
+add-result c = omega (arith, mul-le-mul-right (c .args .vertices) (c .pre .1))
 
--- src/lib.rt:16:1
 returns : tie.Need-returns
 returns c = search needs
 

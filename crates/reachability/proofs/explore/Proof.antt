@@ -11,89 +11,143 @@ use Rattle.reachability.proofs.Meeting.{none-known, knows-at, filled}
 use Rattle.reachability.proofs.Turns.{search-start, search-step, search-done}
 use Rattle.reachability.proofs.explore.Statement.{statement}
 use Rattle.reachability.proofs.explore.Tie as tie
-use Rattle.reachability.proofs.explore.Reads as reads
-use Rattle.reachability.proofs.explore.Lts as lts
-use Rattle.reachability.proofs.discover.Reads as discover-reads
-use Rattle.reachability.proofs.discover_all.Reads as discover-all-reads
-use Rattle.parity_game.proofs.edges_from.Reads as edges-from-reads
-use Rattle.words.proofs.at.Reads as at-reads
-use Rattle.words.proofs.fill.Reads as fill-reads
 
 abbrev Inv-loop : tie.InvT-loop
-Inv-loop game numbers₀ work₀ first count₀ i₀ mapping work count i = Knows count mapping work × (length mapping ≡ vertexCount game) × (reachedVertices game ≡ searchFrom game (vertexCount game - i) i (take count work))
+Inv-loop game mapping₀ work₀ count₀ i₀ mapping work count i =
+    Knows count mapping work × (length mapping ≡ vertexCount game) ×
+    (reachedVertices game ≡ searchFrom game (vertexCount game - i) i (take count work))
 
 abbrev μ-loop : tie.MeasureT-loop
-μ-loop game numbers₀ work₀ first count₀ i₀ mapping work count i = vertexCount game - i
+μ-loop game mapping₀ work₀ count₀ i₀ mapping work count i = vertexCount game - i
 
--- src/lib.rt:102:5
 fill-requires : tie.Need-fill-requires Inv-loop μ-loop
 fill-requires c κs = omega arith
 
--- src/lib.rt:103:9
-at-requires : tie.Need-at-requires Inv-loop μ-loop
-at-requires c κs = omega (arith, c .before .before .before .before .before .before .before .pre .0 .sized)
+vertex-at-requires : tie.Need-vertex-at-requires Inv-loop μ-loop
+vertex-at-requires c κs =
+    let start = c .before .before .before .before .before .before .before in
+    omega (arith, start .pre .0 .sized)
 
--- src/lib.rt:104:9
 discover-requires : tie.Need-discover-requires Inv-loop μ-loop
-discover-requires c κs = (
-  none-known _ _ (omega (arith, c .before .before .before .before .before .fill .kept .0, c .before .before .before .before .before .before .before .before .before .before .pre .1)) (omega (arith, c .before .before .before .before .before .fill .kept .0, c .before .before .before .before .before .before .before .before .before .before .pre .1, c .before .before .before .before .before .before .before .before .before .before .pre .0 .few)) (filled 4_294_967_295 (now (c .before .before .before .before .before .before .before .before .before .before .args .mapping)) _ (c .before .before .before .before .before .fill .ensures)),
-  omega (arith, c .before .before .before .before .before .fill .kept .0, c .before .before .before .before .before .before .before .before .before .before .pre .1, c .before .before .before .before .before .before .before .before .before .before .pre .0 .initial, c .before .before .at .ensures .0),
-)
+discover-requires c κs =
+    let at-fill = c .before .before .before .before .before in
+    let start = at-fill .before .before .before .before .before in (
+      none-known _ _ (omega (arith, at-fill .fill .kept .0, start .pre .1))
+          (omega (arith, at-fill .fill .kept .0, start .pre .1, start .pre .0 .few))
+          (filled 4_294_967_295 (now (start .args .mapping)) _ (at-fill .fill .ensures)),
+      omega (arith, at-fill .fill .kept .0, start .pre .1, start .pre .0 .initial, c .before .before .vertex-at .ensures),
+    )
 
--- src/lib.rt:106:5
 loop-holds : tie.Need-loop-holds Inv-loop μ-loop
-loop-holds c = (c .before .before .before .before .discover .ensures .0, omega (arith, c .before .before .before .before .discover .kept .0, c .before .before .before .before .before .before .before .before .before .before .fill .kept .0, c .before .before .before .before .before .before .before .before .before .before .before .before .before .before .before .pre .1), search-start _ _ _ (c .before .before .before .before .before .before .before .at .ensures .0) (c .before .before .before .before .discover .ensures .1))
+loop-holds c =
+    let at-discover = c .before .before .before .before in
+    let at-fill = at-discover .before .before .before .before .before .before in
+    let start = at-fill .before .before .before .before .before in (
+      at-discover .discover .ensures .0,
+      omega
+          (arith, at-discover .discover .kept .0, at-fill .fill .kept .0, start .pre .1),
+      search-start _ _ _
+          (at-discover .before .before .before .vertex-at .ensures) (at-discover .discover .ensures .1),
+    )
 
--- src/lib.rt:107:13
-at-requires-2 : tie.Need-at-requires-2 Inv-loop μ-loop
-at-requires-2 c κs = omega (arith, c .before .before .loop .inv .0 .within, c .before .before .loop .inv .0 .workLong)
+vertex-at-requires-2 : tie.Need-vertex-at-requires-2 Inv-loop μ-loop
+vertex-at-requires-2 c κs =
+    let at-loop = c .before .before in
+    omega (arith, at-loop .loop .inv .0 .within, at-loop .loop .inv .0 .workLong)
 
--- src/lib.rt:108:13
-edges-from-requires : tie.Need-edges-from-requires Inv-loop μ-loop
-edges-from-requires c κs = (omega (arith, c .before .before .before .before .before .before .before .before .before .before .before .before .before .before .before .before .before .before .before .pre .0 .sized), (omega arith, omega (arith, c .at2 .ensures .0, knows-at (c .before .before .before .loop .inv .0) (c .before .before .before .loop .i) (c .before .before .loop-test .taken), c .before .before .before .loop .inv .1)))
+targets-from-requires : tie.Need-targets-from-requires Inv-loop μ-loop
+targets-from-requires c κs =
+    let at-loop = c .before .before .before in
+    let start = at-loop .before .before .before .before .before .before .before .before .before .before .before .before .before .before .before .before in (
+      start .pre .0,
+      omega (
+        arith,
+        c .vertex-at2 .ensures,
+        knows-at (at-loop .loop .inv .0) (at-loop .loop .i)
+            (c .before .before .loop-test .taken),
+        at-loop .loop .inv .1,
+      ),
+    )
 
--- src/lib.rt:109:36
-add-edges-from : tie.Need-add-edges-from Inv-loop μ-loop
-add-edges-from c = omega (arith, c .before .at2 .ensures .0, knows-at (c .before .before .before .before .loop .inv .0) (c .before .before .before .before .loop .i) (c .before .before .before .loop-test .taken), c .before .before .before .before .loop .inv .1, c .before .before .before .before .before .before .before .before .before .before .before .before .before .before .before .before .before .before .before .before .pre .0 .few)
+targets-end-requires : tie.Need-targets-end-requires Inv-loop μ-loop
+targets-end-requires c κs =
+    let at-loop = c .before .before .before .before in
+    let start = at-loop .before .before .before .before .before .before .before .before .before .before .before .before .before .before .before .before in (
+      start .pre .0,
+      omega (
+        arith,
+        c .before .vertex-at2 .ensures,
+        knows-at (at-loop .loop .inv .0) (at-loop .loop .i)
+            (c .before .before .before .loop-test .taken),
+        at-loop .loop .inv .1,
+      ),
+    )
 
--- src/lib.rt:109:13
-edges-from-requires-2 : tie.Need-edges-from-requires-2 Inv-loop μ-loop
-edges-from-requires-2 c κs = (omega (arith, c .before .before .before .before .before .before .before .before .before .before .before .before .before .before .before .before .before .before .before .before .pre .0 .sized), (omega arith, omega (arith, c .before .at2 .ensures .0, knows-at (c .before .before .before .before .loop .inv .0) (c .before .before .before .before .loop .i) (c .before .before .before .loop-test .taken), c .before .before .before .before .loop .inv .1)))
-
--- src/lib.rt:110:9
 discover-all-requires : tie.Need-discover-all-requires Inv-loop μ-loop
 discover-all-requires c κs =
-    let s = c .before .before .before .before .before .before .before .before .before .before .before .before .before .before .before .before .before .before .before .before .before .before .before in
-    let v = c .before .before .before .before .at2 .result in
-    let i : v < vertexCount (now (s .args .game)) = omega (arith, c .before .before .before .before .at2 .ensures .0, knows-at (c .before .before .before .before .before .before .before .loop .inv .0) (c .before .before .before .before .before .before .before .loop .i) (c .before .before .before .before .before .before .loop-test .taken), c .before .before .before .before .before .before .before .loop .inv .1) in
-    let first = edges-past (now (s .args .game)) v _ (c .before .before .before .edges-from .ensures) in
-    let last = edges-end _ (s .pre .0) v _ i (c .before .before .edges-from2 .ensures) in
-    (c .before .before .before .before .before .before .before .loop .inv .0, (last, λ p l h. omega (arith, leads-at _ (s .pre .0) p (omega (arith, first)) (omega (arith, last)), c .before .before .before .before .before .before .before .loop .inv .1)))
+    let at-vertex-at2 = c .before .before .before .before in
+    let at-loop = at-vertex-at2 .before .before .before in
+    let start = at-loop .before .before .before .before .before .before .before .before .before .before .before .before .before .before .before .before in
+    let v = at-vertex-at2 .vertex-at2 .result .0 in
+    let i : v < vertexCount (now (start .args .game)) = omega (
+      arith,
+      at-vertex-at2 .vertex-at2 .ensures,
+      knows-at (at-loop .loop .inv .0) (at-loop .loop .i)
+          (at-vertex-at2 .before .before .loop-test .taken),
+      at-loop .loop .inv .1,
+    ) in
+    let first = edges-past (now (start .args .game)) v _ (c .before .before .before .targets-from .ensures) in
+    let last = edges-end _ (start .pre .0) v _ i (c .before .before .targets-end .ensures) in (
+      at-loop .loop .inv .0,
+      (
+        last,
+        λ p l h. omega (
+          arith,
+          leads-at _ (start .pre .0) p (omega (arith, first)) (omega (arith, last)),
+          at-loop .loop .inv .1,
+        ),
+      ),
+    )
 
--- src/lib.rt:111:9
 add-i : tie.Need-add-i Inv-loop μ-loop
-add-i c = omega (arith, c .before .before .before .before .before .before .before .before .before .before .before .before .loop .inv .0 .within, c .before .before .before .before .before .before .before .before .before .before .before .before .loop .inv .0 .few)
+add-i c =
+    let at-loop = c .before .before .before .before .before .before .before .before .before .before .before .before in
+    omega (arith, at-loop .loop .inv .0 .within, at-loop .loop .inv .0 .few)
 
--- src/lib.rt:106:5
 loop-less : tie.Need-loop-less Inv-loop μ-loop
-loop-less c = omega (arith, c .before .before .before .before .before .before .before .before .before .before .before .before .loop .inv .0 .within, c .before .before .before .before .before .before .before .before .before .before .before .before .loop .inv .1)
+loop-less c =
+    let at-loop = c .before .before .before .before .before .before .before .before .before .before .before .before in
+    omega (arith, at-loop .loop .inv .0 .within, at-loop .loop .inv .1)
 
--- src/lib.rt:106:5
 loop-again : tie.Need-loop-again Inv-loop μ-loop
-loop-again c = let turn = search-step _ _ _ _ _ _ _ _ _ _ (c .before .before .before .before .before .before .before .before .before .before .before .before .loop .inv .0) (c .before .before .before .before .before .before .before .before .before .before .before .before .loop .inv .1) (c .before .before .before .before .before .before .before .before .before .before .before .loop-test .taken) (c .before .before .before .before .before .before .before .before .before .at2 .ensures .0) (c .before .before .before .before .before .before .before .before .edges-from .ensures) (c .before .before .before .before .before .before .before .edges-from2 .ensures) (c .before .before .before .before .discover-all .ensures .1) (c .before .before .before .before .before .before .before .before .before .before .before .before .loop .inv .2) in
-    (c .before .before .before .before .discover-all .ensures .0, c .before .before .before .before .discover-all .kept .1 .1 .1 .0 ∙ c .before .before .before .before .before .before .before .before .before .before .before .before .loop .inv .1, turn)
+loop-again c =
+    let at-discover-all = c .before .before .before .before in
+    let at-targets-from = at-discover-all .before .before .before .before in
+    let at-loop = at-targets-from .before .before .before .before in
+    let turn = search-step _ _ _ _ _ _ _ _ _ _ (at-loop .loop .inv .0) (at-loop .loop .inv .1)
+    (at-targets-from .before .before .before .loop-test .taken) (at-targets-from .before .vertex-at2 .ensures)
+    (at-targets-from .targets-from .ensures) (at-discover-all .before .before .before .targets-end .ensures)
+    (at-discover-all .discover-all .ensures .1) (at-loop .loop .inv .2) in
+    (at-discover-all .discover-all .ensures .0, at-discover-all .discover-all .kept .1 .1 .1 .0 ∙ at-loop .loop .inv .1, turn)
 
--- src/lib.rt:96:1
 same-length : tie.Need-same-length Inv-loop μ-loop
-same-length c = let e : length (c .before .loop .mapping) ≡ length (now (c .before .before .before .before .before .before .before .before .before .before .before .before .before .before .before .before .before .args .mapping)) = omega (arith, c .before .loop .inv .1, c .before .before .before .before .before .before .before .before .before .before .before .before .before .before .before .before .before .pre .1) in e
+same-length c =
+    let at-loop = c .before in
+    let start = at-loop .before .before .before .before .before .before .before .before .before .before .before .before .before .before .before .before in
+    let e : length (at-loop .loop .mapping) ≡ length (now (start .args .mapping)) = omega
+    (arith, at-loop .loop .inv .1, start .pre .1) in e
 
--- src/lib.rt:96:1
 same-length-2 : tie.Need-same-length-2 Inv-loop μ-loop
-same-length-2 c = let e : length (c .before .loop .work) ≡ length (now (c .before .before .before .before .before .before .before .before .before .before .before .before .before .before .before .before .before .args .work)) = omega (arith, c .before .loop .inv .0 .workLong, c .before .loop .inv .1, c .before .before .before .before .before .before .before .before .before .before .before .before .before .before .before .before .before .pre .1) in e
+same-length-2 c =
+    let at-loop = c .before in
+    let start = at-loop .before .before .before .before .before .before .before .before .before .before .before .before .before .before .before .before in
+    let e : length (at-loop .loop .work) ≡ length (now (start .args .work)) = omega
+    (arith, at-loop .loop .inv .0 .workLong, at-loop .loop .inv .1, start .pre .1) in e
 
--- src/lib.rt:96:1
 returns : tie.Need-returns Inv-loop μ-loop
-returns c = (c .before .loop .inv .0, search-done _ _ _ _ _ _ (c .before .loop .inv .0) (c .loop-test .left) (c .before .loop .inv .2))
+returns c =
+    let at-loop = c .before in
+    (at-loop .loop .inv .0, search-done _ _ _ _ _ _ (at-loop .loop .inv .0) (c .loop-test .left) (at-loop .loop .inv .2))
 
 pub explore-spec : {M : Type 1} → statement M
 explore-spec =
@@ -102,13 +156,12 @@ explore-spec =
     Inv-loop
     μ-loop
     fill-requires
-    at-requires
+    vertex-at-requires
     discover-requires
     loop-holds
-    at-requires-2
-    edges-from-requires
-    add-edges-from
-    edges-from-requires-2
+    vertex-at-requires-2
+    targets-from-requires
+    targets-end-requires
     discover-all-requires
     add-i
     loop-less

@@ -12,74 +12,132 @@ use Rattle.reachability.proofs.Written.{kept-stretches}
 use borrow.Author.Needs.{needs}
 use Rattle.reachability.proofs.write_game.Statement.{statement}
 use Rattle.reachability.proofs.write_game.Tie as tie
-use Rattle.reachability.proofs.write_game.Reads as reads
-use Rattle.reachability.proofs.write_game.Lts as lts
-use Rattle.parity_game.proofs.write_header.Reads as write-header-reads
-use Rattle.reachability.proofs.count_edges.Reads as count-edges-reads
-use Rattle.reachability.proofs.write_columns.Reads as write-columns-reads
-use Rattle.reachability.proofs.write_offsets.Reads as write-offsets-reads
-use Rattle.reachability.proofs.write_targets.Reads as write-targets-reads
-use Rattle.words.proofs.fill.Reads as fill-reads
 
--- src/lib.rt:225:9
 count-edges-requires : tie.Need-count-edges-requires
 count-edges-requires c κs = search needs
 
--- src/lib.rt:226:44
 cast-write-header : tie.Need-cast-write-header
 cast-write-header c = search needs
 
--- src/lib.rt:226:58
 cast-write-header-2 : tie.Need-cast-write-header-2
 cast-write-header-2 c = search needs
 
--- src/lib.rt:226:9
 write-header-requires : tie.Need-write-header-requires
 write-header-requires c κs = search needs
 
--- src/lib.rt:227:9
 write-columns-requires : tie.Need-write-columns-requires
-write-columns-requires c κs = let s = c .before .before .before .before .before .before .before .before .before .before in
-    (s .pre .0, omega (arith, c .before .before .before .write-header .ensures .past, c .before .before .before .write-header .kept .1 .1 .0, s .pre .0 .few, s .pre .1 .1 .1, s .pre .0 .good .sized))
+write-columns-requires c κs =
+    let at-write-header = c .before .before .before in
+    let start = at-write-header .before .before .before .before .before .before .before in (
+      start .pre .0,
+      omega (
+        arith,
+        at-write-header .write-header .ensures .past,
+        at-write-header .write-header .kept .1 .1 .0,
+        start .pre .0 .few,
+        start .pre .1 .1 .1,
+        start .pre .0 .good .sized,
+      ),
+    )
 
--- src/lib.rt:228:9
 write-offsets-requires : tie.Need-write-offsets-requires
-write-offsets-requires c κs = let s = c .before .before .before .before .before .before .before .before .before .before .before .before .before .before in
-    let p1 = columns-end _ _ _ (s .pre .0) (c .before .before .before .write-columns .ensures) in
-    (s .pre .0, omega (arith, p1, c .before .before .before .before .before .before .before .write-header .ensures .past, c .before .before .before .before .before .before .before .write-header .kept .1 .1 .0, c .before .before .before .write-columns .kept .1 .1 .1 .0, s .pre .0 .few, s .pre .1 .1 .1, s .pre .0 .good .sized))
+write-offsets-requires c κs =
+    let at-write-columns = c .before .before .before in
+    let at-write-header = at-write-columns .before .before .before .before in
+    let start = at-write-header .before .before .before .before .before .before .before in
+    let p1 = columns-end _ _ _ (start .pre .0) (at-write-columns .write-columns .ensures) in (
+      start .pre .0,
+      omega (
+        arith,
+        p1,
+        at-write-header .write-header .ensures .past,
+        at-write-header .write-header .kept .1 .1 .0,
+        at-write-columns .write-columns .kept .1 .1 .1 .0,
+        start .pre .0 .few,
+        start .pre .1 .1 .1,
+        start .pre .0 .good .sized,
+      ),
+    )
 
--- src/lib.rt:229:9
 write-targets-requires : tie.Need-write-targets-requires
-write-targets-requires c κs = let s = c .before .before .before .before .before .before .before .before .before .before .before .before .before .before .before .before .before .before in
-    let p1 = columns-end _ _ _ (s .pre .0) (c .before .before .before .before .before .before .before .write-columns .ensures) in
-    let p2 = offsets-end _ _ _ (s .pre .0) (c .before .before .before .write-offsets .ensures) in
-    (s .pre .0, (s .pre .1 .0, (s .pre .1 .1 .0, omega (arith, p1, p2, c .before .before .before .before .before .before .before .before .before .before .before .write-header .ensures .past, c .before .before .before .before .before .before .before .before .before .before .before .write-header .kept .1 .1 .0, c .before .before .before .before .before .before .before .write-columns .kept .1 .1 .1 .0, c .before .before .before .write-offsets .kept .1 .1 .1 .0, s .pre .0 .few, s .pre .0 .fit, s .pre .1 .1 .1, s .pre .0 .good .sized))))
+write-targets-requires c κs =
+    let at-write-offsets = c .before .before .before in
+    let at-write-columns = at-write-offsets .before .before .before .before in
+    let at-write-header = at-write-columns .before .before .before .before in
+    let start = at-write-header .before .before .before .before .before .before .before in
+    let p1 = columns-end _ _ _ (start .pre .0) (at-write-columns .write-columns .ensures) in
+    let p2 = offsets-end _ _ _ (start .pre .0) (at-write-offsets .write-offsets .ensures) in (
+      start .pre .0,
+      (
+        start .pre .1 .0,
+        (
+          start .pre .1 .1 .0,
+          omega (
+            arith,
+            p1,
+            p2,
+            at-write-header .write-header .ensures .past,
+            at-write-header .write-header .kept .1 .1 .0,
+            at-write-columns .write-columns .kept .1 .1 .1 .0,
+            at-write-offsets .write-offsets .kept .1 .1 .1 .0,
+            start .pre .0 .few,
+            start .pre .0 .fit,
+            start .pre .1 .1 .1,
+            start .pre .0 .good .sized,
+          ),
+        ),
+      ),
+    )
 
--- src/lib.rt:230:5
 fill-requires : tie.Need-fill-requires
-fill-requires c κs = let s = c .before .before .before .before .before .before .before .before .before .before .before .before .before .before .before .before .before .before .before .before .before .before in
-    let p1 = columns-end _ _ _ (s .pre .0) (c .before .before .before .before .before .before .before .before .before .before .before .write-columns .ensures) in
-    let p2 = offsets-end _ _ _ (s .pre .0) (c .before .before .before .before .before .before .before .write-offsets .ensures) in
-    let p3 = targets-end _ _ _ (s .pre .0) (c .before .before .before .write-targets .ensures) in
-    omega (arith, p1, p2, p3, c .before .before .before .before .before .before .before .before .before .before .before .before .before .before .before .write-header .ensures .past, c .before .before .before .before .before .before .before .before .before .before .before .before .before .before .before .write-header .kept .1 .1 .0, c .before .before .before .before .before .before .before .before .before .before .before .write-columns .kept .1 .1 .1 .0, c .before .before .before .before .before .before .before .write-offsets .kept .1 .1 .1 .0, c .before .before .before .write-targets .kept .1 .1 .1 .1 .0, s .pre .0 .few, s .pre .0 .fit, s .pre .1 .1 .1, s .pre .0 .good .sized)
+fill-requires c κs =
+    let at-write-targets = c .before .before .before in
+    let at-write-offsets = at-write-targets .before .before .before .before in
+    let at-write-columns = at-write-offsets .before .before .before .before in
+    let at-write-header = at-write-columns .before .before .before .before in
+    let start = at-write-header .before .before .before .before .before .before .before in
+    let p1 = columns-end _ _ _ (start .pre .0) (at-write-columns .write-columns .ensures) in
+    let p2 = offsets-end _ _ _ (start .pre .0) (at-write-offsets .write-offsets .ensures) in
+    let p3 = targets-end _ _ _ (start .pre .0) (at-write-targets .write-targets .ensures) in
+    omega (
+      arith,
+      p1,
+      p2,
+      p3,
+      at-write-header .write-header .ensures .past,
+      at-write-header .write-header .kept .1 .1 .0,
+      at-write-columns .write-columns .kept .1 .1 .1 .0,
+      at-write-offsets .write-offsets .kept .1 .1 .1 .0,
+      at-write-targets .write-targets .kept .1 .1 .1 .1 .0,
+      start .pre .0 .few,
+      start .pre .0 .fit,
+      start .pre .1 .1 .1,
+      start .pre .0 .good .sized,
+    )
 
--- src/lib.rt:218:1
 same-length : tie.Need-same-length
 same-length c = search needs
 
--- src/lib.rt:218:1
 returns : tie.Need-returns
-returns c = let s = c .before .before .before .before .before .before .before .before .before .before .before .before .before .before .before .before .before .before .before .before .before .before .before .before .before in
-    let g = now (s .args .game) in
-    let k = take (s .args .count) (now (s .args .work)) in
-    let o = now (s .args .out) in
-    let stretches = kept-stretches g k (s .args .count) (c .before .before .before .before .before .before .before .before .before .before .before .before .before .before .before .before .before .before .before .before .count-edges .result) (sym (length-take-le (s .args .count) (now (s .args .work)) (s .pre .0 .within))) (c .before .before .before .before .before .before .before .before .before .before .before .before .before .before .before .before .before .before .before .before .count-edges .ensures) in
+returns c =
+    let at-write-targets = c .before .before .before .before .before .before in
+    let at-write-offsets = at-write-targets .before .before .before .before in
+    let at-write-columns = at-write-offsets .before .before .before .before in
+    let at-write-header = at-write-columns .before .before .before .before in
+    let at-count-edges = at-write-header .before .before in
+    let start′ = at-count-edges .before .before .before .before .before in
+    let g = now (start′ .args .game) in
+    let k = take (start′ .args .count) (now (start′ .args .work)) in
+    let o = now (start′ .args .out) in
+    let stretches = kept-stretches g k (start′ .args .count) (at-count-edges .count-edges .result)
+    (sym (length-take-le (start′ .args .count) (now (start′ .args .work)) (start′ .pre .0 .within)))
+    (at-count-edges .count-edges .ensures) in
     let w0 : Writing 0 (gameOf 0 (keptVertices g k)) o 0 (gameOf 0 (keptVertices g k)) o = Rattle.words.proofs.Stretches.start in
-    let w1 = called (c .before .before .before .before .before .before .before .before .before .before .before .before .before .before .before .before .before .before .write-header .kept .1 .1 .0) (c .before .before .before .before .before .before .before .before .before .before .before .before .before .before .before .before .before .before .write-header .ensures) (turn stretches w0) in
-    let w2 = called (c .before .before .before .before .before .before .before .before .before .before .before .before .before .before .write-columns .kept .1 .1 .1 .0) (c .before .before .before .before .before .before .before .before .before .before .before .before .before .before .write-columns .ensures) w1 in
-    let w3 = called (c .before .before .before .before .before .before .before .before .before .before .write-offsets .kept .1 .1 .1 .0) (c .before .before .before .before .before .before .before .before .before .before .write-offsets .ensures) w2 in
-    let w4 = called (c .before .before .before .before .before .before .write-targets .kept .1 .1 .1 .1 .0) (c .before .before .before .before .before .before .write-targets .ensures) w3 in
-    (c .before .before .before .before .before .before .before .before .before .before .before .before .before .before .before .before .before .before .before .before .count-edges .ensures, game-padded _ _ _ _ _ (done w4) (w4 .long) (c .before .before .fill .ensures))
+    let w1 = called (at-write-header .write-header .kept .1 .1 .0) (at-write-header .write-header .ensures) (turn stretches w0) in
+    let w2 = called (at-write-columns .write-columns .kept .1 .1 .1 .0) (at-write-columns .write-columns .ensures) w1 in
+    let w3 = called (at-write-offsets .write-offsets .kept .1 .1 .1 .0) (at-write-offsets .write-offsets .ensures) w2 in
+    let w4 = called (at-write-targets .write-targets .kept .1 .1 .1 .1 .0) (at-write-targets .write-targets .ensures) w3 in
+    (at-count-edges .count-edges .ensures, game-padded _ _ _ _ _ (done w4) (w4 .long) (c .before .before .fill .ensures))
 
 pub write-game-spec : {M : Type 1} → statement M
 write-game-spec =

@@ -3,31 +3,22 @@ use lib.Seq.{length-take-le}
 use borrow.Author.Needs.{needs}
 use Rattle.replay.proofs.lend_build.Statement.{statement}
 use Rattle.replay.proofs.lend_build.Tie as tie
-use Rattle.replay.proofs.lend_build.Reads as reads
-use Rattle.replay.proofs.lend_build.Lts as lts
-use Rattle.replay.proofs.run_build.Reads as run-build-reads
 
--- src/main.rt:161:9
 array-borrow-prefix-game : tie.Need-array-borrow-prefix-game
 array-borrow-prefix-game c = search needs
 
--- src/main.rt:161:9
 slice-aggregate-run-build : tie.Need-slice-aggregate-run-build
 slice-aggregate-run-build c = sym (length-take-le _ _ (search needs))
 
--- src/main.rt:162:9
 array-borrow-prefix-work : tie.Need-array-borrow-prefix-work
 array-borrow-prefix-work c = search needs
 
--- src/main.rt:162:9
 slice-aggregate-run-build-2 : tie.Need-slice-aggregate-run-build-2
 slice-aggregate-run-build-2 c = sym (length-take-le _ _ (search needs))
 
--- src/main.rt:153:5
 run-build-requires : tie.Need-run-build-requires
 run-build-requires c κs = search needs
 
--- src/main.rt:137:1
 returns : tie.Need-returns
 returns c = search needs
 

@@ -34,13 +34,22 @@ same-length c = search needs
 
 -- src/lib.rt:210:9
 returns-2 : tie.Need-returns-2
-returns-2 c = close-loop _ _ _ _ _ _ _ _ (c .before .before .before .before .before .before .before .before .before .before .before .before .pre .0) (c .before .before .before .before .before .before .before .before .before .before .before .before .pre .1) (c .before .before .before .before .before .before .before .before .before .before .before .before .pre .3) (c .before .before .before .before .before .before .before .before .before .before .if1 .taken) (omega (arith, c .before .before .before .before .before .before .before .before .before .before .before .before .pre .0 .buffer, c .before .before .before .before .before .before .before .before .before .if2 .left)) (c .before .before .before .before .before .before .before .put-edge .ensures) (c .before .before .before .put-word .ensures)
+returns-2 c =
+    let at-put-edge = c .before .before .before .before .before .before .before in
+    let at-if1 = at-put-edge .before .before .before .before in
+    let start = at-if1 .before .before in
+    close-loop _ _ _ _ _ _ _ _ (start .pre .0) (start .pre .1) (start .pre .3) (at-if1 .if1 .taken) (omega (arith, start .pre .0 .buffer, at-put-edge .before .before .if2 .left)) (at-put-edge .put-edge .ensures) (c .before .before .before .put-word .ensures)
 
 -- src/lib.rt:217:48
 sub-put-word : tie.Need-sub-put-word
 sub-put-word c = search needs
 
 -- src/lib.rt:217:5
+add-put-word : tie.Need-add-put-word
+add-put-word c =
+    let start = c .before .before .before in
+    omega (arith, start .pre .0 .buffer, start .pre .0 .most-edges)
+
 put-word-requires-2 : tie.Need-put-word-requires-2
 put-word-requires-2 c κs = search needs
 
@@ -55,8 +64,9 @@ same-length-2 c = search needs
 -- src/lib.rt:192:1
 returns-3 : tie.Need-returns-3
 returns-3 c =
-    let s = c .before .before .before .before .before .before .before in
-    close-others _ _ (s .args .work .now) _ (s .args .work .now) _ _ _ (s .pre .0) (s .pre .1) (s .pre .3) (c .before .before .before .before .before .if1 .left) (c .before .before .before .put-word2 .ensures)
+    let at-if1 = c .before .before .before .before .before in
+    let start = at-if1 .before .before in
+    close-others _ _ (start .args .work .now) _ (start .args .work .now) _ _ _ (start .pre .0) (start .pre .1) (start .pre .3) (at-if1 .if1 .left) (c .before .before .before .put-word2 .ensures)
 
 pub close-spec : {M : Type 1} → statement M
 close-spec =
@@ -70,6 +80,7 @@ close-spec =
     same-length
     returns-2
     sub-put-word
+    add-put-word
     put-word-requires-2
     add-t21
     same-length-2

@@ -12,9 +12,10 @@ use Rattle.words.proofs.put_word.Reads as put-word-reads
 -- src/lib.rt:67:11
 number-requires : tie.Need-number-requires
 number-requires c κs =
-    let r = c .before .before .pre .1 .0 in
-    let f = c .before .before .pre .1 .1 in
-    (c .before .before .pre .0, record { some = r .some; most = r .most; whole = omega (arith, r .whole); state-fits = f .state-fits; item-fits = f .item-fits; table = r .table })
+    let start = c .before .before .before in
+    let r = start .pre .1 .0 in
+    let f = start .pre .1 .1 in
+    (start .pre .0, record { some = r .some; most = r .most; whole = omega (arith, r .whole); state-fits = f .state-fits; item-fits = f .item-fits; table = r .table })
 
 -- src/lib.rt:68:28
 enum-known-vertex : tie.Need-enum-known-vertex
@@ -26,16 +27,20 @@ same-length c = search needs
 
 -- src/lib.rt:70:17
 returns : tie.Need-returns
-returns c = met-old _ _ _ _ _ _ (c .before .before .before .before .before .before .number .ensures) _ _ (c .before .before .vertex .given .1) _ (c .if1 .taken)
+returns c =
+    let at-number = c .before .before .before .before .before .before in
+    met-old _ _ _ _ _ _ (at-number .number .ensures) _ _ (c .before .before .vertex .given .1) _ (c .if1 .taken)
 
 -- src/lib.rt:76:13
 put-word-requires : tie.Need-put-word-requires
 put-word-requires c κs =
-    let room = met-room _ _ _ _ _ _ (c .before .before .before .before .before .before .before .number .ensures) _ _ (c .before .before .before .vertex .given .1) (c .before .if1 .left) in
+    let at-number = c .before .before .before .before .before .before .before in
+    let start = at-number .before .before .before .before in
+    let room = met-room _ _ _ _ _ _ (at-number .number .ensures) _ _ (c .before .before .before .vertex .given .1) (c .before .if1 .left) in
     record {
-      whole = omega (arith, c .before .before .before .before .before .before .before .before .before .before .pre .1 .0 .whole, c .before .before .before .before .before .before .before .number .kept .1 .0);
+      whole = omega (arith, start .pre .1 .0 .whole, at-number .number .kept .1 .0);
       region = omega arith;
-      word = omega (arith, c .before .before .before .before .before .before .before .before .before .before .pre .1 .0 .stack, room);
+      word = omega (arith, start .pre .1 .0 .stack, room);
     }
 
 -- src/lib.rt:80:26
@@ -53,9 +58,13 @@ same-length-2 c = search needs
 -- src/lib.rt:52:1
 returns-2 : tie.Need-returns-2
 returns-2 c =
-    let room = met-room _ _ _ _ _ _ (c .before .before .before .before .before .before .before .before .before .before .number .ensures) _ _ (c .before .before .before .before .before .before .vertex .given .1) (c .before .before .before .before .if1 .left) in
-    met-new _ _ _ _ _ _ (c .before .before .before .before .before .before .before .before .before .before .number .ensures) _ _ (c .before .before .before .before .before .before .vertex .given .1) _ _ (c .before .before .before .before .if1 .left)
-    (omega (arith, c .before .before .before .before .before .before .before .before .before .before .before .before .before .pre .1 .0 .stack, room)) (omega (arith, c .before .before .before .before .before .before .before .before .before .before .before .before .before .pre .1 .0 .whole, c .before .before .before .before .before .before .before .before .before .before .number .kept .1 .0)) (c .before .before .put-word .ensures)
+    let at-if1 = c .before .before .before .before in
+    let at-vertex = at-if1 .before .before in
+    let at-number = at-vertex .before .before .before .before in
+    let start = at-number .before .before .before .before in
+    let room = met-room _ _ _ _ _ _ (at-number .number .ensures) _ _ (at-vertex .vertex .given .1) (at-if1 .if1 .left) in
+    met-new _ _ _ _ _ _ (at-number .number .ensures) _ _ (at-vertex .vertex .given .1) _ _ (at-if1 .if1 .left)
+    (omega (arith, start .pre .1 .0 .stack, room)) (omega (arith, start .pre .1 .0 .whole, at-number .number .kept .1 .0)) (c .before .before .put-word .ensures)
 
 -- src/lib.rt:52:1
 same-length-3 : tie.Need-same-length-3
@@ -63,7 +72,9 @@ same-length-3 c = search needs
 
 -- src/lib.rt:52:1
 returns-3 : tie.Need-returns-3
-returns-3 c = full-by _ _ _ _ _ _ (c .before .before .before .before .number .ensures) (c .enum-told .given .1) .more
+returns-3 c =
+    let at-number = c .before .before .before .before in
+    full-by _ _ _ _ _ _ (at-number .number .ensures) (c .enum-told .given .1) .more
 
 pub meet-spec : {M : Type 1} → statement M
 meet-spec =

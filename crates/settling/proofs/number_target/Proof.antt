@@ -25,7 +25,9 @@ same-length c = search needs
 
 -- src/lib.rt:109:17
 returns : tie.Need-returns
-returns c = inr (omega (arith, c .before .before .before .before .before .before .before .before .before .pre .1 .0 .buffer, c .if1 .taken))
+returns c =
+    let start = c .before .before .before .before .before .before .before .before .before .before .before in
+    inr (omega (arith, start .pre .1 .0 .buffer, c .if1 .taken))
 
 -- src/lib.rt:111:13
 put-edge-requires : tie.Need-put-edge-requires
@@ -46,8 +48,11 @@ same-length-2 c = search needs
 -- src/lib.rt:88:1
 returns-2 : tie.Need-returns-2
 returns-2 c =
-    let p = subst (MeetAnswer _ _ _ _ _ _) (c .before .before .before .before .before .before .vertex .given .1) (c .before .before .before .before .before .before .before .before .before .before .meet .ensures) in
-    edge-made _ _ _ _ _ _ _ _ _ _ _ (c .before .before .before .before .before .before .before .before .before .before .before .before .before .pre .1 .0) p (omega (arith, c .before .before .before .before .before .before .before .before .before .before .before .before .before .pre .1 .0 .buffer, c .before .before .before .before .if1 .left)) (c .before .before .before .before .before .before .before .before .before .before .meet .kept .1 .0) (λ a h. refl) refl (marks-rest _ _ _ _ (p .rest)) (c .before .before .put-edge .ensures)
+    let at-if1 = c .before .before .before .before in
+    let at-meet = at-if1 .before .before .before .before .before .before .before in
+    let start = at-meet .before .before .before .before in
+    let p = subst (MeetAnswer _ _ _ _ _ _) (at-if1 .before .before .before .vertex .given .1) (at-meet .meet .ensures) in
+    edge-made _ _ _ _ _ _ _ _ _ _ _ (start .pre .1 .0) p (omega (arith, start .pre .1 .0 .buffer, at-if1 .if1 .left)) (at-meet .meet .kept .1 .1 .0) (λ a h. refl) refl (marks-rest _ _ _ _ (p .rest)) (c .before .before .put-edge .ensures)
 
 -- src/lib.rt:88:1
 same-length-3 : tie.Need-same-length-3
@@ -55,7 +60,10 @@ same-length-3 c = search needs
 
 -- src/lib.rt:88:1
 returns-3 : tie.Need-returns-3
-returns-3 c = many-one _ _ _ (c .before .before .before .before .before .before .before .args .c) _ (subst (MeetAnswer _ _ _ _ _ _) (c .enum-told .given .1) (c .before .before .before .before .meet .ensures))
+returns-3 c =
+    let at-meet = c .before .before .before .before in
+    let start = at-meet .before .before .before .before in
+    many-one _ _ _ (start .args .c) _ (subst (MeetAnswer _ _ _ _ _ _) (c .enum-told .given .1) (at-meet .meet .ensures))
 
 pub number-target-spec : {M : Type 1} → statement M
 number-target-spec =

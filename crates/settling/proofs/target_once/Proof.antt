@@ -27,11 +27,13 @@ enum-known-vertex c = search needs
 -- src/lib.rt:146:16
 region-word-requires : tie.Need-region-word-requires
 region-word-requires c κs =
-    let p = subst (MeetAnswer _ _ _ _ _ _) (c .before .before .vertex .given .1) (c .before .before .before .before .before .before .meet .ensures) in
+    let at-meet = c .before .before .before .before .before .before in
+    let start = at-meet .before .before .before .before .before in
+    let p = subst (MeetAnswer _ _ _ _ _ _) (c .before .before .vertex .given .1) (at-meet .meet .ensures) in
     record {
-      whole = omega (arith, c .before .before .before .before .before .before .before .before .before .before .pre .1 .0 .0 .whole, c .before .before .before .before .before .before .meet .kept .1 .0);
+      whole = omega (arith, start .pre .1 .0 .0 .whole, at-meet .meet .kept .1 .1 .0);
       region = omega arith;
-      word = met-below _ _ _ _ _ _ _ _ _ (c .before .before .before .before .before .before .before .before .before .before .pre .1 .0 .0) p;
+      word = met-below _ _ _ _ _ _ _ _ _ (start .pre .1 .0 .0) p;
     }
 
 -- src/lib.rt:147:17
@@ -41,8 +43,11 @@ same-length c = search needs
 -- src/lib.rt:147:17
 returns : tie.Need-returns
 returns c =
-    let p = subst (MeetAnswer _ _ _ _ _ _) (c .before .before .before .before .vertex .given .1) (c .before .before .before .before .before .before .before .before .meet .ensures) in
-    λ ts k. once-old _ _ _ _ _ _ _ _ _ (c .before .before .before .before .before .before .before .before .before .before .before .before .pre .1 .0 .0) p ts (omega (arith, c .before .before .before .before .before .before .before .before .before .before .before .before .pre .1 .0 .0 .whole, c .before .before .before .before .before .before .before .before .meet .kept .1 .0)) (sym (c .before .region-word .ensures) ∙ c .if1 .taken) k
+    let at-vertex = c .before .before .before .before in
+    let at-meet = at-vertex .before .before .before .before in
+    let start = at-meet .before .before .before .before .before in
+    let p = subst (MeetAnswer _ _ _ _ _ _) (at-vertex .vertex .given .1) (at-meet .meet .ensures) in
+    λ ts k. once-old _ _ _ _ _ _ _ _ _ (start .pre .1 .0 .0) p ts (omega (arith, start .pre .1 .0 .0 .whole, at-meet .meet .kept .1 .1 .0)) (sym (c .before .region-word .ensures) ∙ c .if1 .taken) k
 
 -- src/lib.rt:155:17
 same-length-2 : tie.Need-same-length-2
@@ -51,26 +56,39 @@ same-length-2 c = search needs
 -- src/lib.rt:155:17
 returns-2 : tie.Need-returns-2
 returns-2 c =
-    let p = subst (MeetAnswer _ _ _ _ _ _) (c .before .before .before .before .before .vertex .given .1) (c .before .before .before .before .before .before .before .before .before .meet .ensures) in
-    λ ts k. once-many _ _ _ _ _ _ _ _ _ (c .before .before .before .before .before .before .before .before .before .before .before .before .before .pre .1 .0 .0) p ts (λ z. c .before .if1 .left (c .before .before .region-word .ensures ∙ z)) (omega (arith, c .if2 .taken)) k
+    let at-vertex = c .before .before .before .before .before .before in
+    let at-meet = at-vertex .before .before .before .before in
+    let start = at-meet .before .before .before .before .before in
+    let p = subst (MeetAnswer _ _ _ _ _ _) (at-vertex .vertex .given .1) (at-meet .meet .ensures) in
+    λ ts k. once-many _ _ _ _ _ _ _ _ _ (start .pre .1 .0 .0) p ts (λ z. c .before .before .if1 .left (c .before .before .before .region-word .ensures ∙ z)) (omega (arith, c .if2 .taken)) k
 
 -- src/lib.rt:157:13
 put-word-requires : tie.Need-put-word-requires
 put-word-requires c κs =
-    let p = subst (MeetAnswer _ _ _ _ _ _) (c .before .before .before .before .before .before .vertex .given .1) (c .before .before .before .before .before .before .before .before .before .before .meet .ensures) in
+    let at-vertex = c .before .before .before .before .before .before .before in
+    let at-meet = at-vertex .before .before .before .before in
+    let start = at-meet .before .before .before .before .before in
+    let p = subst (MeetAnswer _ _ _ _ _ _) (at-vertex .vertex .given .1) (at-meet .meet .ensures) in
     record {
-      whole = omega (arith, c .before .before .before .before .before .before .before .before .before .before .before .before .before .before .pre .1 .0 .0 .whole, c .before .before .before .before .before .before .before .before .before .before .meet .kept .1 .0);
+      whole = omega (arith, start .pre .1 .0 .0 .whole, at-meet .meet .kept .1 .1 .0);
       region = omega arith;
-      word = met-below _ _ _ _ _ _ _ _ _ (c .before .before .before .before .before .before .before .before .before .before .before .before .before .before .pre .1 .0 .0) p;
+      word = met-below _ _ _ _ _ _ _ _ _ (start .pre .1 .0 .0) p;
     }
 
 -- src/lib.rt:158:13
 put-edge-requires : tie.Need-put-edge-requires
-put-edge-requires c κs = search needs
+put-edge-requires c κs =
+    let at-if2 = c .before .before .before .before .before in
+    let at-meet = at-if2 .before .before .before .before .before .before .before .before .before .before in
+    let start = at-meet .before .before .before .before .before in
+    let ready = start .pre .1 .0 .0 in
+    (ready .most, omega (arith, ready .whole, ready .buffer, at-if2 .if2 .left, at-meet .meet .kept .1 .1 .0, c .before .before .before .put-word .kept .0))
 
 -- src/lib.rt:162:24
-add-t18 : tie.Need-add-t18
-add-t18 c = omega (arith, c .before .before .before .before .before .before .before .before .before .before .before .before .before .before .before .before .before .before .before .before .before .pre .1 .0 .0 .buffer, c .before .before .before .before .before .before .before .before .before .before .before .before .before .before .before .before .before .before .before .before .before .pre .1 .0 .0 .most-edges)
+add-next : tie.Need-add-next
+add-next c =
+    let start = c .before .before .before .before .before .before .before .before .before .before .before .before .before .before .before .before .before .before .before .before .before .before .before in
+    omega (arith, start .pre .1 .0 .0 .buffer, start .pre .1 .0 .0 .most-edges)
 
 -- src/lib.rt:166:25
 enum-told : tie.Need-enum-told
@@ -83,8 +101,13 @@ same-length-3 c = search needs
 -- src/lib.rt:124:1
 returns-3 : tie.Need-returns-3
 returns-3 c =
-    let p = subst (MeetAnswer _ _ _ _ _ _) (c .before .before .before .before .before .before .before .before .before .before .before .before .before .vertex .given .1) (c .before .before .before .before .before .before .before .before .before .before .before .before .before .before .before .before .before .meet .ensures) in
-    λ ts k. once-new _ _ _ _ _ _ _ _ _ (c .before .before .before .before .before .before .before .before .before .before .before .before .before .before .before .before .before .before .before .before .before .pre .1 .0 .0) p ts _ _ (c .before .before .before .before .before .before .before .before .before .before .before .before .before .before .before .before .before .meet .kept .1 .0) (λ z. c .before .before .before .before .before .before .before .before .before .if1 .left (c .before .before .before .before .before .before .before .before .before .before .region-word .ensures ∙ z)) (omega (arith, c .before .before .before .before .before .before .before .before .before .before .before .before .before .before .before .before .before .before .before .before .before .pre .1 .0 .0 .buffer, c .before .before .before .before .before .before .before .before .if2 .left)) (c .before .before .before .before .before .before .put-word .ensures) (c .before .before .put-edge .ensures) k
+    let at-put-word = c .before .before .before .before .before .before in
+    let at-if1 = at-put-word .before .before .before .before in
+    let at-vertex = at-if1 .before .before .before .before in
+    let at-meet = at-vertex .before .before .before .before in
+    let start = at-meet .before .before .before .before .before in
+    let p = subst (MeetAnswer _ _ _ _ _ _) (at-vertex .vertex .given .1) (at-meet .meet .ensures) in
+    λ ts k. once-new _ _ _ _ _ _ _ _ _ (start .pre .1 .0 .0) p ts _ _ (at-meet .meet .kept .1 .1 .0) (λ z. at-if1 .if1 .left (at-if1 .before .region-word .ensures ∙ z)) (omega (arith, start .pre .1 .0 .0 .buffer, at-put-word .before .before .if2 .left)) (at-put-word .put-word .ensures) (c .before .before .put-edge .ensures) k
 
 -- src/lib.rt:124:1
 same-length-4 : tie.Need-same-length-4
@@ -93,7 +116,9 @@ same-length-4 c = search needs
 -- src/lib.rt:124:1
 returns-4 : tie.Need-returns-4
 returns-4 c =
-    λ ts k. once-crowded _ _ _ (c .before .before .before .before .before .before .before .before .args .c) _ ts (c .before .before .before .before .before .before .before .before .pre .1 .0 .0 .table .slots .room) (subst (MeetAnswer _ _ _ _ _ _) (c .enum-told .given .1) (c .before .before .before .before .meet .ensures)) k
+    let at-meet = c .before .before .before .before in
+    let start = at-meet .before .before .before .before .before in
+    λ ts k. once-crowded _ _ _ (start .args .c) _ ts (start .pre .1 .0 .0 .table .slots .room) (subst (MeetAnswer _ _ _ _ _ _) (c .enum-told .given .1) (at-meet .meet .ensures)) k
 
 pub target-once-spec : {M : Type 1} → statement M
 target-once-spec =
@@ -109,7 +134,7 @@ target-once-spec =
     returns-2
     put-word-requires
     put-edge-requires
-    add-t18
+    add-next
     enum-told
     same-length-3
     returns-3

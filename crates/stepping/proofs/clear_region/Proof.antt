@@ -1,3 +1,4 @@
+-- `clear_region` meets its contract: the words before i are cleared, and nothing else has changed. Assumes nothing.
 use Prim.Native.Nat.{_-_}
 use native.Mathlib.Omega.{arith}
 use Rattle.stepping.proofs.Starts.{Clearing, clearing-start, clearing-on, clearing-end}
@@ -13,31 +14,34 @@ Inv-loop work₀ v area i₀ work i = Clearing work₀ v area work i
 abbrev μ-loop : tie.MeasureT-loop
 μ-loop work₀ v area i₀ work i = v - i
 
--- src/lib.rt:261:5
 loop-holds : tie.Need-loop-holds Inv-loop μ-loop
 loop-holds c = clearing-start _ _ _
 
--- src/lib.rt:262:9
 put-word-requires : tie.Need-put-word-requires Inv-loop μ-loop
-put-word-requires c κs = record { whole = omega (arith, c .before .before .before .before .pre .1, c .before .before .loop .inv .same); region = c .before .before .before .before .pre .2; word = c .before .loop-test .taken }
+put-word-requires c κs =
+    let start = c .before .before .before .before in
+    let p = start .pre in
+    record { whole = omega (arith, p .1, c .before .before .loop .inv .same); region = p .2; word = c .before .loop-test .taken }
 
--- src/lib.rt:263:9
 add-i : tie.Need-add-i Inv-loop μ-loop
-add-i c = omega (arith, c .before .before .before .before .loop-test .taken, c .before .before .before .before .before .before .before .pre .0)
+add-i c =
+    let at-loop-test = c .before .before .before .before in
+    omega (arith, at-loop-test .loop-test .taken, at-loop-test .before .before .before .pre .0)
 
--- src/lib.rt:261:5
 loop-less : tie.Need-loop-less Inv-loop μ-loop
-loop-less c = omega (arith, c .before .before .before .before .loop-test .taken)
+loop-less c =
+    let at-loop-test = c .before .before .before .before in
+    omega (arith, at-loop-test .loop-test .taken)
 
--- src/lib.rt:261:5
 loop-again : tie.Need-loop-again Inv-loop μ-loop
-loop-again c = clearing-on _ _ _ _ _ _ (c .before .before .before .before .before .before .before .pre .1) (c .before .before .before .before .before .before .before .pre .2) (c .before .before .before .before .before .loop .inv) (c .before .before .before .before .loop-test .taken) (c .before .before .put-word .ensures)
+loop-again c =
+    let at-loop-test = c .before .before .before .before in
+    let p = at-loop-test .before .before .before .pre in
+    clearing-on _ _ _ _ _ _ (p .1) (p .2) (at-loop-test .before .loop .inv) (at-loop-test .loop-test .taken) (c .before .before .put-word .ensures)
 
--- src/lib.rt:256:1
 same-length : tie.Need-same-length Inv-loop μ-loop
 same-length c = c .before .loop .inv .same
 
--- src/lib.rt:256:1
 returns : tie.Need-returns Inv-loop μ-loop
 returns c = clearing-end _ _ _ _ _ (c .before .loop .inv) (c .loop-test .left)
 

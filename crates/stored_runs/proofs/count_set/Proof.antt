@@ -9,9 +9,6 @@ use Rattle.stored_runs.specs.Stored.{setIn}
 use Rattle.stored_runs.proofs.Reading.{set-more}
 use Rattle.stored_runs.proofs.count_set.Statement.{statement}
 use Rattle.stored_runs.proofs.count_set.Tie as tie
-use Rattle.stored_runs.proofs.count_set.Reads as reads
-use Rattle.stored_runs.proofs.count_set.Lts as lts
-use Rattle.stored_runs.proofs.set.Reads as set-reads
 
 abbrev Inv-loop : tie.InvT-loop
 Inv-loop ws n₀ i₀ n i = (n ≡ setIn i ws) × (n ≤ i) × (i ≤ length ws)
@@ -42,10 +39,19 @@ loop-less : tie.Need-loop-less Inv-loop μ-loop
 loop-less c = omega arith
 
 loop-again : tie.Need-loop-again Inv-loop μ-loop
-loop-again c = (set-more (c .before .before .before .before .before .args .ws .now) (c .before .before .before .loop .n) (c .before .before .before .loop .i) (c .set .result) (c .set .ensures .0) (c .before .before .before .loop .inv .0), omega arith, omega arith)
+loop-again c =
+    let at-loop = c .before .before .before in (
+      set-more (at-loop .before .before .args .ws .now) (at-loop .loop .n) (at-loop .loop .i) (c .set .result)
+          (c .set .ensures .0) (at-loop .loop .inv .0),
+      omega arith,
+      omega arith,
+    )
 
 returns : tie.Need-returns Inv-loop μ-loop
-returns c = c .before .loop .inv .0 ∙ ap (λ (m : ℕ). setIn m (c .before .before .before .args .ws .now)) (le-antisymm (c .before .loop .inv .2) (omega arith))
+returns c =
+    let at-loop = c .before in
+    at-loop .loop .inv .0 ∙ ap (λ (m : ℕ). setIn m (at-loop .before .before .args .ws .now))
+    (le-antisymm (at-loop .loop .inv .2) (omega arith))
 
 pub count-set-spec : {M : Type 1} → statement M
 count-set-spec =

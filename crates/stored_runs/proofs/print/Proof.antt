@@ -5,12 +5,6 @@ use lib.ListN.{length}
 use borrow.Author.Needs.{needs}
 use Rattle.stored_runs.proofs.print.Statement.{statement}
 use Rattle.stored_runs.proofs.print.Tie as tie
-use Rattle.stored_runs.proofs.print.Reads as reads
-use Rattle.stored_runs.proofs.print.Lts as lts
-use Rattle.io.proofs.print_decimal.Reads as print-decimal-reads
-use Rattle.io.proofs.write_all.Reads as write-all-reads
-use Rattle.stored_runs.proofs.long.Reads as long-reads
-use Rattle.stored_runs.proofs.space.Reads as space-reads
 
 abbrev Inv-loop : tie.InvT-loop
 Inv-loop label ws i₀ i = Unit {0}

@@ -7,12 +7,10 @@ use Rattle.stored_runs.specs.Stored.{wordsAt}
 use Rattle.stored_runs.proofs.Reading.{read-more, read-done}
 use Rattle.stored_runs.proofs.read_words.Statement.{statement}
 use Rattle.stored_runs.proofs.read_words.Tie as tie
-use Rattle.stored_runs.proofs.read_words.Reads as reads
-use Rattle.stored_runs.proofs.read_words.Lts as lts
-use Rattle.words.proofs.word_at.Reads as word-at-reads
 
 abbrev Inv-loop : tie.InvT-loop
-Inv-loop text from stored₀ i₀ stored i = (i ≤ length stored₀) × (length stored ≡ length stored₀) × (take i stored ≡ wordsAt i text from)
+Inv-loop text from stored₀ i₀ stored i =
+    (i ≤ length stored₀) × (length stored ≡ length stored₀) × (take i stored ≡ wordsAt i text from)
 
 abbrev μ-loop : tie.MeasureT-loop
 μ-loop text from stored₀ i₀ stored i = length stored₀ - i
@@ -43,13 +41,24 @@ loop-less : tie.Need-loop-less Inv-loop μ-loop
 loop-less c = omega arith
 
 loop-again : tie.Need-loop-again Inv-loop μ-loop
-loop-again c = (omega arith, simp length-set (c .before .before .loop .inv .1), read-more (c .before .before .before .before .before .args .text .now) (c .before .before .loop .stored) (c .before .before .before .before .before .args .from) (c .before .before .loop .i) _ (c .word-at .ensures) (omega arith) (c .before .before .loop .inv .2))
+loop-again c =
+    let at-loop = c .before .before in
+    let start = at-loop .before .before .before in (
+      omega arith,
+      simp length-set (at-loop .loop .inv .1),
+      read-more (start .args .text .now) (at-loop .loop .stored)
+          (start .args .from) (at-loop .loop .i) _ (c .word-at .ensures) (omega arith) (at-loop .loop .inv .2),
+    )
 
 same-length : tie.Need-same-length Inv-loop μ-loop
 same-length c = c .before .loop .inv .1
 
 returns : tie.Need-returns Inv-loop μ-loop
-returns c = read-done (c .before .before .before .before .args .text .now) (c .before .loop .stored) (c .before .before .before .before .args .from) (c .before .loop .i) _ (c .before .loop .inv .0) (omega arith) (c .before .loop .inv .1) (c .before .loop .inv .2)
+returns c =
+    let at-loop = c .before in
+    let start = at-loop .before .before .before in
+    read-done (start .args .text .now) (at-loop .loop .stored) (start .args .from) (at-loop .loop .i) _
+    (at-loop .loop .inv .0) (omega arith) (at-loop .loop .inv .1) (at-loop .loop .inv .2)
 
 pub read-words-spec : {M : Type 1} → statement M
 read-words-spec =

@@ -4,10 +4,6 @@ use lib.Seq.{length-take-le}
 use borrow.Author.Needs.{needs}
 use Rattle.stored_runs.proofs.restrict.Statement.{statement}
 use Rattle.stored_runs.proofs.restrict.Tie as tie
-use Rattle.stored_runs.proofs.restrict.Reads as reads
-use Rattle.stored_runs.proofs.restrict.Lts as lts
-use Rattle.stored_runs.proofs.filled.Reads as filled-reads
-use Rattle.stored_runs.proofs.run_restrict.Reads as run-restrict-reads
 
 filled-requires : tie.Need-filled-requires
 filled-requires c κs = search needs

@@ -3,8 +3,6 @@ use native.Mathlib.Omega.{arith}
 use Rattle.stored_runs.proofs.Reading.{one-of-zero, one-of-more}
 use Rattle.stored_runs.proofs.set.Statement.{statement}
 use Rattle.stored_runs.proofs.set.Tie as tie
-use Rattle.stored_runs.proofs.set.Reads as reads
-use Rattle.stored_runs.proofs.set.Lts as lts
 
 returns : tie.Need-returns
 returns c = (one-of-zero _ (omega arith), omega arith)

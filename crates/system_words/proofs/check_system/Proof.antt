@@ -22,17 +22,23 @@ enum-told c = search needs
 
 -- src/lib.rt:96:26
 check-transitions-requires : tie.Need-check-transitions-requires
-check-transitions-requires c κs = let s = sizes-passed _ (sym (c .before .before .check-sizes .ensures) ∙ c .enum-told .given .1) in
-    ((c .before .before .before .before .before .pre, s .0), (s .1, s .2))
+check-transitions-requires c κs =
+    let start = c .before .before .before .before .before in
+    let s = sizes-passed _ (sym (c .before .before .check-sizes .ensures) ∙ c .enum-told .given .1) in
+    ((start .pre, s .0), (s .1, s .2))
 
 -- src/lib.rt:89:1
 returns : tie.Need-returns
-returns c = let ss = now (c .before .before .before .before .before .before .args .system) in
+returns c =
+    let start = c .before .before .before .before .before .before in
+    let ss = now (start .args .system) in
     sym (first-fault-of (refusal21 ss ∷ refusal22 ss ∷ []) _ (sym (c .before .before .before .check-sizes .ensures) ∙ c .before .sizes .given .1))
 
 -- src/lib.rt:89:1
 returns-2 : tie.Need-returns-2
-returns-2 c = let ss = now (c .before .before .before .before .before .before .args .system) in
+returns-2 c =
+    let start = c .before .before .before .before .before .before in
+    let ss = now (start .args .system) in
     c .check-transitions .ensures ∙ sym (first-next-of (refusal21 ss ∷ refusal22 ss ∷ []) _ (sym (c .before .before .before .check-sizes .ensures) ∙ c .before .enum-told .given .1))
 
 pub check-system-spec : {M : Type 1} → statement M

@@ -28,11 +28,13 @@ sum-words-requires c κs = search needs
 
 -- src/lib.rt:77:9
 returns-2 : tie.Need-returns-2
-returns-2 c = sym (first-next _ (right-initial _ (omega arith)) ∙ first-fault _ (wrong-degrees _ _ (c .before .before .before .before .before .at .ensures .0) (omega arith)))
+returns-2 c =
+    let at-at = c .before .before .before .before .before in
+    sym (first-next _ (right-initial _ (omega arith)) ∙ first-fault _ (wrong-degrees _ _ (at-at .at .ensures .0) (omega arith)))
 
 -- src/lib.rt:79:17
-add-names : tie.Need-add-names
-add-names c = search needs
+add-numbers : tie.Need-add-numbers
+add-numbers c = search needs
 
 -- src/lib.rt:80:19
 add-targets : tie.Need-add-targets
@@ -64,14 +66,22 @@ check-below-requires-2 c κs = search needs
 
 -- src/lib.rt:66:1
 returns-3 : tie.Need-returns-3
-returns-3 c = sym (first-next _ (right-initial _ (omega arith)) ∙ first-next _ (right-degrees _ _ (c .before .before .before .before .before .before .before .before .before .before .at .ensures .0) (omega arith))
-    ∙ first-fault _ (names-at _ _ _ (c .before .before .before .before .before .before .before .before .before .before .at .ensures .0) (c .before .before .before .before .before .before .before .before .before .at2 .ensures .0) _ _ (c .before .before .before .before .at4 .ensures .0) ∙ sym (c .before .before .before .check-below .ensures) ∙ c .before .checked .given .1))
+returns-3 c =
+    let at-at4 = c .before .before .before .before in
+    let at-at2 = at-at4 .before .before .before .before .before in
+    let at-at = at-at2 .before in
+    sym (first-next _ (right-initial _ (omega arith)) ∙ first-next _ (right-degrees _ _ (at-at .at .ensures .0) (omega arith))
+    ∙ first-fault _ (names-at _ _ _ (at-at .at .ensures .0) (at-at2 .at2 .ensures .0) _ _ (at-at4 .at4 .ensures .0) ∙ sym (c .before .before .before .check-below .ensures) ∙ c .before .checked .given .1))
 
 -- src/lib.rt:66:1
 returns-4 : tie.Need-returns-4
-returns-4 c = sym (first-next _ (right-initial _ (omega arith)) ∙ first-next _ (right-degrees _ _ (c .before .before .before .before .before .before .before .before .before .before .at .ensures .0) (omega arith))
-    ∙ first-next _ (names-at _ _ _ (c .before .before .before .before .before .before .before .before .before .before .at .ensures .0) (c .before .before .before .before .before .before .before .before .before .at2 .ensures .0) _ _ (c .before .before .before .before .at4 .ensures .0) ∙ sym (c .before .before .before .check-below .ensures) ∙ c .before .enum-told .given .1)
-    ∙ first-one _ ∙ targets-at _ _ _ (c .before .before .before .before .before .before .before .before .before .before .at .ensures .0) (c .before .before .before .before .before .before .before .before .before .at2 .ensures .0) ∙ sym (c .check-below2 .ensures))
+returns-4 c =
+    let at-at4 = c .before .before .before .before in
+    let at-at2 = at-at4 .before .before .before .before .before in
+    let at-at = at-at2 .before in
+    sym (first-next _ (right-initial _ (omega arith)) ∙ first-next _ (right-degrees _ _ (at-at .at .ensures .0) (omega arith))
+    ∙ first-next _ (names-at _ _ _ (at-at .at .ensures .0) (at-at2 .at2 .ensures .0) _ _ (at-at4 .at4 .ensures .0) ∙ sym (c .before .before .before .check-below .ensures) ∙ c .before .enum-told .given .1)
+    ∙ first-one _ ∙ targets-at _ _ _ (at-at .at .ensures .0) (at-at2 .at2 .ensures .0) ∙ sym (c .check-below2 .ensures))
 
 pub check-transitions-spec : {M : Type 1} → statement M
 check-transitions-spec =
@@ -83,7 +93,7 @@ check-transitions-spec =
     returns
     sum-words-requires
     returns-2
-    add-names
+    add-numbers
     add-targets
     at-requires-4
     check-below-requires

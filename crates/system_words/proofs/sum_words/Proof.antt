@@ -41,14 +41,18 @@ loop-less c = search needs
 
 -- src/lib.rt:19:5
 loop-again : tie.Need-loop-again Inv-loop μ-loop
-loop-again c = let a = c .before .before .before .before .args in
-    omega (arith, sum-more (now (a .ws)) (a .p) (c .before .before .loop .i))
+loop-again c =
+    let start = c .before .before .before .before in
+    let a = start .args in
+    omega (arith, sum-more (now (a .ws)) (a .first) (c .before .before .loop .i))
 
 -- src/lib.rt:13:1
 returns : tie.Need-returns Inv-loop μ-loop
-returns c = let a = c .before .before .before .args in
-    let e : c .before .loop .i ≡ a .n = omega arith in
-    c .before .loop .inv .2 ∙ ap (sumWords (now (a .ws)) (a .p)) e
+returns c =
+    let at-loop = c .before in
+    let a = at-loop .before .before .args in
+    let e : at-loop .loop .i ≡ a .count = omega arith in
+    at-loop .loop .inv .2 ∙ ap (sumWords (now (a .ws)) (a .first)) e
 
 pub sum-words-spec : {M : Type 1} → statement M
 sum-words-spec =

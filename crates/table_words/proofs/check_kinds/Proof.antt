@@ -35,12 +35,14 @@ cast-t8 c = search needs
 
 -- src/lib.rt:118:13
 returns : tie.Need-returns Inv-loop μ-loop
-returns c = let a = c .before .before .before .before .before .before .args in
-    sym (c .before .before .before .loop .inv ∙ from-stop _ _ _ _ (omega arith) (lt-ltb (a .most) (kind (now (a .ws)) (c .before .before .before .loop .v)) (omega arith)))
+returns c =
+    let at-loop = c .before .before .before in
+    let a = at-loop .before .before .before .args in
+    sym (at-loop .loop .inv ∙ from-stop _ _ _ _ (omega arith) (lt-ltb (a .most) (kind (now (a .ws)) (at-loop .loop .node)) (omega arith)))
 
 -- src/lib.rt:120:9
-add-v : tie.Need-add-v Inv-loop μ-loop
-add-v c = search needs
+add-node : tie.Need-add-node Inv-loop μ-loop
+add-node c = search needs
 
 -- src/lib.rt:116:5
 loop-less : tie.Need-loop-less Inv-loop μ-loop
@@ -48,8 +50,10 @@ loop-less c = search needs
 
 -- src/lib.rt:116:5
 loop-again : tie.Need-loop-again Inv-loop μ-loop
-loop-again c = let a = c .before .before .before .before .before .before .args in
-    c .before .before .before .loop .inv ∙ from-next _ _ _ _ (le-ltb (a .most) (kind (now (a .ws)) (c .before .before .before .loop .v)) (omega arith))
+loop-again c =
+    let at-loop = c .before .before .before in
+    let a = at-loop .before .before .before .args in
+    at-loop .loop .inv ∙ from-next _ _ _ _ (le-ltb (a .most) (kind (now (a .ws)) (at-loop .loop .node)) (omega arith))
 
 -- src/lib.rt:110:1
 returns-2 : tie.Need-returns-2 Inv-loop μ-loop
@@ -66,7 +70,7 @@ check-kinds-spec =
     kind-at-requires
     cast-t8
     returns
-    add-v
+    add-node
     loop-less
     loop-again
     returns-2)

@@ -27,17 +27,19 @@ children-by-requires-2 c κs = search needs
 -- src/lib.rt:36:1
 returns : tie.Need-returns
 returns c =
+    let start = c .before .before .before .before .before in
     rw (c .before .enum-told .given .1)
     (c .children-by .ensures
-    ∙ action-count _ _ _ (c .before .before .before .before .before .pre .1)
+    ∙ action-count _ _ _ (start .pre .1)
     (c .before .before .before .kind-at .ensures))
 
 -- src/lib.rt:36:1
 returns-2 : tie.Need-returns-2
 returns-2 c =
+    let start = c .before .before .before .before .before in
     rw (c .before .enum-told2 .given .1)
     (c .children-by2 .ensures
-    ∙ formula-count _ _ _ (c .before .before .before .before .before .pre .1)
+    ∙ formula-count _ _ _ (start .pre .1)
     (c .before .before .before .kind-at .ensures))
 
 pub children-at-spec : {M : Type 1} → statement M

@@ -24,52 +24,56 @@ at-requires c κs = search needs
 
 -- src/lib.rt:103:5
 loop-holds : tie.Need-loop-holds Inv-loop μ-loop
-loop-holds c = let s = c .before .before in (
-  omega arith,
-  s .pre .0 .1,
-  λ children known. firsts-start children (size (now (s .args .ws)))
-      (now (s .args .firsts)) (s .pre .1 .1),
-)
+loop-holds c =
+    let start = c .before .before in (
+      omega arith,
+      start .pre .0 .1,
+      λ children known. firsts-start children (size (now (start .args .ws)))
+          (now (start .args .firsts)) (start .pre .1 .1),
+    )
 
 -- src/lib.rt:104:9
 element-write-firsts : tie.Need-element-write-firsts Inv-loop μ-loop
 element-write-firsts c = search needs
 
 -- src/lib.rt:105:13
-mul-v : tie.Need-mul-v Inv-loop μ-loop
-mul-v c = search needs
+mul-node : tie.Need-mul-node Inv-loop μ-loop
+mul-node c = search needs
 
 -- src/lib.rt:105:13
-element-copy-out-v : tie.Need-element-copy-out-v Inv-loop μ-loop
-element-copy-out-v c = search needs
+element-copy-out-node : tie.Need-element-copy-out-node Inv-loop μ-loop
+element-copy-out-node c = search needs
 
 -- src/lib.rt:103:5
 loop-less : tie.Need-loop-less Inv-loop μ-loop
-loop-less c = let s = c .before .before .before .before .before in
+loop-less c =
+    let start = c .before .before .before .before .before in
     let l = c .before .before .loop in
-    let n = size (now (s .args .ws)) in
-    let k = s .pre .1 .0 .1 (l .v) (omega arith) in
-    omega (arith, end-number-past (s .pre .1 .0 .0) n (l .v) (omega arith))
+    let n = size (now (start .args .ws)) in
+    let k = start .pre .1 .0 .1 (l .node) (omega arith) in
+    omega (arith, end-number-past (start .pre .1 .0 .0) n (l .node) (omega arith))
 
 -- src/lib.rt:103:5
 loop-again : tie.Need-loop-again Inv-loop μ-loop
-loop-again c = let s = c .before .before .before .before .before in
+loop-again c =
+    let start = c .before .before .before .before .before in
     let l = c .before .before .loop in
-    let n = size (now (s .args .ws)) in
-    let k = s .pre .1 .0 .1 (l .v) (omega arith) in (
-      omega (arith, end-number-most (s .pre .1 .0 .0) n (l .v)),
+    let n = size (now (start .args .ws)) in
+    let k = start .pre .1 .0 .1 (l .node) (omega arith) in (
+      omega (arith, end-number-most (start .pre .1 .0 .0) n (l .node)),
       simp length-set (l .inv .1),
       λ children known.
-          firsts-more children n (l .v) _ (l .firsts) (known (l .v) (omega arith)) (omega arith) (omega arith)
+          firsts-more children n (l .node) _ (l .firsts) (known (l .node) (omega arith)) (omega arith) (omega arith)
           (l .inv .2 children known),
     )
 
 -- src/lib.rt:95:1
 returns : tie.Need-returns Inv-loop μ-loop
-returns c = let s = c .before .before .before .before in
+returns c =
+    let start = c .before .before .before .before in
     let l = c .before .loop in
     λ children known.
-    firsts-all children (size (now (s .args .ws))) (l .v) (l .firsts) (omega arith) (l .inv .2 children known)
+    firsts-all children (size (now (start .args .ws))) (l .node) (l .firsts) (omega arith) (l .inv .2 children known)
 
 pub first-nodes-spec : {M : Type 1} → statement M
 first-nodes-spec =
@@ -80,8 +84,8 @@ first-nodes-spec =
     at-requires
     loop-holds
     element-write-firsts
-    mul-v
-    element-copy-out-v
+    mul-node
+    element-copy-out-node
     loop-less
     loop-again
     returns)

@@ -37,45 +37,49 @@ element-copy-out-end c = search needs
 
 -- src/lib.rt:73:9
 returns-2 : tie.Need-returns-2
-returns-2 c = let s = c .before .before .before .before .before in
-    s .pre .1 (s .args .v + 1) (omega arith) (omega arith) ∙ sym (end-number-one _ _ _ (s .pre .0 .1) (cc))
+returns-2 c =
+    let start = c .before .before .before .before .before in
+    start .pre .1 (start .args .node + 1) (omega arith) (omega arith) ∙ sym (end-number-one _ _ _ (start .pre .0 .1) (cc))
 
 -- src/lib.rt:75:5
 mul-result : tie.Need-mul-result
-mul-result c = let s = c .before .before .before .before .before in
-    let k = s .pre .1 (s .args .v + 1) (omega arith) (omega arith) in
+mul-result c =
+    let start = c .before .before .before .before .before in
+    let k = start .pre .1 (start .args .node + 1) (omega arith) (omega arith) in
     omega (
       arith,
-      end-number-most (childrenOf (s .args .table) (now (s .args .ws))) (size (now (s .args .ws)))
-          (s .args .v + 1),
+      end-number-most (childrenOf (start .args .table) (now (start .args .ws))) (size (now (start .args .ws)))
+          (start .args .node + 1),
     )
 
 -- src/lib.rt:75:5
 element-copy-out-result : tie.Need-element-copy-out-result
-element-copy-out-result c = let s = c .before .before .before .before .before in
-    let k = s .pre .1 (s .args .v + 1) (omega arith) (omega arith) in
+element-copy-out-result c =
+    let start = c .before .before .before .before .before in
+    let k = start .pre .1 (start .args .node + 1) (omega arith) (omega arith) in
     omega (
       arith,
-      end-number-most (childrenOf (s .args .table) (now (s .args .ws))) (size (now (s .args .ws)))
-          (s .args .v + 1),
+      end-number-most (childrenOf (start .args .table) (now (start .args .ws))) (size (now (start .args .ws)))
+          (start .args .node + 1),
     )
 
 -- src/lib.rt:62:1
 returns-3 : tie.Need-returns-3
-returns-3 c = let s = c .before .before .before .before .before .before in
-    let c₁ = childrenOf (s .args .table) (now (s .args .ws)) in
-    let n = size (now (s .args .ws)) in
-    let k = s .pre .1 (s .args .v + 1) (omega arith) (omega arith) in
-    let most = end-number-most c₁ n (s .args .v + 1) in
-    let past = end-number-past c₁ n (s .args .v + 1) (omega arith) in
-    let two : childrenOf (s .args .table) (now (s .args .ws)) (s .args .v)
+returns-3 c =
+    let start = c .before .before .before .before .before .before in
+    let c₁ = childrenOf (start .args .table) (now (start .args .ws)) in
+    let n = size (now (start .args .ws)) in
+    let k = start .pre .1 (start .args .node + 1) (omega arith) (omega arith) in
+    let most = end-number-most c₁ n (start .args .node + 1) in
+    let past = end-number-past c₁ n (start .args .node + 1) (omega arith) in
+    let two : childrenOf (start .args .table) (now (start .args .ws)) (start .args .node)
     ≡ 2 = omega (
       arith,
-      children-most (s .args .table) (now (s .args .ws)) (s .args .v) (s .pre .0 .1),
+      children-most (start .args .table) (now (start .args .ws)) (start .args .node) (start .pre .0 .1),
       c .before
           .before .before .before .children-at .ensures,
     ) in
-    s .pre .1 _ (omega arith) (omega arith) ∙ ap (endOf c₁ n) k ∙ sym (end-number-two c₁ n _ (s .pre .0 .1) two)
+    start .pre .1 _ (omega arith) (omega arith) ∙ ap (endOf c₁ n) k ∙ sym (end-number-two c₁ n _ (start .pre .0 .1) two)
 
 pub node-end-spec : {M : Type 1} → statement M
 node-end-spec =

@@ -26,17 +26,19 @@ at-requires c κs = search needs
 
 -- src/lib.rt:102:9
 returns : tie.Need-returns
-returns c = let s = c .before .before .before .before in
+returns c =
+    let start = c .before .before .before .before in
     λ children known.
-    let k = known (s .args .v + 1) (omega arith) in
+    let k = known (start .args .node + 1) (omega arith) in
     sym (not-end-unfinished _ _ _ _ (omega arith))
 
 -- src/lib.rt:95:1
 returns-2 : tie.Need-returns-2
-returns-2 c = let s = c .before .before .before .before in
+returns-2 c =
+    let start = c .before .before .before .before in
     λ children known.
-    let k = known (s .args .v + 1) (omega arith) in
-    ap (λ e. not (eqb (s .args .right) e)) k ∙ sym (not-end-finished _ _ _ _ (omega arith))
+    let k = known (start .args .node + 1) (omega arith) in
+    ap (λ e. not (eqb (start .args .right) e)) k ∙ sym (not-end-finished _ _ _ _ (omega arith))
 
 pub not-right-child-spec : {M : Type 1} → statement M
 not-right-child-spec =

@@ -53,25 +53,28 @@ element-write-ends-2 c = search needs
 
 -- src/lib.rt:87:5
 loop-holds : tie.Need-loop-holds Inv-loop μ-loop
-loop-holds c = let s = c .before .before in
-    let es = now (s .args .ends) in
+loop-holds c =
+    let start = c .before .before in
+    let es = now (start .args .ends) in
     let m = c .at .result in
-    let f = endOf (childrenOf (s .args .table) (now (s .args .ws))) (size (now (s .args .ws))) in
-    let out = end-number-out (childrenOf (s .args .table) (now (s .args .ws))) (size (now (s .args .ws))) in
-    let top = size (now (s .args .ws)) + 1 in (
+    let f = endOf (childrenOf (start .args .table) (now (start .args .ws))) (size (now (start .args .ws))) in
+    let out = end-number-out (childrenOf (start .args .table) (now (start .args .ws))) (size (now (start .args .ws))) in
+    let top = size (now (start .args .ws)) + 1 in (
       omega arith,
-      simp length-set (s .pre .1),
+      simp length-set (start .pre .1),
       set-down f (set es (m + 1) (m + 1)) m top (m + 1) (simp length-set (omega arith)) (omega (arith, out m (omega arith)))
           (set-down f es (m + 1) top (m + 1) (omega arith) (omega (arith, out (m + 1) (omega arith))) (λ j h l. absurd (omega arith))),
     )
 
 -- src/lib.rt:88:9
-sub-v : tie.Need-sub-v Inv-loop μ-loop
-sub-v c = search needs
+sub-node : tie.Need-sub-node Inv-loop μ-loop
+sub-node c = search needs
 
 -- src/lib.rt:89:13
 node-end-requires : tie.Need-node-end-requires Inv-loop μ-loop
-node-end-requires c κs = ((c .before .before .before .before .before .pre .0, omega arith), λ j h l. c .before .before .loop .inv .2 j (omega arith) l)
+node-end-requires c κs =
+    let start = c .before .before .before .before .before in
+    ((start .pre .0, omega arith), λ j h l. c .before .before .loop .inv .2 j (omega arith) l)
 
 -- src/lib.rt:90:9
 mul-ends-3 : tie.Need-mul-ends-3 Inv-loop μ-loop
@@ -87,18 +90,21 @@ loop-less c = search needs
 
 -- src/lib.rt:87:5
 loop-again : tie.Need-loop-again Inv-loop μ-loop
-loop-again c = let s = c .before .before .before .before .before .before in
+loop-again c =
+    let start = c .before .before .before .before .before .before in
     let l = c .before .before .before .loop in (
       omega arith,
       simp length-set (l .inv .1),
-      set-down (endOf (childrenOf (s .args .table) (now (s .args .ws))) (size (now (s .args .ws)))) (l .ends) (l .v - 1)
-          (size (now (s .args .ws)) + 1) (c .node-end .result) (omega arith) (c .node-end .ensures)
+      set-down (endOf (childrenOf (start .args .table) (now (start .args .ws))) (size (now (start .args .ws)))) (l .ends) (l .node - 1)
+          (size (now (start .args .ws)) + 1) (c .node-end .result) (omega arith) (c .node-end .ensures)
           (λ j h k. l .inv .2 j (omega arith) k),
     )
 
 -- src/lib.rt:79:1
 returns : tie.Need-returns Inv-loop μ-loop
-returns c = (λ j h. c .before .loop .inv .2 j (omega arith) h, c .before .loop .inv .1)
+returns c =
+    let at-loop = c .before in
+    (λ j h. at-loop .loop .inv .2 j (omega arith) h, at-loop .loop .inv .1)
 
 pub tree-ends-spec : {M : Type 1} → statement M
 tree-ends-spec =
@@ -115,7 +121,7 @@ tree-ends-spec =
     mul-ends-2
     element-write-ends-2
     loop-holds
-    sub-v
+    sub-node
     node-end-requires
     mul-ends-3
     element-write-ends-3

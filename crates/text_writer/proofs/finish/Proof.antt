@@ -38,9 +38,9 @@ same-length c = c .before .before .loop .inv .long
 
 returns : tie.Need-returns Inv-loop μ-loop
 returns c =
-    let s = c .before .before .before .before in
+    let start = c .before .before .before .before in
     let filled = fill-done 0 (c .before .loop-test .left) (c .before .before .loop .inv) in
-    (ap (λ (n : ℕ). Done n 0 0) (c .word .ensures), padded-to (s .args .text .now) (s .args .n) _ (s .pre .0) filled)
+    (ap (λ (n : ℕ). Done n 0 0) (c .word .ensures), padded-to (start .args .text .now) (start .args .n) _ (start .pre .0) filled)
 
 pub finish-spec : {M : Type 1} → statement M
 finish-spec =

@@ -10,7 +10,8 @@ use Rattle.text_writer.proofs.put_bytes.Statement.{statement}
 use Rattle.text_writer.proofs.put_bytes.Tie as tie
 
 abbrev Inv-loop : tie.InvT-loop
-Inv-loop text₀ start bytes q₀ p₀ text q p = (q ≤ length bytes) × Writing p (slice q (length bytes) bytes) text start (slice 0 (length bytes) bytes) text₀
+Inv-loop text₀ start bytes q₀ p₀ text q p =
+    (q ≤ length bytes) × Writing p (slice q (length bytes) bytes) text start (slice 0 (length bytes) bytes) text₀
 
 abbrev μ-loop : tie.MeasureT-loop
 μ-loop text₀ start bytes q₀ p₀ text q p = length bytes - q
@@ -22,10 +23,23 @@ shared-slice-read-text : tie.Need-shared-slice-read-text Inv-loop μ-loop
 shared-slice-read-text c = omega (arith, c .before .loop-test .taken)
 
 slice-write-text : tie.Need-slice-write-text Inv-loop μ-loop
-slice-write-text c = let b = now (c .before .before .before .args .bytes) in copy-room b 0 (c .before .before .loop .q) (length b) (c .before .loop-test .taken) (omega arith) (omega (arith, c .before .before .before .pre)) (c .before .before .loop .inv .1)
+slice-write-text c =
+    let at-loop = c .before .before in
+    let start = at-loop .before in
+    let b = now (start .args .bytes) in
+    copy-room b 0 (at-loop .loop .q) (length b) (c .before .loop-test .taken)
+    (omega arith) (omega (arith, start .pre)) (at-loop .loop .inv .1)
 
 add-p : tie.Need-add-p Inv-loop μ-loop
-add-p c = let b = now (c .before .before .before .args .bytes) in omega (arith, copy-room b 0 (c .before .before .loop .q) (length b) (c .before .loop-test .taken) (omega arith) (omega (arith, c .before .before .before .pre)) (c .before .before .loop .inv .1))
+add-p c =
+    let at-loop = c .before .before in
+    let start = at-loop .before in
+    let b = now (start .args .bytes) in
+    omega (
+      arith,
+      copy-room b 0 (at-loop .loop .q) (length b) (c .before .loop-test .taken) (omega arith)
+          (omega (arith, start .pre)) (at-loop .loop .inv .1),
+    )
 
 add-q : tie.Need-add-q Inv-loop μ-loop
 add-q c = omega arith
@@ -34,13 +48,27 @@ loop-less : tie.Need-loop-less Inv-loop μ-loop
 loop-less c = omega arith
 
 loop-again : tie.Need-loop-again Inv-loop μ-loop
-loop-again c = let b = now (c .before .before .before .args .bytes) in (omega arith, copy-put b (c .before .before .loop .q) (length b) (c .before .loop-test .taken) (omega arith) (copy-room b 0 (c .before .before .loop .q) (length b) (c .before .loop-test .taken) (omega arith) (omega (arith, c .before .before .before .pre)) (c .before .before .loop .inv .1)) (c .before .before .loop .inv .1))
+loop-again c =
+    let at-loop-test = c .before in
+    let at-loop = at-loop-test .before in
+    let start = at-loop .before in
+    let b = now (start .args .bytes)
+    in (
+      omega arith,
+      copy-put b (at-loop .loop .q) (length b) (at-loop-test .loop-test .taken) (omega arith)
+          (copy-room b 0 (at-loop .loop .q) (length b) (at-loop-test .loop-test .taken) (omega arith)
+          (omega (arith, start .pre)) (at-loop .loop .inv .1)) (at-loop .loop .inv .1),
+    )
 
 same-length : tie.Need-same-length Inv-loop μ-loop
 same-length c = c .before .loop .inv .1 .long
 
 returns : tie.Need-returns Inv-loop μ-loop
-returns c = let b = now (c .before .before .args .bytes) in wrote-as (take-length b) (copy-done b (c .before .loop .q) (length b) (c .loop-test .left) (c .before .loop .inv .1))
+returns c =
+    let at-loop = c .before in
+    let b = now (at-loop .before .args .bytes) in
+    wrote-as (take-length b)
+    (copy-done b (at-loop .loop .q) (length b) (c .loop-test .left) (at-loop .loop .inv .1))
 
 pub put-bytes-spec : {M : Type 1} → statement M
 put-bytes-spec =

@@ -12,19 +12,58 @@ use Rattle.text_writer.proofs.put_line.Statement.{statement}
 use Rattle.text_writer.proofs.put_line.Tie as tie
 
 put-bytes-requires : tie.Need-put-bytes-requires
-put-bytes-requires c κs = let n = now (c .before .before .before .before .args .name) in let m = now (c .before .before .before .before .args .numbers) in first-fits n (spaced (slice 0 (length m) m) ++ (10 ∷ [])) (c .before .before .before .before .pre) (line-start n m (now (c .before .before .before .before .args .text)) (c .before .before .before .before .args .start))
+put-bytes-requires c κs =
+    let start′ = c .before .before .before .before in
+    let n = now (start′ .args .name) in
+    let m = now (start′ .args .numbers) in
+    first-fits n
+    (spaced (slice 0 (length m) m) ++ (10 ∷ [])) (start′ .pre)
+    (line-start n m (now (start′ .args .text)) (start′ .args .start))
 
 put-numbers-requires : tie.Need-put-numbers-requires
-put-numbers-requires c κs = let n = now (c .before .before .before .before .before .before .before .before .args .name) in let m = now (c .before .before .before .before .before .before .before .before .args .numbers) in ((omega arith, omega arith), first-fits (spaced (slice 0 (length m) m)) (10 ∷ []) (c .before .before .before .before .before .before .before .before .pre) (called (c .before .before .before .put-bytes .kept .0) (c .before .before .before .put-bytes .ensures) (line-start n m (now (c .before .before .before .before .before .before .before .before .args .text)) (c .before .before .before .before .before .before .before .before .args .start))))
+put-numbers-requires c κs =
+    let at-put-bytes = c .before .before .before in
+    let start′ = at-put-bytes .before .before .before .before .before in
+    let n = now (start′ .args .name) in
+    let m = now (start′ .args .numbers)
+    in (
+      (omega arith, omega arith),
+      first-fits (spaced (slice 0 (length m) m)) (10 ∷ []) (start′ .pre)
+          (called (at-put-bytes .put-bytes .kept .0) (at-put-bytes .put-bytes .ensures)
+          (line-start n m (now (start′ .args .text)) (start′ .args .start))),
+    )
 
 put-byte-requires : tie.Need-put-byte-requires
-put-byte-requires c κs = let n = now (c .before .before .before .before .before .before .before .before .before .before .before .before .args .name) in let m = now (c .before .before .before .before .before .before .before .before .before .before .before .before .args .numbers) in first-fits (10 ∷ []) [] (c .before .before .before .before .before .before .before .before .before .before .before .before .pre) (called (c .before .before .before .put-numbers .kept .0) (c .before .before .before .put-numbers .ensures) (called (c .before .before .before .before .before .before .before .put-bytes .kept .0) (c .before .before .before .before .before .before .before .put-bytes .ensures) (line-start n m (now (c .before .before .before .before .before .before .before .before .before .before .before .before .args .text)) (c .before .before .before .before .before .before .before .before .before .before .before .before .args .start))))
+put-byte-requires c κs =
+    let at-put-numbers = c .before .before .before in
+    let at-put-bytes = at-put-numbers .before .before .before .before in
+    let start′ = at-put-bytes .before .before .before .before .before in
+    let n = now (start′ .args .name) in
+    let m = now (start′ .args .numbers) in
+    first-fits (10 ∷ []) [] (start′ .pre)
+    (called (at-put-numbers .put-numbers .kept .0) (at-put-numbers .put-numbers .ensures)
+    (called (at-put-bytes .put-bytes .kept .0) (at-put-bytes .put-bytes .ensures)
+    (line-start n m (now (start′ .args .text)) (start′ .args .start))))
 
 same-length : tie.Need-same-length
-same-length c = c .before .before .put-byte .kept .0 ∙ c .before .before .before .before .before .before .put-numbers .kept .0 ∙ c .before .before .before .before .before .before .before .before .before .before .put-bytes .kept .0
+same-length c =
+    let at-put-numbers = c .before .before .before .before .before .before in
+    let at-put-bytes = at-put-numbers .before .before .before .before in
+    c .before .before .put-byte .kept .0 ∙ at-put-numbers .put-numbers .kept .0 ∙ at-put-bytes .put-bytes .kept .0
 
 returns : tie.Need-returns
-returns c = let n = now (c .before .before .before .before .before .before .before .before .before .before .before .before .before .before .before .args .name) in let m = now (c .before .before .before .before .before .before .before .before .before .before .before .before .before .before .before .args .numbers) in done (called (c .before .before .put-byte .kept .0) (c .before .before .put-byte .ensures) (called (c .before .before .before .before .before .before .put-numbers .kept .0) (c .before .before .before .before .before .before .put-numbers .ensures) (called (c .before .before .before .before .before .before .before .before .before .before .put-bytes .kept .0) (c .before .before .before .before .before .before .before .before .before .before .put-bytes .ensures) (line-start n m (now (c .before .before .before .before .before .before .before .before .before .before .before .before .before .before .before .args .text)) (c .before .before .before .before .before .before .before .before .before .before .before .before .before .before .before .args .start)))))
+returns c =
+    let at-put-byte = c .before .before in
+    let at-put-numbers = at-put-byte .before .before .before .before in
+    let at-put-bytes = at-put-numbers .before .before .before .before in
+    let start′ = at-put-bytes .before .before .before .before .before in
+    let n = now (start′ .args .name) in
+    let m = now (start′ .args .numbers) in
+    done
+    (called (at-put-byte .put-byte .kept .0) (at-put-byte .put-byte .ensures)
+    (called (at-put-numbers .put-numbers .kept .0) (at-put-numbers .put-numbers .ensures)
+    (called (at-put-bytes .put-bytes .kept .0) (at-put-bytes .put-bytes .ensures)
+    (line-start n m (now (start′ .args .text)) (start′ .args .start)))))
 
 pub put-line-spec : {M : Type 1} → statement M
 put-line-spec =

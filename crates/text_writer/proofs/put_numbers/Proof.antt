@@ -1,4 +1,5 @@
--- `put_numbers` meets its contract: what is written and what is left are the numbers, a space before each. Assumes nothing.
+-- `put_numbers` meets its contract: what is written and what is left are the numbers, a space before each. Assumes
+-- nothing.
 use Prim.Native.Nat.{_-_, _≤_}
 use native.Mathlib.Omega.{arith}
 use denote.Ref.{now}
@@ -10,7 +11,8 @@ use Rattle.text_writer.proofs.put_numbers.Statement.{statement}
 use Rattle.text_writer.proofs.put_numbers.Tie as tie
 
 abbrev Inv-loop : tie.InvT-loop
-Inv-loop text₀ start ws from end q₀ p₀ text q p = (q ≤ end) × Writing p (spaced (slice q end ws)) text start (spaced (slice from end ws)) text₀
+Inv-loop text₀ start ws from end q₀ p₀ text q p =
+    (q ≤ end) × Writing p (spaced (slice q end ws)) text start (spaced (slice from end ws)) text₀
 
 abbrev μ-loop : tie.MeasureT-loop
 μ-loop text₀ start ws from end q₀ p₀ text q p = end - q
@@ -22,7 +24,11 @@ at-requires : tie.Need-at-requires Inv-loop μ-loop
 at-requires c κs = omega arith
 
 put-number-requires : tie.Need-put-number-requires Inv-loop μ-loop
-put-number-requires c κs = numbers-room (now (c .before .before .before .before .before .before .args .ws)) (c .before .before .before .loop .q) (c .before .before .before .before .before .before .args .end) (c .at .result) (c .at .ensures .0) (c .before .before .loop-test .taken) (c .before .before .before .before .before .before .pre .0 .1) (c .before .before .before .before .before .before .pre .1) (c .before .before .before .loop .inv .1)
+put-number-requires c κs =
+    let at-loop = c .before .before .before in
+    let start = at-loop .before .before .before in
+    numbers-room (now (start .args .ws)) (at-loop .loop .q) (start .args .end) (c .at .result) (c .at .ensures .0)
+    (c .before .before .loop-test .taken) (start .pre .0 .1) (start .pre .1) (at-loop .loop .inv .1)
 
 add-q : tie.Need-add-q Inv-loop μ-loop
 add-q c = omega arith
@@ -31,13 +37,26 @@ loop-less : tie.Need-loop-less Inv-loop μ-loop
 loop-less c = omega arith
 
 loop-again : tie.Need-loop-again Inv-loop μ-loop
-loop-again c = (omega arith, numbers-more (now (c .before .before .before .before .before .before .before .before .before .args .ws)) (c .before .before .before .before .before .before .loop .q) (c .before .before .before .before .before .before .before .before .before .args .end) (c .before .before .before .at .result) (c .before .before .before .at .ensures .0) (c .before .before .before .before .before .loop-test .taken) (c .before .before .before .before .before .before .before .before .before .pre .0 .1) (c .before .before .put-number .kept .0) (c .before .before .put-number .ensures) (c .before .before .before .before .before .before .loop .inv .1))
+loop-again c =
+    let at-put-number = c .before .before in
+    let at-at = at-put-number .before in
+    let at-loop = at-at .before .before .before in
+    let start = at-loop .before .before .before in (
+      omega arith,
+      numbers-more (now (start .args .ws)) (at-loop .loop .q) (start .args .end) (at-at .at .result)
+          (at-at .at .ensures .0) (at-at .before .before .loop-test .taken) (start .pre .0 .1)
+          (at-put-number .put-number .kept .0) (at-put-number .put-number .ensures) (at-loop .loop .inv .1),
+    )
 
 same-length : tie.Need-same-length Inv-loop μ-loop
 same-length c = c .before .loop .inv .1 .long
 
 returns : tie.Need-returns Inv-loop μ-loop
-returns c = done (turn (spaced-none (now (c .before .before .before .before .args .ws)) (c .before .loop .q) (c .before .before .before .before .args .end) (c .loop-test .left)) (c .before .loop .inv .1))
+returns c =
+    let at-loop = c .before in
+    let start = at-loop .before .before .before in
+    done (turn (spaced-none (now (start .args .ws)) (at-loop .loop .q) (start .args .end) (c .loop-test .left))
+    (at-loop .loop .inv .1))
 
 pub put-numbers-spec : {M : Type 1} → statement M
 put-numbers-spec =

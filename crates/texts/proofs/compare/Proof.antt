@@ -4,10 +4,6 @@ use lib.Seq.{length-take-le}
 use borrow.Author.Needs.{needs}
 use Rattle.texts.proofs.compare.Statement.{statement}
 use Rattle.texts.proofs.compare.Tie as tie
-use Rattle.texts.proofs.compare.Reads as reads
-use Rattle.texts.proofs.compare.Lts as lts
-use Rattle.texts.proofs.read_and_judge.Reads as read-and-judge-reads
-use Rattle.texts.proofs.zeros.Reads as zeros-reads
 
 zeros-requires : tie.Need-zeros-requires
 zeros-requires c κs = search needs

@@ -4,12 +4,6 @@ use native.Mathlib.Omega.{arith}
 use borrow.Author.Needs.{needs}
 use Rattle.texts.proofs.main.Statement.{statement}
 use Rattle.texts.proofs.main.Tie as tie
-use Rattle.texts.proofs.main.Reads as reads
-use Rattle.texts.proofs.main.Lts as lts
-use Rattle.texts.proofs.difference.Reads as difference-reads
-use Rattle.texts.proofs.ended.Reads as ended-reads
-use Rattle.texts.proofs.last_line.Reads as last-line-reads
-use Rattle.texts.proofs.next_record.Reads as next-record-reads
 
 abbrev Inv-loop : tie.InvT-loop
 Inv-loop records₀ differences₀ records differences = differences ≤ records

@@ -3,13 +3,6 @@ use native.Mathlib.Omega.{arith}
 use borrow.Author.Needs.{needs}
 use Rattle.texts.proofs.next_record.Statement.{statement}
 use Rattle.texts.proofs.next_record.Tie as tie
-use Rattle.texts.proofs.next_record.Reads as reads
-use Rattle.texts.proofs.next_record.Lts as lts
-use Rattle.io.proofs.read_full.Reads as read-full-reads
-use Rattle.stored_runs.proofs.length_of.Reads as length-of-reads
-use Rattle.words.proofs.word_at.Reads as word-at-reads
-use Rattle.texts.proofs.broken.Reads as broken-reads
-use Rattle.texts.proofs.compare.Reads as compare-reads
 
 slice-aggregate-read-full : tie.Need-slice-aggregate-read-full
 slice-aggregate-read-full c = search needs

@@ -4,11 +4,6 @@ use lib.Seq.{length-take-le}
 use borrow.Author.Needs.{needs}
 use Rattle.texts.proofs.read_and_judge.Statement.{statement}
 use Rattle.texts.proofs.read_and_judge.Tie as tie
-use Rattle.texts.proofs.read_and_judge.Reads as reads
-use Rattle.texts.proofs.read_and_judge.Lts as lts
-use Rattle.io.proofs.read_full.Reads as read-full-reads
-use Rattle.texts.proofs.broken.Reads as broken-reads
-use Rattle.texts.proofs.judge.Reads as judge-reads
 
 read-full-requires : tie.Need-read-full-requires
 read-full-requires c κs = search needs

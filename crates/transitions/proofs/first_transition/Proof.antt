@@ -18,63 +18,69 @@ Inv-loop system samples state sample first₀ s₀ first s = (s ≤ state) × (f
 abbrev μ-loop : tie.MeasureT-loop
 μ-loop system samples state sample first₀ s₀ first s = state - s
 
--- src/lib.rt:36:21
 mul-first : tie.Need-mul-first Inv-loop μ-loop
 mul-first c = search needs
 
--- src/lib.rt:36:21
-element-copy-out-first : tie.Need-element-copy-out-first Inv-loop μ-loop
-element-copy-out-first c = search needs
+shared-slice-read-first : tie.Need-shared-slice-read-first Inv-loop μ-loop
+shared-slice-read-first c = search needs
 
--- src/lib.rt:36:21
 cast-first : tie.Need-cast-first Inv-loop μ-loop
-cast-first c = let s = c .before .before in
-    let i = s .args .state / stride in
-    omega (arith, s .pre .1 .0 .entry i (omega (arith, s .pre .1 .1)), first-most (s .pre .0 .0) (s .args .system .now) (s .pre .0 .1) (i * stride) (omega (arith, s .pre .1 .1)), s .pre .0 .1 .moves)
+cast-first c =
+    let start = c .before .before .before in
+    let i = start .args .state / stride in
+    omega (
+      arith,
+      start .pre .1 .0 .entry i (omega (arith, start .pre .1 .1)),
+      first-most (start .pre .0 .0)
+          (start .args .system .now) (start .pre .0 .1) (i * stride) (omega (arith, start .pre .1 .1)),
+      start .pre .0 .1 .moves,
+    )
 
--- src/lib.rt:37:17
 mul-s : tie.Need-mul-s Inv-loop μ-loop
 mul-s c = search needs
 
--- src/lib.rt:38:5
 loop-holds : tie.Need-loop-holds Inv-loop μ-loop
-loop-holds c = let s = c .before .before in
-    (omega arith, s .pre .1 .0 .entry (s .args .state / stride) (omega (arith, s .pre .1 .1)))
+loop-holds c =
+    let start = c .before .before .before in
+    (omega arith, start .pre .1 .0 .entry (start .args .state / stride) (omega (arith, start .pre .1 .1)))
 
--- src/lib.rt:39:29
 add-at : tie.Need-add-at Inv-loop μ-loop
 add-at c = search needs
 
--- src/lib.rt:39:18
 at-requires : tie.Need-at-requires Inv-loop μ-loop
 at-requires c κs = search needs
 
--- src/lib.rt:39:9
 add-first : tie.Need-add-first Inv-loop μ-loop
-add-first c = let s = c .before .before .before .before .before in
+add-first c =
+    let start = c .before .before .before .before .before .before in
     let l = c .before .before .loop in
-    omega (arith, first-most (s .pre .0 .0) (s .args .system .now) (s .pre .0 .1) (l .s) (omega (arith, l .inv .0, s .pre .1 .1)), l .inv .1, s .pre .0 .1 .moves, c .at .ensures .1)
+    omega (
+      arith,
+      first-most (start .pre .0 .0) (start .args .system .now) (start .pre .0 .1) (l .s)
+          (omega (arith, l .inv .0, start .pre .1 .1)),
+      l .inv .1,
+      start .pre .0 .1 .moves,
+      c .at .ensures .1,
+    )
 
--- src/lib.rt:40:9
 add-s : tie.Need-add-s Inv-loop μ-loop
 add-s c = search needs
 
--- src/lib.rt:38:5
 loop-less : tie.Need-loop-less Inv-loop μ-loop
 loop-less c = search needs
 
--- src/lib.rt:38:5
 loop-again : tie.Need-loop-again Inv-loop μ-loop
-loop-again c = let s = c .before .before .before .before .before in
+loop-again c =
+    let start = c .before .before .before .before .before .before in
     let l = c .before .before .loop in
-    (omega arith, omega (arith, first-more (s .args .system .now) (l .s), l .inv .1, c .at .ensures .0))
+    (omega arith, omega (arith, first-more (start .args .system .now) (l .s), l .inv .1, c .at .ensures .0))
 
--- src/lib.rt:29:1
 returns : tie.Need-returns Inv-loop μ-loop
-returns c = let s = c .before .before .before .before in
+returns c =
+    let start = c .before .before .before .before .before in
     let l = c .before .loop in
-    let e : l .s ≡ s .args .state = omega (arith, l .inv .0, c .loop-test .left) in
-    l .inv .1 ∙ ap (firstTransition (s .args .system .now)) e
+    let e : l .s ≡ start .args .state = omega (arith, l .inv .0, c .loop-test .left) in
+    l .inv .1 ∙ ap (firstTransition (start .args .system .now)) e
 
 pub first-transition-spec : {M : Type 1} → statement M
 first-transition-spec =
@@ -83,7 +89,7 @@ first-transition-spec =
     Inv-loop
     μ-loop
     mul-first
-    element-copy-out-first
+    shared-slice-read-first
     cast-first
     mul-s
     loop-holds

@@ -20,7 +20,10 @@ enum-known-c c = search needs
 
 -- src/lib.rt:49:29
 walk-requires : tie.Need-walk-requires
-walk-requires c κs = (c .before .before .before .before .before .before .before .before .before .before .before .before .before .before .before .before .before .pre .0, subst (WalkAnswer _ _ _ _ _ _) (c .before .before .c .given .1) (c .before .before .before .before .before .before .begin .ensures))
+walk-requires c κs =
+    let at-begin = c .before .before .before .before .before .before in
+    let start = at-begin .before .before .before .before .before .before .before in
+    (start .pre .0, subst (WalkAnswer _ _ _ _ _ _) (c .before .before .c .given .1) (at-begin .begin .ensures))
 
 -- src/lib.rt:67:26
 enum-told : tie.Need-enum-told
@@ -40,7 +43,9 @@ same-length-2 c = search needs
 
 -- src/lib.rt:26:1
 returns-2 : tie.Need-returns-2
-returns-2 c = exceeding-later _ _ _ _ 0 _ (omega arith) (subst (WalkAnswer _ _ _ _ _ _) (c .enum-told .given .1) (c .before .before .before .before .begin .ensures))
+returns-2 c =
+    let at-begin = c .before .before .before .before in
+    exceeding-later _ _ _ _ 0 _ (omega arith) (subst (WalkAnswer _ _ _ _ _ _) (c .enum-told .given .1) (at-begin .begin .ensures))
 
 pub explore-spec : {M : Type 1} → statement M
 explore-spec =

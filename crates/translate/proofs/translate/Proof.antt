@@ -23,7 +23,9 @@ enum-told c = search needs
 
 -- src/lib.rt:290:26
 build-requires : tie.Need-build-requires
-build-requires c κs = sym (c .before .before .before .before .check .ensures) ∙ c .before .before .enum-told .given .1
+build-requires c κs =
+    let at-check = c .before .before .before .before in
+    sym (at-check .check .ensures) ∙ c .before .before .enum-told .given .1
 
 -- src/lib.rt:262:1
 returns : tie.Need-returns
@@ -39,7 +41,9 @@ same-length-2 c = search needs
 
 -- src/lib.rt:262:1
 returns-2 : tie.Need-returns-2
-returns-2 c = whole-run byDepth _ _ _ _ _ _ _ _ (c .before .before .before .before .build .ensures)
+returns-2 c =
+    let at-build = c .before .before .before .before in
+    whole-run byDepth _ _ _ _ _ _ _ _ (at-build .build .ensures)
 
 pub translate-spec : {M : Type 1} → statement M
 translate-spec =

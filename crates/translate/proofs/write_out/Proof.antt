@@ -15,7 +15,9 @@ enum-known-walked c = search needs
 
 -- src/lib.rt:98:13
 write-game-requires : tie.Need-write-game-requires
-write-game-requires c κs = showable _ _ _ _ (c .before .before .before .before .before .before .before .before .before .before .before .before .before .before .before .args .game .now) _ (c .before .before .before .before .before .before .before .before .before .before .before .before .before .before .before .pre .1 .1 .0) _ _ _ _ (c .before .before .before .before .before .before .before .before .before .before .before .before .before .before .before .pre .0) (c .before .before .before .before .before .before .before .before .before .before .before .before .before .before .before .pre .1 .0) _ (subst (WalkAnswer _ _ _ _ _ _) (c .before .before .before .walked .given .1) (c .before .before .before .before .before .before .before .before .before .before .before .before .before .before .before .pre .1 .1 .1))
+write-game-requires c κs =
+    let start = c .before .before .before .before .before .before .before .before .before .before .before in
+    showable _ _ _ _ (start .args .game .now) _ (start .pre .1 .0) _ (subst (WalkAnswer _ _ _ _ _ _) (c .before .before .before .walked .given .1) (start .pre .1 .1))
 
 -- src/lib.rt:99:13
 clear-requires : tie.Need-clear-requires
@@ -31,7 +33,12 @@ same-length-2 c = search needs
 
 -- src/lib.rt:101:17
 returns : tie.Need-returns
-returns c = λ rank ranks. done-run _ _ _ _ _ _ (c .before .before .before .before .before .before .before .before .before .before .before .before .before .before .before .before .before .before .before .before .before .before .before .before .pre .1 .1 .0) rank _ _ _ _ (c .before .before .before .before .before .before .before .before .before .before .before .before .before .before .before .before .before .before .before .before .before .before .before .before .pre .0) ranks _ (subst (WalkAnswer _ _ _ _ _ _) (c .before .before .before .before .before .before .before .before .before .before .before .before .walked .given .1) (c .before .before .before .before .before .before .before .before .before .before .before .before .before .before .before .before .before .before .before .before .before .before .before .before .pre .1 .1 .1)) _ _ (c .if1 .taken) (c .before .before .before .before .before .before .before .before .write-game .ensures) (c .before .before .before .before .clear .ensures)
+returns c =
+    let at-clear = c .before .before .before .before in
+    let at-write-game = at-clear .before .before .before .before in
+    let at-walked = at-write-game .before .before .before .before in
+    let start = at-walked .before .before .before .before .before .before .before .before in
+    λ rank ranks. done-run _ _ _ _ _ _ (start .pre .1 .0) rank _ _ _ _ (start .pre .0) ranks _ (subst (WalkAnswer _ _ _ _ _ _) (at-walked .walked .given .1) (start .pre .1 .1)) _ _ (c .if1 .taken) (at-write-game .write-game .ensures) (at-clear .clear .ensures)
 
 -- src/lib.rt:106:26
 enum-told : tie.Need-enum-told
@@ -55,7 +62,12 @@ same-length-4 c = search needs
 
 -- src/lib.rt:72:1
 returns-2 : tie.Need-returns-2
-returns-2 c = λ rank ranks. cut-run _ _ _ _ _ _ (c .before .before .before .before .before .before .before .before .before .before .before .before .before .before .before .before .before .before .before .before .before .before .before .before .pre .1 .1 .0) rank _ _ _ _ (c .before .before .before .before .before .before .before .before .before .before .before .before .before .before .before .before .before .before .before .before .before .before .before .before .pre .0) ranks _ (subst (WalkAnswer _ _ _ _ _ _) (c .before .before .before .before .before .before .before .before .before .before .before .before .walked .given .1) (c .before .before .before .before .before .before .before .before .before .before .before .before .before .before .before .before .before .before .before .before .before .before .before .before .pre .1 .1 .1)) _ _ (c .if1 .left) (c .before .before .before .before .before .before .before .before .write-game .ensures) (c .before .before .before .before .clear .ensures)
+returns-2 c =
+    let at-clear = c .before .before .before .before in
+    let at-write-game = at-clear .before .before .before .before in
+    let at-walked = at-write-game .before .before .before .before in
+    let start = at-walked .before .before .before .before .before .before .before .before in
+    λ rank ranks. cut-run _ _ _ _ _ _ (start .pre .1 .0) rank _ _ _ _ (start .pre .0) ranks _ (subst (WalkAnswer _ _ _ _ _ _) (at-walked .walked .given .1) (start .pre .1 .1)) _ _ (c .if1 .left) (at-write-game .write-game .ensures) (at-clear .clear .ensures)
 
 -- src/lib.rt:72:1
 same-length-5 : tie.Need-same-length-5
@@ -67,7 +79,10 @@ same-length-6 c = search needs
 
 -- src/lib.rt:72:1
 returns-3 : tie.Need-returns-3
-returns-3 c = λ rank ranks. full-run _ _ _ _ _ _ (c .before .before .before .before .before .before .before .before .before .before .before .before .before .before .before .before .before .before .before .before .pre .1 .1 .0) rank _ _ (subst (WalkAnswer _ _ _ _ _ _) (c .before .before .before .before .before .before .before .before .enum-told .given .1) (c .before .before .before .before .before .before .before .before .before .before .before .before .before .before .before .before .before .before .before .before .pre .1 .1 .1)) (c .before .before .before .before .before .before .clear2 .ensures) (c .before .before .clear3 .ensures)
+returns-3 c =
+    let at-clear2 = c .before .before .before .before .before .before in
+    let start = at-clear2 .before .before .before .before .before .before .before .before .before .before in
+    λ rank ranks. full-run _ _ _ _ _ _ (start .pre .1 .0) rank _ _ (subst (WalkAnswer _ _ _ _ _ _) (at-clear2 .before .before .enum-told .given .1) (start .pre .1 .1)) (at-clear2 .clear2 .ensures) (c .before .before .clear3 .ensures)
 
 pub write-out-spec : {M : Type 1} → statement M
 write-out-spec =
