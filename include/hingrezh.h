@@ -3,9 +3,10 @@
  * Link with libhingrezh.a, which `rt staticlib hingrezh` makes; `make install` puts it beside a pkg-config file. The
  * archive has no variables, and of the C library it needs memset (a later one may need memcpy, memmove or memcmp too).
  *
- * How a game is won: the largest priority that is seen for ever decides; if it is even, Even wins. The formula holds in
- * the initial state exactly if Even wins vertex 0, up to false alarms of the ranking: Odd may win although the formula
- * holds (docs/VERDICTS.md). A solver that goes by the smallest priority gives false passes. A cut game has no verdict.
+ * How a game is won: the largest priority that is seen for ever decides; if it is even, Even wins. If Even wins vertex 0
+ * of a finished game, with reasons that check out, the formula holds in the initial state: proved. If Odd wins, the
+ * formula may hold all the same, a false alarm of the ranking (docs/VERDICTS.md). A solver that goes by the smallest
+ * priority gives false passes. A cut game has no verdict.
  *
  * A slice is passed as a pointer to 32-bit words and its length in words. No function has a precondition on contents
  * or lengths: whatever the slices hold is answered, at worst by a refusal. The pointers must be valid for their

@@ -1,22 +1,20 @@
 -- The refusals 31 to 34 of the action formulas, one law for each answer of the code, and what words that passed have.
 -- Assumes nothing.
-use Prim.Native.Nat.{ℕ, _+_, _*_, _<_, _≤_}
+use Prim.Native.Nat.{ℕ}
 use native.Mathlib.Omega.{arith}
-use native.Mathlib.Numerals.{add-one}
 use mathlib.Core.Path.{_≡_, refl, sym, ap, _∙_}
 use mathlib.Core.Bool.{Bool, true, false, not}
-use mathlib.Core.List.{List, [], _∷_, _++_}
+use mathlib.Core.List.{List, [], _∷_}
 use lib.ListN.{length, getD}
-use lib.Dec.{eqb, ltb, leb}
+use lib.Dec.{eqb, leb}
 use borrow.Author.Tests.{le-ltb, ltb-false}
-use Rattle.rules.specs.declared.Check.{Check}
 use Rattle.rules.specs.declared.Check.the-variants.{Passed, Fault}
 use Rattle.rules.specs.Answers.{faultIf, firstFault}
 use Rattle.rules.specs.Words.{mostNodes}
 use Rattle.rules.specs.Labels.{labelCount}
-use Rattle.rules.specs.Table.{size, kind, operand, actionChildren, treeEnd, isNotEnd, onRow}
-use Rattle.rules.specs.Refusal.{outside, differ, badActionOperand, refusal31, refusal32, refusal33, refusal34}
-use Rattle.tables.proofs.Faults.{if-true, if-false, if-passed, first-passed, first-fault-of, first-next-of}
+use Rattle.rules.specs.Table.{size, actionChildren, onRow}
+use Rattle.rules.specs.Refusal.{outside, badActionOperand, refusal31, refusal32, refusal33, refusal34}
+use Rattle.tables.proofs.Faults.{if-true, if-false, if-passed, first-passed}
 use Rattle.lists.proofs.Tests.{or-false}
 use Rattle.tables.proofs.Choices.{differ-false}
 use Rattle.table_words.specs.declared.Table.the-variants.{Actions}
@@ -24,17 +22,9 @@ use Rattle.table_words.specs.Tables.{Sized, Firsts, badIn, tableChecks}
 
 module _ (acts : List ℕ) where
   -- the first three checks are those of a table, which may be empty
-  table-checks : tableChecks 31 0 5 acts ≡ refusal31 acts ∷ refusal32 acts ∷ refusal33 acts ∷ []
+  pub table-checks : tableChecks 31 0 5 acts ≡ refusal31 acts ∷ refusal32 acts ∷ refusal33 acts ∷ []
   unfolding refusal31 refusal32 refusal33 outside
   table-checks = rw (le-ltb (size acts) 0 (omega arith))
-
-  pub table-fault : (rest : List Check) {c : Check} {n p : ℕ} → c ≡ firstFault (tableChecks 31 0 5 acts) → c ≡ Fault n p
-      → Fault n p ≡ firstFault (refusal31 acts ∷ refusal32 acts ∷ refusal33 acts ∷ rest)
-  table-fault rest e q = sym (ap (λ cs. firstFault (cs ++ rest)) (sym table-checks) ∙ first-fault-of _ rest (sym e ∙ q))
-
-  pub table-next : (rest : List Check) {c : Check} → c ≡ firstFault (tableChecks 31 0 5 acts) → c ≡ Passed
-      → firstFault rest ≡ firstFault (refusal31 acts ∷ refusal32 acts ∷ refusal33 acts ∷ rest)
-  table-next rest e q = sym (ap (λ cs. firstFault (cs ++ rest)) (sym table-checks) ∙ first-next-of _ rest (sym e ∙ q))
 
   -- words that passed are those of a table
   pub actions-passed : (ls : List ℕ) → firstFault (refusal31 acts ∷ refusal32 acts ∷ refusal33 acts ∷ refusal34 ls acts ∷ []) ≡ Passed → Sized acts

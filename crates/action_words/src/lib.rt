@@ -45,7 +45,7 @@ fn check_operands(labels: &[u32], actions: &[u32], ends: &TreeEnds, firsts: &Fir
 }
 
 // 34, for which the ends of the trees and the row are kept here.
-fn check_trees(labels: &[u32], actions: &[u32]) -> Check
+fn check_row(labels: &[u32], actions: &[u32]) -> Check
     requires { ⌜ (0 < length (now labels)) × Sized (now actions) ⌝ }
     ensures { λ r. ⌜ r ≡ refusal34 (now (labels .entry)) (now (actions .entry)) ⌝ }
 {
@@ -65,6 +65,6 @@ pub fn check_actions(labels: &[u32], actions: &[u32]) -> Check
     let checked = table_words::check_table(actions, 0, 5, 31);
     match checked {
         Check::Fault(number, place) => Check::Fault(number, place),
-        Check::Passed => check_trees(labels, actions),
+        Check::Passed => check_row(labels, actions),
     }
 }

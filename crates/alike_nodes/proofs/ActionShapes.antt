@@ -4,7 +4,6 @@ use mathlib.Core.List.{List}
 use Prim.Native.Nat.{ℕ, suc, _+_, _≤_, _<_}
 use native.Mathlib.Decide.{ℕ-discrete}
 use native.Mathlib.Omega.{arith}
-use lib.ListN.{length, set}
 use Rattle.rules.specs.Lists.{word}
 use Rattle.rules.specs.Labels.{labelCount, multiset}
 use Rattle.rules.specs.Table.{size, kind, operand}
@@ -12,9 +11,8 @@ use Rattle.rules.specs.Actions.{Action, actionTree}
 use Rattle.tables.specs.Good.{GoodActions}
 use Rattle.labels.specs.Classes.{Classes}
 use Rattle.trees.proofs.ActionTrees.{any-tree, never-tree, multi-tree, union-tree, intersection-tree, negation-tree}
-use Rattle.alike_nodes.specs.Nodes.{Last, Numbered, ActionShown, numberOf}
-use Rattle.alike_nodes.proofs.Showing.{action-words, action-shown-one}
-use Rattle.alike_nodes.proofs.Placing.{Placed, placed-none, placed-next}
+use Rattle.alike_nodes.specs.Nodes.{Last, Numbered, ActionShown}
+use Rattle.alike_nodes.proofs.Numbering.{Numbering}
 
 module _ (ls acts : List ℕ) (good : GoodActions (labelCount ls) acts) (v : ℕ) (h : v < size acts) where
   abbrev Shows : (k l r : ℕ) → Type 0
@@ -69,29 +67,9 @@ module _ (ls acts : List ℕ) (good : GoodActions (labelCount ls) acts) (v : ℕ
 
 -- ---- the nodes from i on are placed
 
-abbrev pub ActionsPlaced : (ls acts : List ℕ) (i : ℕ) (kinds lefts rights numbers : List ℕ) → Type 0
-ActionsPlaced ls acts i kinds lefts rights numbers =
-    Placed (actionTree ls acts) (ActionShown (Last (actionTree ls acts) (size acts))) (size acts) i kinds lefts rights numbers
+abbrev pub ActionShows : (ls acts : List ℕ) → Action → (k l r : ℕ) → Type 0
+ActionShows ls acts = ActionShown (Last (actionTree ls acts) (size acts))
 
-pub actions-none : (ls acts kinds lefts rights numbers : List ℕ) (n : ℕ) → n ≡ size acts
-    → size acts ≤ length kinds → size acts ≤ length lefts → size acts ≤ length rights → size acts ≤ length numbers
-    → ActionsPlaced ls acts n kinds lefts rights numbers
-actions-none ls acts kinds lefts rights numbers n e a b c d =
-    rw e (placed-none (actionTree ls acts) (ActionShown (Last (actionTree ls acts) (size acts))) (size acts) kinds lefts rights numbers a b c d)
-
-pub actions-next : (ls acts : List ℕ) (n i v k l r : ℕ) (kinds lefts rights numbers kinds′ lefts′ rights′ numbers′ : List ℕ)
-    → n ≡ size acts
-    → v + 1 ≡ i
-    → v < size acts
-    → ActionsPlaced ls acts i kinds lefts rights numbers
-    → ActionShown (Last (actionTree ls acts) (size acts)) (actionTree ls acts v) k l r
-    → kinds′ ≡ set kinds v k
-    → lefts′ ≡ set lefts v l
-    → rights′ ≡ set rights v r
-    → numbers′ ≡ set numbers v (numberOf kinds lefts rights numbers n v k l r)
-    → ActionsPlaced ls acts v kinds′ lefts′ rights′ numbers′
-actions-next ls acts n i v k l r kinds lefts rights numbers kinds′ lefts′ rights′ numbers′ z e h placed shown a b c d =
-    placed-next (actionTree ls acts) (ActionShown (Last (actionTree ls acts) (size acts))) (size acts)
-    (action-words (actionTree ls acts) (size acts)) (action-shown-one (actionTree ls acts) (size acts))
-    i v k l r kinds lefts rights numbers kinds′ lefts′ rights′ numbers′ e h placed shown a b c
-    (d ∙ ap (λ (m : ℕ). set numbers v (numberOf kinds lefts rights numbers m v k l r)) z)
+abbrev pub ActionsNumbering : (ls acts : List ℕ) (shapes₀ numbers₀ : List ℕ) (count i : ℕ) (shapes numbers : List ℕ) → Type 0
+ActionsNumbering ls acts shapes₀ numbers₀ count i shapes numbers =
+    Numbering (actionTree ls acts) (ActionShows ls acts) (size acts) shapes₀ numbers₀ count i shapes numbers

@@ -1,7 +1,7 @@
 -- The shape of a node of the formula, one law for each kind that the code tests. Assumes nothing.
 use mathlib.Core.Path.{_≡_, refl, sym, ap, subst, _∙_}
 use mathlib.Core.List.{List}
-use Prim.Native.Nat.{ℕ, suc, _+_, _≤_, _<_}
+use Prim.Native.Nat.{ℕ, suc, _+_, _-_, _≤_, _<_}
 use native.Mathlib.Decide.{ℕ-discrete}
 use native.Mathlib.Omega.{arith}
 use lib.ListN.{length, set}
@@ -13,9 +13,10 @@ use Rattle.rules.specs.Formula.{Formula, formulaTree, equationNumber}
 use Rattle.tables.specs.Good.{GoodInput}
 use Rattle.trees.proofs.Fixpoints.{fixpoint-kind}
 use Rattle.trees.proofs.FormulaTrees.{truth-tree, falsity-tree, conjunction-tree, disjunction-tree, box-tree, diamond-tree, fixpoint-tree, reference-tree}
-use Rattle.alike_nodes.specs.Nodes.{Last, Numbered, Later, EquationNumbers, FormulaShown, numberOf}
+use Rattle.alike_nodes.specs.declared.Shape.{Shape}
+use Rattle.alike_nodes.specs.Nodes.{Last, Numbered, Later, EquationNumbers, FormulaShown, NodeShown, numberIn, ShapePut}
 use Rattle.alike_nodes.proofs.Showing.{formula-words, formula-shown-one, formula-shown-map}
-use Rattle.alike_nodes.proofs.Placing.{Placed, placed-none, placed-next}
+use Rattle.alike_nodes.proofs.Numbering.{Numbering, node-below, later-numbered, numbering-next}
 
 module _ (x : Input) (good : GoodInput x) (numbers : List ℕ) (v : ℕ) (h : v < size (x .formula)) where
   abbrev OfAction : Action → ℕ → Type 0
@@ -121,34 +122,25 @@ module _ (x : Input) (good : GoodInput x) (numbers : List ℕ) (v : ℕ) (h : v 
 
 -- ---- the nodes from i on are placed
 
-abbrev pub FormulaPlaced : (x : Input) (i : ℕ) (kinds lefts rights numbers : List ℕ) → Type 0
-FormulaPlaced x i kinds lefts rights numbers =
-    Placed (formulaTree x) (FormulaShown (Last (formulaTree x) (size (x .formula))) (Last (actionTree (x .labels) (x .actions)) (size (x .actions))))
-    (size (x .formula)) i kinds lefts rights numbers
+abbrev pub FormulaShows : (x : Input) → Formula → (k l r : ℕ) → Type 0
+FormulaShows x = FormulaShown (Last (formulaTree x) (size (x .formula))) (Last (actionTree (x .labels) (x .actions)) (size (x .actions)))
 
-pub formula-none : (x : Input) (kinds lefts rights numbers : List ℕ) (n : ℕ) → n ≡ size (x .formula)
-    → size (x .formula) ≤ length kinds → size (x .formula) ≤ length lefts → size (x .formula) ≤ length rights → size (x .formula) ≤ length numbers
-    → FormulaPlaced x n kinds lefts rights numbers
-formula-none x kinds lefts rights numbers n e a b c d =
-    rw e
-    (placed-none (formulaTree x) (FormulaShown (Last (formulaTree x) (size (x .formula))) (Last (actionTree (x .labels) (x .actions)) (size (x .actions))))
-    (size (x .formula)) kinds lefts rights numbers a b c d)
+abbrev pub FormulaNumbering : (x : Input) (shapes₀ numbers₀ : List ℕ) (count i : ℕ) (shapes numbers : List ℕ) → Type 0
+FormulaNumbering x shapes₀ numbers₀ count i shapes numbers =
+    Numbering (formulaTree x) (FormulaShows x) (size (x .formula)) shapes₀ numbers₀ count i shapes numbers
 
-pub formula-next : (x : Input) (good : GoodInput x) (n i v k l r : ℕ) (kinds lefts rights numbers kinds′ lefts′ rights′ numbers′ : List ℕ)
-    → n ≡ size (x .formula)
-    → v + 1 ≡ i
-    → v < size (x .formula)
-    → FormulaPlaced x i kinds lefts rights numbers
-    → FormulaShown (Later (formulaTree x) (size (x .formula)) v numbers) (Last (actionTree (x .labels) (x .actions)) (size (x .actions))) (formulaTree x v) k l r
-    → kinds′ ≡ set kinds v k
-    → lefts′ ≡ set lefts v l
-    → rights′ ≡ set rights v r
-    → numbers′ ≡ set numbers v (numberOf kinds lefts rights numbers n v k l r)
-    → FormulaPlaced x v kinds′ lefts′ rights′ numbers′
-formula-next x good n i v k l r kinds lefts rights numbers kinds′ lefts′ rights′ numbers′ z e h placed shown a b c d =
-    placed-next (formulaTree x) (FormulaShown (Last (formulaTree x) (size (x .formula))) (Last (actionTree (x .labels) (x .actions)) (size (x .actions)))) (size (x .formula))
+pub formula-next : (x : Input) (good : GoodInput x) {shapes₀ numbers₀ : List ℕ} {count i : ℕ} {shapes numbers : List ℕ}
+    → FormulaNumbering x shapes₀ numbers₀ count i shapes numbers
+    → 0 < i
+    → (s : Shape) (shapes′ numbers′ : List ℕ)
+    → NodeShown x numbers (i - 1) s
+    → ShapePut shapes shapes′ (i - 1) s
+    → length numbers′ ≡ length numbers
+    → numbers′ ≡ set numbers (i - 1) (numberIn shapes numbers count (i - 1) s)
+    → FormulaNumbering x shapes₀ numbers₀ count (i - 1) shapes′ numbers′
+formula-next x good {i = i} {numbers = numbers} done more s shapes′ numbers′ shown =
+    numbering-next done more
     (formula-words (formulaTree x) (size (x .formula)) (actionTree (x .labels) (x .actions)) (size (x .actions)))
     (formula-shown-one (formulaTree x) (size (x .formula)) (actionTree (x .labels) (x .actions)) (size (x .actions)))
-    i v k l r kinds lefts rights numbers kinds′ lefts′ rights′ numbers′ e h placed
-    (shape-numbered x good numbers v h (rw e (placed .numbered)) k l r shown)
-    a b c (d ∙ ap (λ (m : ℕ). set numbers v (numberOf kinds lefts rights numbers m v k l r)) z)
+    s shapes′ numbers′
+    (shape-numbered x good numbers (i - 1) (node-below done more) (later-numbered done more) (s .kind) (s .left) (s .right) shown)

@@ -1,9 +1,9 @@
 // What a run compiles before it walks stands in one lent array of words, which has a stretch for each table. Here is
 // said once where each begins, with a reader for each.
 ghost use mathlib.Core.Path.{_≡_};
-ghost use Prim.Native.Nat.{_<_};
+ghost use Prim.Native.Nat.{_-_, _≤_, _<_};
 ghost use Rattle.rules.specs.Lists.{word};
-ghost use Rattle.compiled.specs.Stretches.{kindsIn, leftsIn, rightsIn, prioritiesIn};
+ghost use Rattle.compiled.specs.Stretches.{stretch, wordCount, kindsIn, leftsIn, rightsIn, prioritiesIn};
 ghost use Rattle.compiled.specs.Stretches.{classesIn, samplesIn, multiplesIn};
 
 // The items: a word for each in four tables.
@@ -30,12 +30,20 @@ pub type Compiled = [u32; WORDS];
 
 // ---- the items
 
+// The word of an item in the table that begins at `table`.
+fn item_word(compiled: &Compiled, table: usize, item: u32) -> u32
+    requires { ⌜ (item < 2048) × (table ≤ 6144) ⌝ }
+    ensures { λ r. ⌜ r ≡ word (stretch table 2048 (now (compiled .entry))) item ⌝ }
+{
+    compiled[table + (item as usize)]
+}
+
 // The kind of an item.
 pub fn kind_of(compiled: &Compiled, item: u32) -> u32
     requires { ⌜ item < 2048 ⌝ }
     ensures { λ r. ⌜ r ≡ word (kindsIn (now (compiled .entry))) item ⌝ }
 {
-    compiled[KINDS + (item as usize)]
+    item_word(compiled, KINDS, item)
 }
 
 // The left operand of an item.
@@ -43,7 +51,7 @@ pub fn left_of(compiled: &Compiled, item: u32) -> u32
     requires { ⌜ item < 2048 ⌝ }
     ensures { λ r. ⌜ r ≡ word (leftsIn (now (compiled .entry))) item ⌝ }
 {
-    compiled[LEFTS + (item as usize)]
+    item_word(compiled, LEFTS, item)
 }
 
 // Its right operand.
@@ -51,7 +59,7 @@ pub fn right_of(compiled: &Compiled, item: u32) -> u32
     requires { ⌜ item < 2048 ⌝ }
     ensures { λ r. ⌜ r ≡ word (rightsIn (now (compiled .entry))) item ⌝ }
 {
-    compiled[RIGHTS + (item as usize)]
+    item_word(compiled, RIGHTS, item)
 }
 
 // Its priority.
@@ -59,31 +67,37 @@ pub fn priority_of(compiled: &Compiled, item: u32) -> u32
     requires { ⌜ item < 2048 ⌝ }
     ensures { λ r. ⌜ r ≡ word (prioritiesIn (now (compiled .entry))) item ⌝ }
 {
-    compiled[PRIORITIES + (item as usize)]
+    item_word(compiled, PRIORITIES, item)
 }
 
 // ---- the other tables, each lent by itself
+
+// The words from `from` up to `to`.
+fn part<'a>(compiled: &'a Compiled, from: usize, to: usize) -> &'a [u32]
+    requires { ⌜ (from ≤ to) × (to ≤ wordCount) ⌝ }
+    ensures { λ r. ⌜ now r ≡ stretch from (to - from) (now (compiled .entry)) ⌝ }
+{
+    let all = &compiled[..];
+    &all[from..to]
+}
 
 // The table of the labels' multisets.
 pub fn classes<'a>(compiled: &'a Compiled) -> &'a [u32]
     ensures { λ r. ⌜ now r ≡ classesIn (now (compiled .entry)) ⌝ }
 {
-    let all = &compiled[..];
-    &all[CLASSES..SAMPLES]
+    part(compiled, CLASSES, SAMPLES)
 }
 
 // The table of first transitions.
 pub fn samples<'a>(compiled: &'a Compiled) -> &'a [u32]
     ensures { λ r. ⌜ now r ≡ samplesIn (now (compiled .entry)) ⌝ }
 {
-    let all = &compiled[..];
-    &all[SAMPLES..MULTIPLES]
+    part(compiled, SAMPLES, MULTIPLES)
 }
 
 // The table of byte multiples.
 pub fn multiples<'a>(compiled: &'a Compiled) -> &'a [u32]
     ensures { λ r. ⌜ now r ≡ multiplesIn (now (compiled .entry)) ⌝ }
 {
-    let all = &compiled[..];
-    &all[MULTIPLES..WORDS]
+    part(compiled, MULTIPLES, WORDS)
 }

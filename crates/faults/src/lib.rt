@@ -10,12 +10,12 @@ pub fn check_below(ws: &[u32], first: usize, end: usize, bound: usize, number: u
     requires { ⌜ (end ≤ length (now ws)) × (end < 4294967296) ⌝ }
     ensures { λ r. ⌜ r ≡ faultFrom number first end (tooLarge (now (ws .entry)) bound) ⌝ }
 {
-    let mut p = first;
-    while p < end {
-        if bound <= words::at(ws, p) {
-            return Check::Fault(number, p as u32);
+    let mut place = first;
+    while place < end {
+        if bound <= words::at(ws, place) {
+            return Check::Fault(number, place as u32);
         }
-        p += 1;
+        place += 1;
     }
     Check::Passed
 }

@@ -1,37 +1,27 @@
 -- The refusals 41 to 44 of the formula, one law for each answer of the code. Assumes nothing.
-use Prim.Native.Nat.{ℕ, _+_, _*_, _<_, _≤_}
+use Prim.Native.Nat.{ℕ, _<_, _≤_}
 use native.Mathlib.Omega.{arith}
-use native.Mathlib.Numerals.{add-one}
 use mathlib.Core.Path.{_≡_, refl, sym, ap, _∙_}
 use mathlib.Core.Bool.{Bool, true, false, not, _||_}
-use mathlib.Core.List.{List, [], _∷_, _++_}
-use lib.ListN.{length, getD}
+use mathlib.Core.List.{List, [], _∷_}
+use lib.ListN.{getD}
 use lib.Dec.{eqb, ltb}
 use borrow.Author.Tests.{lt-ltb, le-ltb, eq-eqb, ne-eqb, le-leb, lt-leb}
-use Rattle.rules.specs.declared.Check.{Check}
 use Rattle.rules.specs.declared.Check.the-variants.{Passed, Fault}
-use Rattle.rules.specs.Answers.{faultIf, firstFault}
-use Rattle.rules.specs.Table.{size, kind, operand, actionChildren, formulaChildren, treeEnd, isNotEnd}
-use Rattle.rules.specs.Refusal.{differ, namesNoTree, badFormulaOperand, refusal41, refusal42, refusal43}
+use Rattle.rules.specs.Answers.{faultIf}
+use Rattle.rules.specs.Table.{size, actionChildren, formulaChildren}
+use Rattle.rules.specs.Refusal.{namesNoTree, badFormulaOperand, refusal41, refusal42, refusal43}
 use Rattle.tables.specs.Ends.{endOf}
-use Rattle.tables.proofs.Faults.{if-true, if-false, first-fault-of, first-next-of}
+use Rattle.tables.proofs.Faults.{if-true, if-false}
 use Rattle.lists.proofs.Tests.{or-left, or-right, or-none}
 use Rattle.table_words.specs.declared.Table.the-variants.{Formula}
 use Rattle.table_words.specs.Tables.{Firsts, badIn, tableChecks}
 
 module _ (f : List ℕ) where
   -- the first three checks are those of a table
-  table-checks : tableChecks 41 1 8 f ≡ refusal41 f ∷ refusal42 f ∷ refusal43 f ∷ []
+  pub table-checks : tableChecks 41 1 8 f ≡ refusal41 f ∷ refusal42 f ∷ refusal43 f ∷ []
   unfolding refusal41 refusal42 refusal43
   table-checks = refl
-
-  pub table-fault : (rest : List Check) {c : Check} {n p : ℕ} → c ≡ firstFault (tableChecks 41 1 8 f) → c ≡ Fault n p
-      → Fault n p ≡ firstFault (refusal41 f ∷ refusal42 f ∷ refusal43 f ∷ rest)
-  table-fault rest e q = sym (ap (λ cs. firstFault (cs ++ rest)) (sym table-checks) ∙ first-fault-of _ rest (sym e ∙ q))
-
-  pub table-next : (rest : List Check) {c : Check} → c ≡ firstFault (tableChecks 41 1 8 f) → c ≡ Passed
-      → firstFault rest ≡ firstFault (refusal41 f ∷ refusal42 f ∷ refusal43 f ∷ rest)
-  table-next rest e q = sym (ap (λ cs. firstFault (cs ++ rest)) (sym table-checks) ∙ first-next-of _ rest (sym e ∙ q))
 
   -- the test of the formula's end e, at the number n that the code has read
   module _ (n e : ℕ) (q : n ≡ size f) (i : e ≡ endOf (formulaChildren f) (size f) 0) where

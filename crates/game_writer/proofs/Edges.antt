@@ -125,9 +125,6 @@ module _ (kinds priorities w : List ℕ) (v n : ℕ) where
         → Wrote at₀ stretch out₀ (set out p e) (p + 1)
     offsets-done e u h k w = done (put k (turn (offsets-none e u h) w))
 
-    pub offsets-past : {at r : ℕ} {out out′ : List ℕ} → Wrote at (offsets 0 (shownVertices kinds priorities w v n)) out out′ r → r ≡ at + n + 1
-    offsets-past c = omega (arith, c .past, offsets-all)
-
     -- ---- the targets
 
     targets-all : length (edgeColumnOf 0 (shownVertices kinds priorities w v n)) ≡ degreesIn w v n
@@ -161,7 +158,3 @@ module _ (kinds priorities w : List ℕ) (v n : ℕ) where
     pub targets-done : (u : ℕ) {p at₀ : ℕ} {stretch out out₀ : List ℕ} → n ≤ u
         → Writing p (edgeColumnOf 0 (later u)) out at₀ stretch out₀ → Wrote at₀ stretch out₀ out p
     targets-done u h w = done (turn (targets-none u h) w)
-
-    pub targets-past : {at r : ℕ} {out out′ : List ℕ}
-        → Wrote at (edgeColumnOf 0 (shownVertices kinds priorities w v n)) out out′ r → r ≡ at + degreesIn w v n
-    targets-past c = omega (arith, c .past, targets-all)

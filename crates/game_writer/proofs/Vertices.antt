@@ -3,7 +3,7 @@
 use mathlib.Core.Path.{_≡_, refl, sym, ap, _∙_, subst}
 use mathlib.Core.Bool.{Bool, true, false}
 use mathlib.Core.List.{List, [], map, append-nil}
-use Prim.Native.Nat.{ℕ, zero, suc, _+_, _*_, _≤_, _<_}
+use Prim.Native.Nat.{ℕ, _+_, _*_, _≤_}
 use native.Mathlib.Omega.{arith}
 use lib.ListN.{length, take, drop, length-drop}
 use lib.Dec.{eqb}
@@ -11,7 +11,6 @@ use lib.Seq.{slice, take-add, drop-at, length-take-le}
 use borrow.Author.Tests.{lt-ltb, le-ltb}
 use Rattle.player.specs.Player.{playerIndex}
 use Rattle.player.specs.declared.Player.{Player}
-use Rattle.player.specs.declared.Player.the-variants.{Odd}
 use Rattle.rules.specs.Lists.{word}
 use Rattle.rules.specs.Game.{edgeTo, stuckPriority, waitingVertex}
 use Rattle.words.specs.Regions.{region}

@@ -1,19 +1,16 @@
 -- The whole game: what it asks for, and its stretches one after the other. Assumes nothing.
 use mathlib.Core.Path.{_≡_, refl, sym, ap, _∙_}
-use mathlib.Core.List.{List, [], _∷_, _++_, map}
+use mathlib.Core.List.{List, [], _∷_, map}
 use Prim.Native.Nat.{ℕ, _+_, _*_, _≤_, _<_}
 use native.Mathlib.Omega.{arith}
 use lib.ListN.{length, drop, length-map}
 use Rattle.rules.specs.Lists.{from}
-use Rattle.rules.specs.Game.{vertexColumns, offsets, columns, gameOf}
-use Rattle.games.specs.Columns.{vertexColumn, edgeColumnOf}
-use Rattle.settling.specs.Stand.{degreesIn}
-use Rattle.parity_game.proofs.Stretches.{game-stretches, columns-room, columns-past}
-use Rattle.words.specs.Stretches.{Wrote}
+use Rattle.rules.specs.Game.{vertexColumns, columns}
+use Rattle.games.specs.Columns.{vertexColumn}
+use Rattle.parity_game.proofs.Stretches.{columns-room}
 use Rattle.words.proofs.Stretches.{Writing}
 use Rattle.game_writer.specs.Shown.{shownOwner, shownPriority, shownVertex, shownWord, shownVertices, Placed}
 use Rattle.game_writer.specs.Shown.{EdgesWithin, Showing, Showable}
-use Rattle.game_writer.proofs.Edges.{total}
 use Rattle.lists.proofs.Ranges.{from-length}
 
 -- ---- what the parts ask for
@@ -70,7 +67,7 @@ module _ (kinds priorities w : List ℕ) (v : ℕ) where
       let e : 1 ≡ column = omega arith in
       f ∙ ap (λ (c : ℕ). vertexColumn c (shownVertex kinds priorities w v u)) e
 
-  -- there is room for the next column, and where the last one ends
+  -- there is room for the next column
   pub column-room : (n c : ℕ) {p at₀ : ℕ} {out out₀ : List ℕ} → c < length vertexColumns
       → at₀ + length vertexColumns * n ≤ length out₀
       → Writing p (columns (drop c vertexColumns) (shownVertices kinds priorities w v n)) out at₀
@@ -83,20 +80,3 @@ module _ (kinds priorities w : List ℕ) (v : ℕ) where
             (omega (arith, shown-length n)) wr,
         shown-length n,
       )
-
-  pub columns-end : (n : ℕ) {at r : ℕ} {out out′ : List ℕ}
-      → Wrote at (columns vertexColumns (shownVertices kinds priorities w v n)) out out′ r
-      → r ≡ at + length vertexColumns * n
-  columns-end n wrote =
-      omega (arith, columns-past vertexColumns (shownVertices kinds priorities w v n) wrote, shown-length n)
-
-  -- as they are written
-  pub stretches : (n m : ℕ) → EdgesWithin w v n → degreesIn w v n ≡ m
-      → gameOf 0 (shownVertices kinds priorities w v n)
-      ≡ (n ∷ m ∷ 0 ∷ [])
-      ++ (columns vertexColumns (shownVertices kinds priorities w v n)
-      ++ (offsets 0 (shownVertices kinds priorities w v n)
-      ++ (edgeColumnOf 0 (shownVertices kinds priorities w v n) ++ [])))
-  stretches n m within e =
-      game-stretches (shownVertices kinds priorities w v n) n m (sym (shown-length n))
-      (sym e ∙ sym (total kinds priorities w v n within))

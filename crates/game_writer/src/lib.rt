@@ -42,89 +42,106 @@ fn stuck_priority(owner: Player) -> Priority
     Priority(to_index(winner))
 }
 
-// The word that shows the owner of vertex u.
-fn owner_word(work: &[u32], compiled: &Compiled, v: u32, u: VertexIndex) -> u32
-    requires { ⌜ (8 * v ≤ length (now work)) × (u .0 < v) ⌝ }
-    ensures { λ r. ⌜ r ≡ shownOwner (kindsIn (now (compiled .entry))) (now (work .entry)) v (u .0) ⌝ }
+// The word that shows the owner of a vertex.
+fn owner_word(work: &[u32], compiled: &Compiled, vertices: u32, vertex: VertexIndex) -> u32
+    requires { ⌜ (8 * vertices ≤ length (now work)) × (vertex .0 < vertices) ⌝ }
+    ensures { λ r. ⌜ r ≡ shownOwner (kindsIn (now (compiled .entry))) (now (work .entry)) vertices (vertex .0) ⌝ }
 {
-    if region_word(work, v, COUNTS, u.0) == 0 {
+    if region_word(work, vertices, COUNTS, vertex.0) == 0 {
         return 2;
     }
-    let item = item_of(work, v, u);
+    let item = item_of(work, vertices, vertex);
     to_index(owner_of(kind_of(compiled, item)))
 }
 
-// Does the first edge of vertex u, which is settled, lead to itself?
-fn first_loops(work: &[u32], v: u32, u: VertexIndex) -> bool
-    requires { ⌜ (8 * v ≤ length (now work)) × (u .0 < v) ⌝ }
-    requires { ⌜ 8 * v + (startIn (now work) v (u .0) + countIn (now work) v (u .0)) ≤ length (now work) ⌝ }
-    ensures { λ r. ⌜ r ≡ loopsIn (now (work .entry)) v (u .0) ⌝ }
+// Does the first edge of a settled vertex lead to itself?
+fn first_loops(work: &[u32], vertices: u32, vertex: VertexIndex) -> bool
+    requires { ⌜ (8 * vertices ≤ length (now work)) × (vertex .0 < vertices) ⌝ }
+    requires { ⌜ 8 * vertices + (startIn (now work) vertices (vertex .0) + countIn (now work) vertices (vertex .0))
+        ≤ length (now work) ⌝ }
+    ensures { λ r. ⌜ r ≡ loopsIn (now (work .entry)) vertices (vertex .0) ⌝ }
 {
-    if region_word(work, v, COUNTS, u.0) <= 1 {
+    if region_word(work, vertices, COUNTS, vertex.0) <= 1 {
         return false;
     }
-    let start = region_word(work, v, STARTS, u.0) as usize;
-    work[REGIONS * (v as usize) + start] == u.0
+    let start = region_word(work, vertices, STARTS, vertex.0) as usize;
+    work[REGIONS * (vertices as usize) + start] == vertex.0
 }
 
-// The priority of vertex u.
-fn shown_priority(work: &[u32], compiled: &Compiled, v: u32, u: VertexIndex) -> Priority
-    requires { ⌜ (8 * v ≤ length (now work)) × (u .0 < v) ⌝ }
-    requires { ⌜ (settledIn (now work) v (u .0) ≡ true
-        → 8 * v + (startIn (now work) v (u .0) + countIn (now work) v (u .0)) ≤ length (now work)) ⌝ }
+// The priority that is shown of a vertex.
+fn shown_priority(work: &[u32], compiled: &Compiled, vertices: u32, vertex: VertexIndex) -> Priority
+    requires { ⌜ (8 * vertices ≤ length (now work)) × (vertex .0 < vertices) ⌝ }
+    requires { ⌜ (settledIn (now work) vertices (vertex .0) ≡ true
+        → 8 * vertices + (startIn (now work) vertices (vertex .0) + countIn (now work) vertices (vertex .0))
+        ≤ length (now work)) ⌝ }
     ensures { λ r. ⌜ r .0 ≡ shownPriority (kindsIn (now (compiled .entry))) (prioritiesIn (now (compiled .entry)))
-        (now (work .entry)) v (u .0) ⌝ }
+        (now (work .entry)) vertices (vertex .0) ⌝ }
 {
-    if region_word(work, v, COUNTS, u.0) == 0 {
+    if region_word(work, vertices, COUNTS, vertex.0) == 0 {
         return Priority(0);
     }
-    let item = item_of(work, v, u);
-    if first_loops(work, v, u) {
+    let item = item_of(work, vertices, vertex);
+    if first_loops(work, vertices, vertex) {
         return stuck_priority(owner_of(kind_of(compiled, item)));
     }
     Priority(priority_of(compiled, item))
 }
 
-// How many edges vertex u has: none before it is settled.
-fn count_of(work: &[u32], v: u32, u: VertexIndex) -> u32
-    requires { ⌜ (8 * v ≤ length (now work)) × (u .0 < v) ⌝ }
-    ensures { λ r. ⌜ r ≡ countIn (now (work .entry)) v (u .0) ⌝ }
+// How many edges a vertex has: none before it is settled.
+fn count_of(work: &[u32], vertices: u32, vertex: VertexIndex) -> u32
+    requires { ⌜ (8 * vertices ≤ length (now work)) × (vertex .0 < vertices) ⌝ }
+    ensures { λ r. ⌜ r ≡ countIn (now (work .entry)) vertices (vertex .0) ⌝ }
 {
-    let held = region_word(work, v, COUNTS, u.0);
+    let held = region_word(work, vertices, COUNTS, vertex.0);
     if held == 0 {
         return 0;
     }
     held - 1
 }
 
-// The word of vertex u in a column.
-fn column_word(work: &[u32], compiled: &Compiled, v: u32, u: VertexIndex, column: usize) -> u32
-    requires { ⌜ Showing (now work) v (u .0 + 1) ⌝ }
+// The word of a vertex in a column.
+fn column_word(
+    work: &[u32],
+    compiled: &Compiled,
+    vertices: u32,
+    vertex: VertexIndex,
+    column: usize,
+) -> u32
+    requires { ⌜ Showing (now work) vertices (vertex .0 + 1) ⌝ }
     requires { ⌜ column < length vertexColumns ⌝ }
     ensures { λ r. ⌜ r ≡ shownWord (kindsIn (now (compiled .entry))) (prioritiesIn (now (compiled .entry)))
-        (now (work .entry)) v column (u .0) ⌝ }
+        (now (work .entry)) vertices column (vertex .0) ⌝ }
 {
     if column == 0 {
-        return owner_word(work, compiled, v, u);
+        return owner_word(work, compiled, vertices, vertex);
     }
-    let shown = shown_priority(work, compiled, v, u);
+    let shown = shown_priority(work, compiled, vertices, vertex);
     shown.0
 }
 
-// Appends the targets of vertex u.
-fn write_edges(work: &[u32], v: u32, u: VertexIndex, game: &mut [u32], start: usize) -> usize
-    requires { ⌜ (8 * v ≤ length (now work)) × (u .0 < v)
-        × (start + countIn (now work) v (u .0) ≤ length (now game)) ⌝ }
-    requires { ⌜ (settledIn (now work) v (u .0) ≡ true
-        → 8 * v + (startIn (now work) v (u .0) + countIn (now work) v (u .0)) ≤ length (now work)) ⌝ }
-    ensures { λ r. ⌜ Wrote start (shownEdges (now (work .entry)) v (u .0)) (now (game .entry)) (now (game .exit)) r ⌝ }
+// Appends the targets of a vertex.
+fn write_edges(
+    work: &[u32],
+    vertices: u32,
+    vertex: VertexIndex,
+    game: &mut [u32],
+    start: usize,
+) -> usize
+    requires { ⌜ (8 * vertices ≤ length (now work)) × (vertex .0 < vertices)
+        × (start + countIn (now work) vertices (vertex .0) ≤ length (now game)) ⌝ }
+    requires { ⌜ (settledIn (now work) vertices (vertex .0) ≡ true
+        → 8 * vertices + (startIn (now work) vertices (vertex .0) + countIn (now work) vertices (vertex .0))
+        ≤ length (now work)) ⌝ }
+    ensures { λ r. ⌜ Wrote start (shownEdges (now (work .entry)) vertices (vertex .0))
+        (now (game .entry)) (now (game .exit)) r ⌝ }
 {
-    let held = region_word(work, v, COUNTS, u.0);
+    let held = region_word(work, vertices, COUNTS, vertex.0);
     if held == 0 {
         return start;
     }
     let count = (held - 1) as usize;
-    let first = REGIONS * (v as usize) + region_word(work, v, STARTS, u.0) as usize;
+    let first = REGIONS * (vertices as usize)
+        + region_word(work, vertices, STARTS, vertex.0) as usize;
     copy(work, first, first + count, game, start)
 }
 
@@ -134,87 +151,93 @@ fn write_edges(work: &[u32], v: u32, u: VertexIndex, game: &mut [u32], start: us
 fn write_column(
     work: &[u32],
     compiled: &Compiled,
-    v: u32,
+    vertices: u32,
     known: u32,
     column: usize,
     game: &mut [u32],
     start: usize,
 ) -> usize
-    requires { ⌜ Showing (now work) v known ⌝ }
+    requires { ⌜ Showing (now work) vertices known ⌝ }
     requires { ⌜ (column < length vertexColumns) × (start + known ≤ length (now game)) ⌝ }
-    ensures { λ r. ⌜ Wrote start (map (shownWord (kindsIn (now (compiled .entry))) (prioritiesIn (now (compiled .entry)))
-        (now (work .entry)) v column) (from 0 known)) (now (game .entry)) (now (game .exit)) r ⌝ }
+    ensures { λ r. ⌜ Wrote start (map (shownWord (kindsIn (now (compiled .entry)))
+        (prioritiesIn (now (compiled .entry))) (now (work .entry)) vertices column) (from 0 known))
+        (now (game .entry)) (now (game .exit)) r ⌝ }
 {
-    let mut u: u32 = 0;
-    let mut p = start;
-    while u < known {
-        let shown = column_word(work, compiled, v, VertexIndex(u), column);
-        game[p] = shown;
-        p += 1;
-        u += 1;
+    let mut vertex: u32 = 0;
+    let mut place = start;
+    while vertex < known {
+        let shown = column_word(work, compiled, vertices, VertexIndex(vertex), column);
+        game[place] = shown;
+        place += 1;
+        vertex += 1;
     }
-    p
+    place
 }
 
 // All columns, one after another.
 fn write_columns(
     work: &[u32],
     compiled: &Compiled,
-    v: u32,
+    vertices: u32,
     known: u32,
     game: &mut [u32],
     start: usize,
 ) -> usize
-    requires { ⌜ Showing (now work) v known ⌝ }
+    requires { ⌜ Showing (now work) vertices known ⌝ }
     requires { ⌜ start + length vertexColumns * known ≤ length (now game) ⌝ }
     ensures { λ r. ⌜ Wrote start (columns vertexColumns (shownVertices (kindsIn (now (compiled .entry)))
-        (prioritiesIn (now (compiled .entry))) (now (work .entry)) v known)) (now (game .entry)) (now (game .exit)) r ⌝ }
+        (prioritiesIn (now (compiled .entry))) (now (work .entry)) vertices known))
+        (now (game .entry)) (now (game .exit)) r ⌝ }
 {
     let all = vertex_columns();
     let mut column: usize = 0;
-    let mut p = start;
+    let mut place = start;
     while column < all {
-        p = write_column(work, compiled, v, known, column, game, p);
+        place = write_column(work, compiled, vertices, known, column, game, place);
         column += 1;
     }
-    p
+    place
 }
 
 // Where the edges of each vertex begin, and where the last ones end. They are the same whatever the item table says.
-fn write_offsets(work: &[u32], v: u32, known: u32, game: &mut [u32], start: usize) -> usize
-    requires { ⌜ Placed (now work) v known ⌝ }
-    requires { ⌜ EdgesWithin (now work) v known ⌝ }
-    requires { ⌜ (degreesIn (now work) v known < 4294967296) × (start + known < length (now game)) ⌝ }
-    ensures { λ r. ⌜ ((kinds priorities : List ℕ) → Wrote start (offsets 0 (shownVertices kinds priorities (now (work .entry)) v known)) (now (game .entry)) (now (game .exit)) r) ⌝ }
+fn write_offsets(work: &[u32], vertices: u32, known: u32, game: &mut [u32], start: usize) -> usize
+    requires { ⌜ Placed (now work) vertices known ⌝ }
+    requires { ⌜ EdgesWithin (now work) vertices known ⌝ }
+    requires { ⌜ (degreesIn (now work) vertices known < 4294967296) × (start + known < length (now game)) ⌝ }
+    ensures { λ r. ⌜ ((kinds priorities : List ℕ) → Wrote start
+        (offsets 0 (shownVertices kinds priorities (now (work .entry)) vertices known))
+        (now (game .entry)) (now (game .exit)) r) ⌝ }
 {
-    let mut u: u32 = 0;
-    let mut e: u32 = 0;
-    let mut p = start;
-    while u < known {
-        let count = count_of(work, v, VertexIndex(u));
-        game[p] = e;
-        p += 1;
-        e += count;
-        u += 1;
+    let mut vertex: u32 = 0;
+    let mut edges: u32 = 0;
+    let mut place = start;
+    while vertex < known {
+        let count = count_of(work, vertices, VertexIndex(vertex));
+        game[place] = edges;
+        place += 1;
+        edges += count;
+        vertex += 1;
     }
-    game[p] = e;
-    p + 1
+    game[place] = edges;
+    place + 1
 }
 
 // The targets of all vertices. They are the same whatever the item table says.
-fn write_targets(work: &[u32], v: u32, known: u32, game: &mut [u32], start: usize) -> usize
-    requires { ⌜ Placed (now work) v known ⌝ }
-    requires { ⌜ EdgesWithin (now work) v known ⌝ }
-    requires { ⌜ start + degreesIn (now work) v known ≤ length (now game) ⌝ }
-    ensures { λ r. ⌜ ((kinds priorities : List ℕ) → Wrote start (edgeColumnOf 0 (shownVertices kinds priorities (now (work .entry)) v known)) (now (game .entry)) (now (game .exit)) r) ⌝ }
+fn write_targets(work: &[u32], vertices: u32, known: u32, game: &mut [u32], start: usize) -> usize
+    requires { ⌜ Placed (now work) vertices known ⌝ }
+    requires { ⌜ EdgesWithin (now work) vertices known ⌝ }
+    requires { ⌜ start + degreesIn (now work) vertices known ≤ length (now game) ⌝ }
+    ensures { λ r. ⌜ ((kinds priorities : List ℕ) → Wrote start
+        (edgeColumnOf 0 (shownVertices kinds priorities (now (work .entry)) vertices known))
+        (now (game .entry)) (now (game .exit)) r) ⌝ }
 {
-    let mut u: u32 = 0;
-    let mut p = start;
-    while u < known {
-        p = write_edges(work, v, VertexIndex(u), game, p);
-        u += 1;
+    let mut vertex: u32 = 0;
+    let mut place = start;
+    while vertex < known {
+        place = write_edges(work, vertices, VertexIndex(vertex), game, place);
+        vertex += 1;
     }
-    p
+    place
 }
 
 // The game of the first `known` vertices, which have so many edges, zeros past it.
@@ -222,17 +245,18 @@ pub fn write_game(
     game: &mut [u32],
     work: &[u32],
     compiled: &Compiled,
-    v: u32,
+    vertices: u32,
     known: u32,
     edges: u32,
 )
-    requires { ⌜ Showable (now work) v known edges (length (now game)) ⌝ }
-    ensures { λ _. ⌜ now (game .exit) ≡ padded (length (now (game .entry))) (gameOf 0 (shownVertices (kindsIn (now (compiled .entry)))
-        (prioritiesIn (now (compiled .entry))) (now (work .entry)) v known)) ⌝ }
+    requires { ⌜ Showable (now work) vertices known edges (length (now game)) ⌝ }
+    ensures { λ _. ⌜ now (game .exit) ≡ padded (length (now (game .entry))) (gameOf 0 (shownVertices
+        (kindsIn (now (compiled .entry))) (prioritiesIn (now (compiled .entry)))
+        (now (work .entry)) vertices known)) ⌝ }
 {
     let header = write_header(known, edges, game);
-    let places = write_columns(work, compiled, v, known, game, header);
-    let targets = write_offsets(work, v, known, game, places);
-    let end = write_targets(work, v, known, game, targets);
+    let places = write_columns(work, compiled, vertices, known, game, header);
+    let targets = write_offsets(work, vertices, known, game, places);
+    let end = write_targets(work, vertices, known, game, targets);
     fill(game, end, 0);
 }

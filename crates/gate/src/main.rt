@@ -10,10 +10,10 @@ ghost use mathlib.Core.List.{List};
 ghost use lib.ListN.{length, take};
 ghost use Rattle.rules.specs.Program.{printed, gateTextLength};
 
-fn size(n: u32) -> usize
-    ensures { λ r. ⌜ r ≡ n ⌝ }
+fn size(bytes: u32) -> usize
+    ensures { λ r. ⌜ r ≡ bytes ⌝ }
 {
-    n as usize
+    bytes as usize
 }
 
 // What is printed of an input, of which the buffer holds as much as `gate_buffer` asks for, at the front of a slice
@@ -24,9 +24,9 @@ fn put_text(buffer: &Buffer, count: usize, text: &mut [u8]) -> usize
         → take r (now (text .exit)) ≡ printed input) × (r ≤ length (now (text .exit))) ⌝ }
 {
     match gate_text::gate_buffer(buffer, count, text) {
-        Answer::Done(n, v, e) => size(n),
-        Answer::Cut(n, v, e) => 0,
-        Answer::Refused(n, p) => 0,
+        Answer::Done(bytes, vertices, edges) => size(bytes),
+        Answer::Cut(steps, vertices, edges) => 0,
+        Answer::Refused(number, place) => 0,
     }
 }
 

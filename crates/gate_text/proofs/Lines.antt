@@ -13,25 +13,47 @@ use Rattle.words.specs.Stretches.{Wrote}
 use Rattle.words.proofs.Stretches.{Writing, start, turn, called, done}
 use Rattle.text_writer.proofs.Lines.{first-fits}
 
-module _ (g : List ℕ) (v o p first last : ℕ) (owned : o ≡ ownerIn g v) (ranked : p ≡ priorityIn g v)
-    (begins : first ≡ edgesFrom g 0 v)
-    (ends : last ≡ edgesFrom g 0 (v + 1)) where
-  targets-read : targetsIn g v ≡ slice first last g
-  targets-read = rw (begins, ends, add-one v) refl
+-- what the code has read of vertex v: its owner and priority, and where its targets begin and end
+pub record Read (g : List ℕ) (v : ℕ) : Type 0 where
+  pub owner : ℕ
+  pub priority : ℕ
+  pub first : ℕ
+  pub last : ℕ
+  pub owned : owner ≡ ownerIn g v
+  pub ranked : priority ≡ priorityIn g v
+  pub begins : first ≡ edgesFrom g 0 v
+  pub ends : last ≡ edgesFrom g 0 (v + 1)
 
-  vertex-parts : vertexLine g v ≡ decimal v ++ ((32 ∷ decimal o) ++ ((32 ∷ decimal p) ++ (spaced (slice first last g) ++ (10 ∷ []))))
+abbrev pub newline : List ℕ
+newline = 10 ∷ []
+
+-- what is left of the vertex's line behind its priority, behind its owner, behind its number
+abbrev pub behindPriority : {g : List ℕ} {v : ℕ} → Read g v → List ℕ
+behindPriority {g} r = spaced (slice (r .first) (r .last) g) ++ newline
+
+abbrev pub behindOwner : {g : List ℕ} {v : ℕ} → Read g v → List ℕ
+behindOwner r = (32 ∷ decimal (r .priority)) ++ behindPriority r
+
+abbrev pub behindNumber : {g : List ℕ} {v : ℕ} → Read g v → List ℕ
+behindNumber r = (32 ∷ decimal (r .owner)) ++ behindOwner r
+
+module _ {g : List ℕ} {v : ℕ} (r : Read g v) where
+  targets-read : targetsIn g v ≡ slice (r .first) (r .last) g
+  targets-read = rw (r .begins, r .ends, add-one v) refl
+
+  vertex-parts : vertexLine g v ≡ decimal v ++ behindNumber r
   unfolding vertexLine line spaced
   vertex-parts =
-      let a : List ℕ = decimal o in
-      let b : List ℕ = decimal p in
-      let ts : List ℕ = spaced (slice first last g) in
-      ap (λ (n : ℕ). decimal v ++ (spaced (n ∷ priorityIn g v ∷ targetsIn g v) ++ (10 ∷ []))) (sym owned)
-      ∙ ap (λ (n : ℕ). decimal v ++ (spaced (o ∷ n ∷ targetsIn g v) ++ (10 ∷ []))) (sym ranked)
-      ∙ ap (λ (l : List ℕ). decimal v ++ (spaced (o ∷ p ∷ l) ++ (10 ∷ []))) targets-read
-      ∙ ap (λ (l : List ℕ). decimal v ++ (32 ∷ l)) (append-assoc a (32 ∷ (b ++ ts)) (10 ∷ []) ∙ ap (λ (l : List ℕ). a ++ (32 ∷ l)) (append-assoc b ts (10 ∷ [])))
+      let a : List ℕ = decimal (r .owner) in
+      let b : List ℕ = decimal (r .priority) in
+      let ts : List ℕ = spaced (slice (r .first) (r .last) g) in
+      ap (λ (n : ℕ). decimal v ++ (spaced (n ∷ priorityIn g v ∷ targetsIn g v) ++ newline)) (sym (r .owned))
+      ∙ ap (λ (n : ℕ). decimal v ++ (spaced (r .owner ∷ n ∷ targetsIn g v) ++ newline)) (sym (r .ranked))
+      ∙ ap (λ (l : List ℕ). decimal v ++ (spaced (r .owner ∷ r .priority ∷ l) ++ newline)) targets-read
+      ∙ ap (λ (l : List ℕ). decimal v ++ (32 ∷ l))
+      (append-assoc a (32 ∷ (b ++ ts)) newline ∙ ap (λ (l : List ℕ). a ++ (32 ∷ l)) (append-assoc b ts newline))
 
-  pub vertex-start : (text : List ℕ) (at : ℕ)
-      → Writing at (decimal v ++ ((32 ∷ decimal o) ++ ((32 ∷ decimal p) ++ (spaced (slice first last g) ++ (10 ∷ []))))) text at (vertexLine g v) text
+  pub vertex-start : (text : List ℕ) (at : ℕ) → Writing at (decimal v ++ behindNumber r) text at (vertexLine g v) text
   vertex-start text at = turn vertex-parts start
 
 lines-more : (g : List ℕ) (v n : ℕ) → v < n → vertexLines g v (n - v) ≡ vertexLine g v ++ vertexLines g (v + 1) (n - (v + 1))

@@ -14,6 +14,7 @@ use Rattle.rules.specs.Run.{Outcome, run}
 use Rattle.rules.specs.Demands.{Demand1, Demand3}
 use Rattle.rules.specs.Restrict.{Restricted, reachedVertices, restriction}
 use Rattle.rules.specs.Restricts.{Restricts, RestrictionDemand1}
+use Rattle.satisfaction.specs.Claims.{NoFalsePass}
 
 -- the first word tells the kind of an answer
 unlike : (a b : Answer) → said a ≡ said b → (¬ (word (said a) 0 ≡ word (said b) 0)) → a ≡ b
@@ -37,11 +38,12 @@ module _ (x : Input) (r : Room) (k : ℕ) (game work g w : List ℕ) where
   pub run-carried : (ws : List ℕ) (a : Answer) → ws ≡ said a
       → (_≡_ {A = Outcome} (record { answer = a; game = g; work = w }) (run byDepth x r k game work))
       × ((said a ≡ said (run byDepth x r k game work .answer))
-      × ((Demand1 x r k game work a g w) × (Demand3 byDepth x k a g)))
+      × ((Demand1 x r k game work a g w) × ((Demand3 byDepth x k a g) × NoFalsePass x a g)))
       → (ws ≡ said (run byDepth x r k game work .answer))
       × (Says ws (λ b. _≡_ {A = Outcome} (record { answer = b; game = g; work = w }) (run byDepth x r k game work))
-      × (Says ws (λ b. Demand1 x r k game work b g w) × Says ws (λ b. Demand3 byDepth x k b g)))
-  run-carried ws a e (p, (c, (q, s))) = (e ∙ c, ((a, e, p), ((a, e, q), (a, e, s))))
+      × (Says ws (λ b. Demand1 x r k game work b g w)
+      × (Says ws (λ b. Demand3 byDepth x k b g) × Says ws (λ b. NoFalsePass x b g))))
+  run-carried ws a e (p, (c, (q, (s, m)))) = (e ∙ c, ((a, e, p), ((a, e, q), ((a, e, s), (a, e, m)))))
 
 -- what the restriction promises
 module _ (game out mapping work h ns w : List ℕ) where

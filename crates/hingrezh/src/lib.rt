@@ -9,12 +9,13 @@ ghost use Rattle.rules.specs.Run.{Outcome, run};
 ghost use Rattle.rules.specs.Demands.{Demand1, Demand3};
 ghost use Rattle.rules.specs.Restrict.{Restricted, reachedVertices, restriction};
 ghost use Rattle.rules.specs.Restricts.{Restricts, RestrictionDemand1};
+ghost use Rattle.satisfaction.specs.Claims.{NoFalsePass};
 
 // The four words of an answer.
-fn put_answer(a: Answer, answer: &mut [u32; 4])
-    ensures { λ _. ⌜ now (answer .exit) ≡ said a ⌝ }
+fn put_answer(result: Answer, answer: &mut [u32; 4])
+    ensures { λ _. ⌜ now (answer .exit) ≡ said result ⌝ }
 {
-    match a {
+    match result {
         Answer::Done(steps, vertices, edges) => {
             *answer = [0, steps, vertices, edges];
         }
@@ -41,22 +42,21 @@ pub extern "C" fn hingrezh_translate(
     work: &mut [u32],
     answer: &mut [u32; 4],
 )
-    ensures coded { λ _. ⌜ now (answer .exit) ≡ said (run byDepth
-        (inputOf (now (labels .entry)) (now (system .entry)) (now (actions .entry)) (now (formula .entry)))
-        (roomOf vertices edges) limit (now (game .entry)) (now (work .entry)) .answer) ⌝ }
+    ensures coded { λ _. ⌜ now (answer .exit) ≡ said (run byDepth (inputOf (now (labels .entry)) (now (system .entry))
+        (now (actions .entry)) (now (formula .entry))) (roomOf vertices edges) limit (now (game .entry)) (now (work .entry)) .answer) ⌝ }
     ensures equals { λ _. ⌜ Says (now (answer .exit)) (λ a.
         _≡_ {A = Outcome} (record { answer = a; game = now (game .exit); work = now (work .exit) })
         (run byDepth (inputOf (now (labels .entry)) (now (system .entry)) (now (actions .entry)) (now (formula .entry)))
         (roomOf vertices edges) limit (now (game .entry)) (now (work .entry)))) ⌝ }
-    ensures demand1 { λ _. ⌜ Says (now (answer .exit)) (λ a. Demand1
-        (inputOf (now (labels .entry)) (now (system .entry)) (now (actions .entry)) (now (formula .entry)))
-        (roomOf vertices edges) limit (now (game .entry)) (now (work .entry))
-        a (now (game .exit)) (now (work .exit))) ⌝ }
-    ensures demand3 { λ _. ⌜ Says (now (answer .exit)) (λ a. Demand3 byDepth
-        (inputOf (now (labels .entry)) (now (system .entry)) (now (actions .entry)) (now (formula .entry)))
-        limit a (now (game .exit))) ⌝ }
+    ensures demand1 { λ _. ⌜ Says (now (answer .exit)) (λ a. Demand1 (inputOf (now (labels .entry))
+        (now (system .entry)) (now (actions .entry)) (now (formula .entry))) (roomOf vertices edges) limit
+        (now (game .entry)) (now (work .entry)) a (now (game .exit)) (now (work .exit))) ⌝ }
+    ensures demand3 { λ _. ⌜ Says (now (answer .exit)) (λ a. Demand3 byDepth (inputOf (now (labels .entry))
+        (now (system .entry)) (now (actions .entry)) (now (formula .entry))) limit a (now (game .exit))) ⌝ }
+    ensures no_false_pass { λ _. ⌜ Says (now (answer .exit)) (λ a. NoFalsePass (inputOf (now (labels .entry))
+        (now (system .entry)) (now (actions .entry)) (now (formula .entry))) a (now (game .exit))) ⌝ }
 {
-    let a = translate::translate(
+    let result = translate::translate(
         labels,
         system,
         actions,
@@ -67,7 +67,7 @@ pub extern "C" fn hingrezh_translate(
         game,
         work,
     );
-    put_answer(a, answer);
+    put_answer(result, answer);
 }
 
 // The restriction: see `compute_reachable` of the crate reachability, whose contract this is of the answer that the
@@ -91,6 +91,6 @@ pub extern "C" fn hingrezh_compute_reachable(
         (now (game .entry)) (now (out .entry)) (now (map .entry)) (now (work .entry)) a
         (now (out .exit)) (now (map .exit)) (now (work .exit))) ⌝ }
 {
-    let a = reachability::compute_reachable(game, out, map, work);
-    put_answer(a, answer);
+    let result = reachability::compute_reachable(game, out, map, work);
+    put_answer(result, answer);
 }

@@ -44,7 +44,8 @@ fn check_room(room: Room, game_len: usize, work_len: usize) -> Check
 // 31 to 45: the action formulas, then the formula.
 fn check_formulas(labels: &[u32], actions: &[u32], formula: &[u32]) -> Check
     requires { ⌜ 0 < length (now labels) ⌝ }
-    ensures { λ r. ⌜ r ≡ firstFault (formulaChecks (now (labels .entry)) (now (actions .entry)) (now (formula .entry))) ⌝ }
+    ensures { λ r. ⌜ r
+        ≡ firstFault (formulaChecks (now (labels .entry)) (now (actions .entry)) (now (formula .entry))) ⌝ }
 {
     let checked = action_words::check_actions(labels, actions);
     match checked {

@@ -1,13 +1,13 @@
 -- What was written into the tables of the items: one item's words, and the stretch of the priorities. Assumes nothing.
-use mathlib.Core.Path.{_≡_, refl, sym, ap, _∙_}
+use mathlib.Core.Path.{_≡_, refl, _∙_}
 use mathlib.Core.List.{List, _++_}
 use Prim.Native.Nat.{ℕ, _+_, _≤_, _<_}
 use native.Mathlib.Omega.{arith}
-use lib.ListN.{length, set, take, drop, length-set, length-take, length-drop, length-append, take-append-drop}
-use lib.Seq.{drop-set-lt, drop-drop, drop-append-le, take-append-le, drop-at, take-at, length-take-le}
+use lib.ListN.{length, set, take, drop, length-set, length-take, length-drop}
+use lib.Seq.{drop-set-lt}
 use Rattle.compiled.specs.Stretches.{wordCount, stretch, kindsIn, leftsIn, rightsIn, prioritiesIn}
 use Rattle.compiled.proofs.Laws.{stretch-length}
-use Rattle.compiled.proofs.Lent.{lentBack, back-length, back-within, back-before, back-behind}
+use Rattle.compiled.proofs.Lent.{back-length, back-within, back-before, back-behind}
 use Rattle.alike_nodes.specs.declared.Shape.{Shape}
 use Rattle.alike_nodes.proofs.Columns.{first-put, second-put, third-put}
 use Rattle.item_table.specs.Entries.{ItemsOnly, EntryPut, PrioritiesOnly}

@@ -212,45 +212,42 @@ fn put_subformulas(
     }
 }
 
-// Puts all items into the table.
-fn put_items(
+// Numbers the nodes and puts all items into the table, with `acts` and `numbers` to work in. Returns how many items
+// there are.
+fn make_items(
     labels: &[u32],
     system: &[u32],
     actions: &[u32],
     formula: &[u32],
     table: &EquationTable,
-    acts: &[u32],
-    numbers: &[u32],
     count: usize,
-    compiled: &mut Compiled,
-)
+    acts: &mut [u32],
+    numbers: &mut [u32],
+    out: &mut Compiled,
+) -> usize
     ghost { Input }
     requires { λ x. ⌜ inputOf (now labels) (now system) (now actions) (now formula) ≡ x ⌝ }
-    requires { λ x. ⌜ GoodInput x × Listed (x .formula) (now table) × (count ≡ equationCount (x .formula)) ⌝ }
-    requires { λ x. ⌜ ActionNumbers x (now acts) × ItemNumbers x (now numbers) × (length (now compiled) ≡ wordCount) ⌝ }
-    ensures { λ x _. ⌜ ShownIn x (length (items x)) (now (compiled .exit))
-        × ItemsOnly (now (compiled .entry)) (now (compiled .exit)) ⌝ }
+    requires { λ x. ⌜ GoodInput x × Classes (x .labels) (classesIn (now out)) × (length (now out) ≡ wordCount) ⌝ }
+    requires { λ x. ⌜ Listed (x .formula) (now table) × (count ≡ equationCount (x .formula)) ⌝ }
+    requires { λ x. ⌜ (1024 ≤ length (now acts)) × (1024 ≤ length (now numbers)) ⌝ }
+    ensures { λ x r. ⌜ r ≡ length (items x) ⌝ }
+    ensures { λ x _. ⌜ ShownIn x (length (items x)) (now (out .exit)) ⌝ }
+    ensures { λ x _. ⌜ ItemsOnly (now (out .entry)) (now (out .exit)) ⌝ }
 {
-    put_equations(
+    let items = number_all(
         labels,
         system,
         actions,
         formula,
+        out,
         table,
-        numbers,
         count,
-        compiled,
-    );
-    put_subformulas(
-        labels,
-        system,
-        actions,
-        formula,
         acts,
-        table,
         numbers,
-        compiled,
     );
+    put_equations(labels, system, actions, formula, table, numbers, count, out);
+    put_subformulas(labels, system, actions, formula, acts, table, numbers, out);
+    items
 }
 
 // Puts the priorities into the table: those of the equations, by depth, 0 elsewhere.
@@ -288,26 +285,15 @@ pub fn compile(
     let mut acts = [0u32; NODES];
     let mut numbers = [0u32; NODES];
     let count = list_equations(formula, &mut table);
-    let items = number_all(
+    let items = make_items(
         labels,
         system,
         actions,
         formula,
-        compiled,
         &table,
         count,
         &mut acts,
         &mut numbers,
-    );
-    put_items(
-        labels,
-        system,
-        actions,
-        formula,
-        &table,
-        &acts,
-        &numbers,
-        count,
         compiled,
     );
     put_priorities(formula, &table, count, compiled);

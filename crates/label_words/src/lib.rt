@@ -8,16 +8,16 @@ ghost use Rattle.rules.specs.Answers.{firstFault};
 ghost use Rattle.rules.specs.Labels.{actionCount};
 ghost use Rattle.rules.specs.Refusal.{badLabel, refusal11, refusal12, refusal13};
 
-// The label number at word p is L or more, or less than the one before it.
-fn bad_label(labels: &[u32], p: usize) -> bool
-    requires { ⌜ (2 ≤ p) × (p < length (now labels)) ⌝ }
-    ensures { λ r. ⌜ r ≡ badLabel (now (labels .entry)) p ⌝ }
+// The label number at word `place` is L or more, or less than the one before it.
+fn bad_label(labels: &[u32], place: usize) -> bool
+    requires { ⌜ (2 ≤ place) × (place < length (now labels)) ⌝ }
+    ensures { λ r. ⌜ r ≡ badLabel (now (labels .entry)) place ⌝ }
 {
-    if labels[0] <= labels[p] {
+    if labels[0] <= labels[place] {
         return true;
     }
-    if 2 < p {
-        labels[p] < labels[p - 1]
+    if 2 < place {
+        labels[place] < labels[place - 1]
     } else {
         false
     }

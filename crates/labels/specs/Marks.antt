@@ -3,8 +3,10 @@
 use mathlib.Core.Path.{_≡_}
 use mathlib.Core.List.{List}
 use Prim.Native.Nat.{ℕ, zero, suc, _+_, _-_, _*_, _/_, _%_, _^_, _<_}
+use lib.ListN.{length}
 use Rattle.rules.specs.Lists.{word}
-use Rattle.rules.specs.Labels.{actionAt}
+use Rattle.rules.specs.Labels.{labelCount, actionAt}
+use Rattle.tables.specs.Good.{GoodLabels}
 use Rattle.labels.specs.Stretches.{Stretch}
 
 -- an action's number, stirred: a number below 2^32
@@ -33,3 +35,7 @@ pub record MarkOf (ls : List ℕ) (l s m : ℕ) : Type 0 where
 -- the entries of the first n labels are their starts and their marks
 abbrev pub Marked : (ls starts marks : List ℕ) (n : ℕ) → Type 0
 Marked ls starts marks n = (l : ℕ) → l < n → MarkOf ls l (word starts l) (word marks l)
+
+-- label l is one of good labels, and has its entry, as those before it have
+abbrev pub MarkedUpTo : (ls starts marks : List ℕ) (l : ℕ) → Type 0
+MarkedUpTo ls starts marks l = GoodLabels ls × (l < labelCount ls) × (l < length marks) × Marked ls starts marks (l + 1)

@@ -9,7 +9,7 @@ ghost use Rattle.rules.specs.Labels.{labelCount, actionCount, labelAt, actionAt
 ghost use Rattle.tables.specs.Good.{GoodLabels};
 ghost use Rattle.labels.specs.Classes.{Classes};
 ghost use Rattle.labels.specs.Stretches.{timesIn, coveredIn, Within, Starts, Stretch, StretchOf};
-ghost use Rattle.labels.specs.Marks.{weight, weightIn, MarkOf, Marked};
+ghost use Rattle.labels.specs.Marks.{weight, weightIn, MarkOf, Marked, MarkedUpTo};
 
 // How many labels there are at most.
 const LABELS: usize = 4096;
@@ -201,9 +201,7 @@ fn same_as(
 
 // The lowest label with the multiset of `label`.
 fn lowest_same(labels: &[u32], starts: &LabelStarts, marks: &[u32], label: u32) -> u32
-    requires { ⌜ GoodLabels (now labels) ⌝ }
-    requires { ⌜ (label < labelCount (now labels)) × (label < length (now marks)) ⌝ }
-    requires { ⌜ Marked (now labels) (now starts) (now marks) (label + 1) ⌝ }
+    requires { ⌜ MarkedUpTo (now labels) (now starts) (now marks) label ⌝ }
     ensures { λ r. ⌜ r ≡ multiset (now (labels .entry)) label ⌝ }
 {
     let at = label as usize;
@@ -223,9 +221,7 @@ fn lowest_same(labels: &[u32], starts: &LabelStarts, marks: &[u32], label: u32) 
 
 // The multiset of a label: the label itself if none before it has its mark.
 fn class_of(labels: &[u32], starts: &LabelStarts, marks: &[u32], label: u32) -> u32
-    requires { ⌜ GoodLabels (now labels) ⌝ }
-    requires { ⌜ (label < labelCount (now labels)) × (label < length (now marks)) ⌝ }
-    requires { ⌜ Marked (now labels) (now starts) (now marks) (label + 1) ⌝ }
+    requires { ⌜ MarkedUpTo (now labels) (now starts) (now marks) label ⌝ }
     ensures { λ r. ⌜ r ≡ multiset (now (labels .entry)) label ⌝ }
 {
     let at = label as usize;

@@ -16,7 +16,7 @@ fn run_in(
 ) {
     let mut game = [0u32; 30];
     let mut work = [0u32; 64];
-    let a = translate::translate(
+    let answer = translate::translate(
         labels,
         system,
         actions,
@@ -27,7 +27,7 @@ fn run_in(
         &mut game,
         &mut work,
     );
-    stored_runs::answer_line(a);
+    stored_runs::answer_line(answer);
 }
 
 fn attempt(labels: &[u32], system: &[u32], actions: &[u32], formula: &[u32]) {

@@ -6,7 +6,7 @@ use mathlib.Core.List.{List, [], _∷_, _++_, map, append-nil, append-assoc}
 use mathlib.Core.Logic.{_⊎_, inl, inr, ⊎-elim, _↔_}
 use Prim.Native.Nat.{suc, _+_, _≤_}
 use native.Mathlib.Omega.{arith}
-use lib.ListN.{length, take, drop, length-append, length-map}
+use lib.ListN.{length, drop, length-append, length-map}
 use lib.Seq.{drop-append-seam, drop-length}
 use Rattle.rules.specs.Lists.{In, Distinct, has, position, insert, insertAll, once}
 use Rattle.lists.specs.Shapes.{Equality, Begins, added, positions}

@@ -3,10 +3,9 @@
 use mathlib.Core.Path.{_≡_, sym, ap, ap₂, _∙_}
 use mathlib.Core.Bool.{Bool, true, false, not, _&&_, _||_}
 use mathlib.Core.List.{List}
-use Prim.Native.Nat.{ℕ, suc, _+_, _≤_, _<_}
+use Prim.Native.Nat.{ℕ, suc, _+_, _-_, _≤_, _<_}
 use native.Mathlib.Omega.{arith}
 use native.Mathlib.Numerals.{add-one}
-use lib.ListN.{length}
 use lib.Dec.{eqb}
 use Rattle.rules.specs.Lists.{word}
 use Rattle.rules.specs.Labels.{labelCount, multiset}
@@ -18,11 +17,19 @@ use Rattle.trees.proofs.ActionTrees.{any-matches, never-matches, multi-matches,
 
 module _ (l : ℕ) (acts : List ℕ) (good : GoodActions l acts) (v : ℕ) (h : v < size acts) (k : ℕ) (is : k ≡ kind acts v) where
   -- where the children are
-  pub next-within : 3 ≤ k → v + 1 < size acts
+  next-within : 3 ≤ k → v + 1 < size acts
   next-within p = omega (arith, good .nodes v h .next (omega arith))
 
-  pub right-within : (o : ℕ) → o ≡ operand acts v → 3 ≤ k → k ≤ 4 → (v < o) × (o < size acts)
+  right-within : (o : ℕ) → o ≡ operand acts v → 3 ≤ k → k ≤ 4 → (v < o) × (o < size acts)
   right-within o e p q = let r = good .nodes v h .right (omega arith) (omega arith) in (omega (arith, r, e), omega (arith, r, e))
+
+  -- what a call at a child asks, where t is the measure
+  pub next-asked : 3 ≤ k → (t : ℕ) → size acts - v ≡ t → (size acts - (v + 1) < t) × (GoodActions l acts × (v + 1 < size acts))
+  next-asked p t m = let n = next-within p in (omega arith, (good, n))
+
+  pub right-asked : (o : ℕ) → o ≡ operand acts v → 3 ≤ k → k ≤ 4 → (t : ℕ) → size acts - v ≡ t
+      → (size acts - o < t) × (GoodActions l acts × (o < size acts))
+  right-asked o e p q t m = let r = right-within o e p q in (omega arith, (good, r .1))
 
   -- a multi-action's label has an entry
   pub label-within : (o : ℕ) → o ≡ operand acts v → k ≡ 2 → o < l

@@ -1,7 +1,8 @@
+pub mod Tests
 pub mod Quantifiers
+pub mod Moving
 pub mod Steps
-pub mod Values
-pub mod Heights
-pub mod Rows
-pub mod Meaning
-pub mod Cases
+pub mod Iterates
+pub mod Evaluates
+pub mod Told
+pub mod Clauses

@@ -13,7 +13,7 @@ use Rattle.rules.specs.Pairs.{matchingTransitions, successors}
 use Rattle.lists.proofs.Inserts.{once-in}
 use Rattle.lists.proofs.Equalities.{number-equality}
 use Rattle.meaning.specs.Quantifiers.{all, any}
-use Rattle.meaning.specs.Modal.{does, leadsTo}
+use Rattle.meaning.specs.Satisfies.{labelMatches, leadsTo}
 use Rattle.meaning.proofs.Quantifiers.{all-members, any-members, all-map, any-map}
 
 -- ---- over the elements for which another test holds
@@ -43,19 +43,19 @@ module _ {A : Type 0} (f test : A → Bool) where
 
 module _ (x : Input) (a : Action) (test : ℕ → Bool) where
   pub successors-all : (s : ℕ)
-      → all test (successors x a s) ≡ all (λ t. not (does x a t) || test (leadsTo x t)) (transitions (x .system) s)
+      → all test (successors x a s) ≡ all (λ t. not (labelMatches x a t) || test (leadsTo x t)) (transitions (x .system) s)
   unfolding successors matchingTransitions
   successors-all s =
       let ms = map (leadsTo x) (matchingTransitions x a s) in
       all-members test (once eqb ms) ms (once-in number-equality ms)
       ∙ all-map test (leadsTo x) (matchingTransitions x a s)
-      ∙ all-filter (does x a) (λ t. test (leadsTo x t)) (transitions (x .system) s)
+      ∙ all-filter (labelMatches x a) (λ t. test (leadsTo x t)) (transitions (x .system) s)
 
   pub successors-any : (s : ℕ)
-      → any test (successors x a s) ≡ any (λ t. does x a t && test (leadsTo x t)) (transitions (x .system) s)
+      → any test (successors x a s) ≡ any (λ t. labelMatches x a t && test (leadsTo x t)) (transitions (x .system) s)
   unfolding successors matchingTransitions
   successors-any s =
       let ms = map (leadsTo x) (matchingTransitions x a s) in
       any-members test (once eqb ms) ms (once-in number-equality ms)
       ∙ any-map test (leadsTo x) (matchingTransitions x a s)
-      ∙ any-filter (does x a) (λ t. test (leadsTo x t)) (transitions (x .system) s)
+      ∙ any-filter (labelMatches x a) (λ t. test (leadsTo x t)) (transitions (x .system) s)

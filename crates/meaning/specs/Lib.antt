@@ -1,3 +1,3 @@
 pub mod Quantifiers
-pub mod Modal
-pub mod Winning
+pub mod Satisfies
+pub mod Evaluation

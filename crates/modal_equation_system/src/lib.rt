@@ -13,9 +13,10 @@ ghost use lib.ListN.{length};
 ghost use lib.Dec.{eqb};
 ghost use Rattle.rules.specs.Lists.{one};
 ghost use Rattle.rules.specs.Table.{size, formulaNode};
-ghost use Rattle.rules.specs.Formula.{isFixpoint, equationNumber, equationCount};
+ghost use Rattle.rules.specs.Formula.{isFixpoint, equationCount};
 ghost use Rattle.rules.specs.Depth.{depth, byDepth};
-ghost use Rattle.modal_equation_system.specs.System.{formulaOnly, Good, linkIn, kindIn, bodyIn, leastIn, withNode, withEquation};
+ghost use Rattle.modal_equation_system.specs.System.{formulaOnly, Good};
+ghost use Rattle.modal_equation_system.specs.System.{linkIn, kindIn, bodyIn, leastIn, withNode, withEquation};
 ghost use Rattle.modal_equation_system.specs.System.{Listed, ListedNode, ListedEquation};
 ghost use Rattle.modal_equation_system.specs.System.{ReadsBody, ReadsEquation, RankedBy};
 ghost use Rattle.modal_equation_system.specs.Listing.{Listing, Counts, LinkBy, Linkable};
@@ -118,10 +119,10 @@ fn put_equation(table: &mut EquationTable, equation: usize, body: u32, least: u3
 }
 
 // A word as a usize.
-fn wide(x: u32) -> usize
-    ensures { λ r. ⌜ r ≡ x ⌝ }
+fn wide(word: u32) -> usize
+    ensures { λ r. ⌜ r ≡ word ⌝ }
 {
-    x as usize
+    word as usize
 }
 
 // ---- listing
@@ -195,10 +196,10 @@ pub fn list_equations(formula: &[u32], table: &mut EquationTable) -> usize
 }
 
 // 1 if two numbers are the same, else 0.
-fn is(a: usize, b: usize) -> u32
-    ensures { λ r. ⌜ r ≡ one (eqb a b) ⌝ }
+fn is(number: usize, other: usize) -> u32
+    ensures { λ r. ⌜ r ≡ one (eqb number other) ⌝ }
 {
-    if a == b { 1 } else { 0 }
+    if number == other { 1 } else { 0 }
 }
 
 // ---- reading: `read_body` and `read_equation` call each other down to the leaves. They are passed the table alone, so
@@ -210,16 +211,16 @@ fn differing(table: &EquationTable, first: usize, second: usize) -> u32
     ensures { λ r. ⌜ (r ≡ one (not (eqb (leastIn (now (table .entry)) first) (leastIn (now (table .entry)) second))))
         × (r ≤ 1) ⌝ }
 {
-    let a = operator_of(table, first);
-    let b = operator_of(table, second);
-    if a == b { 0 } else { 1 }
+    let own = operator_of(table, first);
+    let other = operator_of(table, second);
+    if own == other { 0 } else { 1 }
 }
 
 // The larger of two numbers.
-fn larger(a: u32, b: u32) -> u32
-    ensures { λ r. ⌜ r ≡ max a b ⌝ }
+fn larger(left: u32, right: u32) -> u32
+    ensures { λ r. ⌜ r ≡ max left right ⌝ }
 {
-    if a < b { b } else { a }
+    if left < right { right } else { left }
 }
 
 // Reads the subformula of `node` for `target`, in the body of `equation`.

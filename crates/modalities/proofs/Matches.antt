@@ -11,7 +11,7 @@ use Rattle.rules.specs.Lists.{word, one, from, filter, once}
 use Rattle.rules.specs.Words.{Input, inputOf}
 use Rattle.rules.specs.Labels.{multiset}
 use Rattle.rules.specs.System.{degree, transitionLabel, transitionTarget, firstTransition, transitions}
-use Rattle.rules.specs.Actions.{Action, matches}
+use Rattle.rules.specs.Actions.{Action, actionTree, matches}
 use Rattle.rules.specs.Pairs.{matchingTransitions, successors}
 use Rattle.lists.proofs.Ranges.{in-from}
 use Rattle.lists.proofs.Members.{map-append}
@@ -19,7 +19,9 @@ use Rattle.lists.proofs.Filters.{filter-append, filter-agree}
 use Rattle.lists.proofs.Inserts.{once-map}
 use Rattle.lists.proofs.Equalities.{number-equality}
 use Rattle.pairs.specs.Slot.{keyOf}
-use Rattle.modalities.specs.Matched.{Answered, targetKeys, matchedKeys, answeredKeys}
+use Rattle.modalities.specs.declared.Modality.{Modality}
+use Rattle.modalities.specs.declared.Moves.{Moves}
+use Rattle.modalities.specs.Matched.{Answered, targetKeys, matchedKeys, answeredKeys, modalityKeys, numbersOf, OfState}
 
 module _ (ss answers : List ℕ) (item : ℕ) where
   pub answered-none : answeredKeys ss answers item [] ≡ []
@@ -73,14 +75,14 @@ matched-all x a item s =
     once-map number-equality number-equality (λ t. keyOf t item) (λ t. Unit {0}) (λ p q f g e. omega arith)
     (map (transitionTarget (x .system)) (matchingTransitions x a s)) (λ t m. tt)
 
--- the same, where the loop begins and ends at these numbers
-pub matched-state : (x : Input) (a : Action) (item s first end : ℕ) → first ≡ firstTransition (x .system) s
-    → end ≡ first + degree (x .system) s
-    → once eqb (matchedKeys (x .labels) (x .system) a item (from first (end - first)))
-    ≡ map (λ t. keyOf t item) (successors x a s)
-matched-state x a item s first end e d =
-    let z : end - first ≡ degree (x .system) s = omega arith in
-    rw (z, e) (matched-all x a item s)
+-- the same for a modality, where the loop goes over the transitions of its state
+pub matched-modality : (x : Input) (m : Modality) (moves : Moves) → OfState (x .system) (m .state) moves
+    → once eqb (matchedKeys (x .labels) (x .system) (actionTree (x .labels) (x .actions) (m .action)) (m .operand)
+    (numbersOf moves))
+    ≡ modalityKeys x m
+matched-modality x m moves of =
+    let z : moves .end - moves .first ≡ degree (x .system) (m .state) = omega (arith, of .end) in
+    rw (z, of .first) (matched-all x (actionTree (x .labels) (x .actions) (m .action)) (m .operand) (m .state))
 
 -- a state's successors are the same whatever the formula's words are: they are not looked at
 pub successors-any : (l s a f : List ℕ) (t : Action) (n : ℕ)

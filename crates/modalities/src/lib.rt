@@ -45,20 +45,26 @@ pub struct Moves {
     pub targets: usize,
 }
 
-// The label of transition t.
-fn label_of(system: &[u32], moves: Moves, t: usize) -> usize
-    requires { ⌜ System (now system) × Within (now system) moves × (t < transitionCount (now system)) ⌝ }
-    ensures { λ r. ⌜ r ≡ transitionLabel (now (system .entry)) t ⌝ }
+// The item of a modality's operand and its multiple, from which the slots of all its targets are told.
+struct Operand {
+    item: u32,
+    scaled: u32,
+}
+
+// The label of a transition.
+fn label_of(system: &[u32], moves: Moves, transition: usize) -> usize
+    requires { ⌜ System (now system) × Within (now system) moves × (transition < transitionCount (now system)) ⌝ }
+    ensures { λ r. ⌜ r ≡ transitionLabel (now (system .entry)) transition ⌝ }
 {
-    at(system, moves.labels + t)
+    at(system, moves.labels + transition)
 }
 
 // Its target state.
-fn target_of(system: &[u32], moves: Moves, t: usize) -> u32
-    requires { ⌜ System (now system) × Within (now system) moves × (t < transitionCount (now system)) ⌝ }
-    ensures { λ r. ⌜ r ≡ transitionTarget (now (system .entry)) t ⌝ }
+fn target_of(system: &[u32], moves: Moves, transition: usize) -> u32
+    requires { ⌜ System (now system) × Within (now system) moves × (transition < transitionCount (now system)) ⌝ }
+    ensures { λ r. ⌜ r ≡ transitionTarget (now (system .entry)) transition ⌝ }
 {
-    let place = moves.targets + t;
+    let place = moves.targets + transition;
     system[place]
 }
 
@@ -83,38 +89,46 @@ fn moves_of(system: &[u32], compiled: &Compiled, state: u32) -> Moves
 // One transition of a modality's state: its target is met if the answer for its label is 1. The answers have a byte for
 // each label.
 fn follow(
-    c: Counters,
+    counters: Counters,
     multiples: &[u32],
     work: &mut [u32],
     room: Room,
     system: &[u32],
     answers: &[u8],
     moves: Moves,
-    t: usize,
-    item: u32,
-    scaled: u32,
+    transition: usize,
+    operand: Operand,
 ) -> Stepped
-    requires { ⌜ Scaled (now multiples) item scaled × System (now system) × Within (now system) moves ⌝ }
-    requires { ⌜ Ready (now work) (room .vertices) (room .edges) c × (c .settled < c .known) ⌝ }
-    requires { ⌜ (t < transitionCount (now system)) × (item < 2048)
-        × (transitionLabel (now system) t < length (now answers)) ⌝ }
-    ensures { λ r. ⌜ ((ts : List ℕ) → Marked (now (work .entry)) (room .vertices) c ts
-        → Gathered (now (work .entry)) (room .vertices) (room .edges) c ts
-        (answeredKeys (now (system .entry)) (now (answers .entry)) item (t ∷ [])) (now (work .exit)) r) ⌝ }
+    requires { ⌜ Scaled (now multiples) (operand .item) (operand .scaled) × System (now system)
+        × Within (now system) moves ⌝ }
+    requires { ⌜ Ready (now work) (room .vertices) (room .edges) counters × (counters .settled < counters .known) ⌝ }
+    requires { ⌜ (transition < transitionCount (now system)) × (operand .item < 2048)
+        × (transitionLabel (now system) transition < length (now answers)) ⌝ }
+    ensures { λ r. ⌜ ((ts : List ℕ) → Marked (now (work .entry)) (room .vertices) counters ts
+        → Gathered (now (work .entry)) (room .vertices) (room .edges) counters ts (answeredKeys (now (system .entry))
+        (now (answers .entry)) (operand .item) (transition ∷ [])) (now (work .exit)) r) ⌝ }
 {
-    let label = label_of(system, moves, t);
+    let label = label_of(system, moves, transition);
     if answers[label] == 1 {
-        let target = target_of(system, moves, t);
-        return settling::target_once(c, multiples, work, room, target, item, scaled);
+        let target = target_of(system, moves, transition);
+        return settling::target_once(
+            counters,
+            multiples,
+            work,
+            room,
+            target,
+            operand.item,
+            operand.scaled,
+        );
     }
-    Stepped::Fits(c)
+    Stepped::Fits(counters)
 }
 
 // The transitions give their targets, each once. This is where a walk spends its time: no label is decided here, and
 // the words of labels and action formulas are no parameters, so that the compiler can keep what the loop needs in
 // registers.
 fn settle_matched(
-    c: Counters,
+    counters: Counters,
     compiled: &Compiled,
     work: &mut [u32],
     room: Room,
@@ -124,14 +138,14 @@ fn settle_matched(
     item: u32,
 ) -> Stepped
     requires { ⌜ Multiples (multiplesIn (now compiled)) × System (now system) × Within (now system) moves × (item < 2048) ⌝ }
-    requires { ⌜ Unmarked (now work) room c × HaveBytes (now system) (now answers) (moves .first) (moves .end) ⌝ }
-    ensures { λ r. ⌜ Answer (now (work .entry)) (room .vertices) (room .edges) c
-        (once eqb (answeredKeys (now (system .entry)) (now (answers .entry)) item (numbersOf moves)))
-        (now (work .exit)) r ⌝ }
+    requires { ⌜ Unmarked (now work) room counters × HaveBytes (now system) (now answers) (moves .first) (moves .end) ⌝ }
+    ensures { λ r. ⌜ Answer (now (work .entry)) (room .vertices) (room .edges) counters (once eqb
+        (answeredKeys (now (system .entry)) (now (answers .entry)) item (numbersOf moves))) (now (work .exit)) r ⌝ }
 {
     let multiples = compiled::multiples(compiled);
     let scaled = pairs::product(multiples, item);
-    let mut so_far = c;
+    let operand = Operand { item, scaled };
+    let mut so_far = counters;
     let mut t = moves.first;
     while t < moves.end {
         let Stepped::Fits(next) = follow(
@@ -143,8 +157,7 @@ fn settle_matched(
             answers,
             moves,
             t,
-            item,
-            scaled,
+            operand,
         ) else {
             return Stepped::Full;
         };
@@ -187,7 +200,7 @@ fn decide_labels(
 
 // The targets of the transitions, where the action formula has no row: their labels are decided first.
 fn settle_decided(
-    c: Counters,
+    counters: Counters,
     compiled: &Compiled,
     work: &mut [u32],
     room: Room,
@@ -199,9 +212,9 @@ fn settle_decided(
 ) -> Stepped
     requires { ⌜ Multiples (multiplesIn (now compiled)) ⌝ }
     requires { ⌜ Labelled (now labels) (now system) (now actions) (classesIn (now compiled)) ⌝ }
-    requires { ⌜ Unmarked (now work) room c ⌝ }
+    requires { ⌜ Unmarked (now work) room counters ⌝ }
     requires { ⌜ Within (now system) moves × (modality .action < size (now actions)) × (modality .operand < 2048) ⌝ }
-    ensures { λ r. ⌜ Answer (now (work .entry)) (room .vertices) (room .edges) c
+    ensures { λ r. ⌜ Answer (now (work .entry)) (room .vertices) (room .edges) counters
         (once eqb (matchedKeys (now (labels .entry)) (now (system .entry)) (actionTree (now (labels .entry))
         (now (actions .entry)) (modality .action)) (modality .operand) (numbersOf moves))) (now (work .exit)) r ⌝ }
 {
@@ -209,13 +222,22 @@ fn settle_decided(
     let classes = compiled::classes(compiled);
     let node = modality.action as usize;
     decide_labels(labels, system, actions, classes, moves, node, &mut answers);
-    let operand = modality.operand;
-    settle_matched(c, compiled, work, room, system, &answers, moves, operand)
+    let item = modality.operand;
+    settle_matched(
+        counters,
+        compiled,
+        work,
+        room,
+        system,
+        &answers,
+        moves,
+        item,
+    )
 }
 
 // The targets of a modality are met and get their edges. The formula is no parameter: successors do not depend on it.
 pub fn settle_modality(
-    c: Counters,
+    counters: Counters,
     compiled: &Compiled,
     work: &mut [u32],
     room: Room,
@@ -230,15 +252,15 @@ pub fn settle_modality(
     requires { λ x. ⌜ Labelled (x .labels) (x .system) (x .actions) (classesIn (now compiled)) ⌝ }
     requires { λ x. ⌜ Multiples (multiplesIn (now compiled)) × Samples (x .system) (samplesIn (now compiled))
         × MatchTable (x .labels) (x .actions) (now matched) ⌝ }
-    requires { λ x. ⌜ Unmarked (now work) room c × Inside x modality ⌝ }
-    ensures { λ x r. ⌜ Answer (now (work .entry)) (room .vertices) (room .edges) c (modalityKeys x modality)
+    requires { λ x. ⌜ Unmarked (now work) room counters × Inside x modality ⌝ }
+    ensures { λ x r. ⌜ Answer (now (work .entry)) (room .vertices) (room .edges) counters (modalityKeys x modality)
         (now (work .exit)) r ⌝ }
 {
     let answers = match_table::row(labels, actions, matched, modality.action as usize);
     let moves = moves_of(system, compiled, modality.state);
     if answers.len() == 0 {
         return settle_decided(
-            c,
+            counters,
             compiled,
             work,
             room,
@@ -249,6 +271,6 @@ pub fn settle_modality(
             modality,
         );
     }
-    let operand = modality.operand;
-    settle_matched(c, compiled, work, room, system, answers, moves, operand)
+    let item = modality.operand;
+    settle_matched(counters, compiled, work, room, system, answers, moves, item)
 }

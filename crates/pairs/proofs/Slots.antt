@@ -67,7 +67,7 @@ module _ (slots : List ℕ) (p k h : ℕ) where
 
 -- ---- where a key stands
 
-pub in-by : (k : ℕ) (ks : List ℕ) (i : ℕ) → i < length ks → word ks i ≡ k → In k ks
+in-by : (k : ℕ) (ks : List ℕ) (i : ℕ) → i < length ks → word ks i ≡ k → In k ks
 in-by k ks i l e = subst (λ (x : ℕ). In x ks) e (in-at ks i 0 l)
 
 module _ (slots ks : List ℕ) (v n : ℕ) (c : Slots slots ks v n) (long : length ks ≡ n) where

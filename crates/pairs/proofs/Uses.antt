@@ -1,14 +1,12 @@
 -- What a caller reads off a numbering, and that the table stays where the first four regions stay. Assumes nothing.
 use mathlib.Core.Path.{_≡_, sym, _∙_, ap, subst}
 use mathlib.Core.List.{List, [], _∷_}
-use mathlib.Core.Logic.{⊎-elim}
 use Prim.Native.Nat.{ℕ, _+_, _/_, _%_, _<_}
 use native.Mathlib.Omega.{arith}
 use lib.Dec.{eqb, lit<}
 use lib.ListN.{length, length-append}
 use Rattle.player.specs.declared.VertexIndex.{VertexIndex}
 use Rattle.rules.specs.Lists.{word, In, position, insert}
-use Rattle.lists.proofs.Members.{in-or}
 use Rattle.lists.proofs.Inserts.{insert-old, insert-new}
 use Rattle.lists.proofs.Equalities.{number-equality}
 use Rattle.words.specs.Regions.{region}
@@ -67,21 +65,18 @@ full-by w w′ v n k r p e = subst (λ (a : Numbered). Numbering w w′ v n k a)
 -- ---- key k was inserted
 
 module _ (w w′ : List ℕ) (v n k i m : ℕ) (p : Numbers w w′ v n k i m) where
-  pub known-now : m ≡ length (insert eqb (keysOf w v n) k)
+  known-now : m ≡ length (insert eqb (keysOf w v n) k)
   known-now = sym (length-keys w′ v m) ∙ ap length (p .keys)
 
   pub vertex-place : i ≡ position eqb k (keysOf w′ v m)
   vertex-place = p .vertex ∙ ap (position eqb k) (sym (p .keys))
 
   -- it was there, or is new: the count tells which
-  pub known-old : In k (keysOf w v n) → m ≡ n
+  known-old : In k (keysOf w v n) → m ≡ n
   known-old h = known-now ∙ ap length (insert-old number-equality (keysOf w v n) k h) ∙ length-keys w v n
 
   pub known-new : (¬ In k (keysOf w v n)) → m ≡ n + 1
   known-new h = omega (arith, known-now, ap length (insert-new number-equality (keysOf w v n) k h), length-append (keysOf w v n) (k ∷ []), length-keys w v n)
-
-  pub same-count : m ≡ n → In k (keysOf w v n)
-  same-count e = ⊎-elim (λ h. h) (λ h. absurd (omega (arith, known-new h))) (in-or number-equality k (keysOf w v n))
 
   pub more-count : (m ≡ n → ⊥) → ¬ In k (keysOf w v n)
   more-count d h = d (known-old h)

@@ -29,7 +29,7 @@ key-product s q =
     (sums (s * 2654435761 * 2048) (q * 2654435761) 4294967296 ∙ ap (λ (y : ℕ). y % 4294967296) (omega arith))
 
 -- p below 2^32 scaled to a room v stays below it
-pub below-room : (p v : ℕ) → p < 4294967296 → 0 < v → p * v / 4294967296 < v
+below-room : (p v : ℕ) → p < 4294967296 → 0 < v → p * v / 4294967296 < v
 below-room p v hp hv =
     div-lt-iff-lt-mul {k = 4294967296} {x = p * v} {y = v} (omega arith) .1 (rw (mul-comm v 4294967296) (mul-lt-mul-of-pos-right hp hv))
 

@@ -10,7 +10,7 @@ ghost use lib.ListN.{length};
 ghost use Rattle.rules.specs.Lists.{word};
 ghost use Rattle.words.specs.Regions.{putWord};
 ghost use Rattle.pairs.specs.Slot.{keyOf, slotOf, Multiples, Scaled};
-ghost use Rattle.pairs.specs.Table.{slotCount, slotsOf, keyIn, heldIn, keyAt, stateAt, itemAt, InSlots, Asks, Started};
+ghost use Rattle.pairs.specs.Table.{slotCount, slotsOf, keyIn, heldIn, stateAt, itemAt, InSlots, Asks, Started};
 ghost use Rattle.pairs.specs.Answers.{Probed, Finding, Numbering};
 
 // Each byte times 2,654,435,761, with everything above 32 bits dropped.
@@ -298,27 +298,28 @@ fn multiple(multiples: &[u32], byte: usize) -> u32
     multiples[byte]
 }
 
-// x times 2,654,435,761, with everything above 32 bits dropped: a wrapping sum of the multiples of its two bytes.
-pub fn product(multiples: &[u32], x: u32) -> u32
+// The factor times 2,654,435,761, with everything above 32 bits dropped: a wrapping sum of the multiples of its two
+// bytes.
+pub fn product(multiples: &[u32], factor: u32) -> u32
     requires { ⌜ Multiples (now multiples) ⌝ }
-    requires { ⌜ x < 65536 ⌝ }
-    ensures { λ r. ⌜ r ≡ x * 2654435761 % 2 ^ 32 ⌝ }
+    requires { ⌜ factor < 65536 ⌝ }
+    ensures { λ r. ⌜ r ≡ factor * 2654435761 % 2 ^ 32 ⌝ }
 {
-    let low = multiple(multiples, (x % 256) as usize);
-    let high = multiple(multiples, (x / 256) as usize) << 8;
+    let low = multiple(multiples, (factor % 256) as usize);
+    let high = multiple(multiples, (factor / 256) as usize) << 8;
     std::num::wrapping_add_u32(low, high)
 }
 
-// The slot from which the search for a pair starts, where there are v slots. The product of the key is that of the
-// state, times 2,048, and that of the item, which is handed over: it is the same for all targets of a modality.
-fn slot_of(multiples: &[u32], state: u32, item: u32, scaled: u32, v: u32) -> u32
+// The slot, of so many, from which the search for a pair starts. The product of the key is that of the state, times
+// 2,048, and that of the item, which is handed over: it is the same for all targets of a modality.
+fn slot_of(multiples: &[u32], state: u32, item: u32, scaled: u32, slots: u32) -> u32
     requires { ⌜ Scaled (now multiples) item scaled ⌝ }
     requires { ⌜ (state < 65535) × (item < 2048) ⌝ }
-    ensures { λ r. ⌜ r ≡ slotOf (keyOf state item) v ⌝ }
+    ensures { λ r. ⌜ r ≡ slotOf (keyOf state item) slots ⌝ }
 {
     let by_state = product(multiples, state) << 11;
-    let p = std::num::wrapping_add_u32(by_state, scaled);
-    ((p as u64) * (v as u64) / 4294967296) as u32
+    let by_key = std::num::wrapping_add_u32(by_state, scaled);
+    ((by_key as u64) * (slots as u64) / 4294967296) as u32
 }
 
 // Where a pair stands: the vertex that it has, or the empty slot that is for it, or nowhere, because no slot is empty.
@@ -335,73 +336,73 @@ pub enum Numbered {
 
 // ---- the words of the slots: only these two functions index them
 
-// Word i of the slots.
-fn slot_word(work: &[u32], v: u32, i: usize) -> u32
-    requires { ⌜ InSlots v i (length (now work)) ⌝ }
-    ensures { λ r. ⌜ r ≡ word (slotsOf (now (work .entry)) v) i ⌝ }
+// The word of the slots at an index.
+fn slot_word(work: &[u32], vertices: u32, index: usize) -> u32
+    requires { ⌜ InSlots vertices index (length (now work)) ⌝ }
+    ensures { λ r. ⌜ r ≡ word (slotsOf (now (work .entry)) vertices) index ⌝ }
 {
-    work[i]
+    work[index]
 }
 
-// Word i of the slots becomes x.
-fn put_slot_word(work: &mut [u32], v: u32, i: usize, x: u32)
-    requires { ⌜ InSlots v i (length (now work)) ⌝ }
-    ensures { λ _. ⌜ now (work .exit) ≡ putWord 0 (3 * v) i x (now (work .entry)) ⌝ }
+// It becomes another.
+fn put_slot_word(work: &mut [u32], vertices: u32, index: usize, value: u32)
+    requires { ⌜ InSlots vertices index (length (now work)) ⌝ }
+    ensures { λ _. ⌜ now (work .exit) ≡ putWord 0 (3 * vertices) index value (now (work .entry)) ⌝ }
 {
-    work[i] = x;
+    work[index] = value;
 }
 
 // ---- one slot, one vertex
 
-// The key in slot p.
-fn key_in(work: &[u32], v: u32, p: usize) -> u32
-    requires { ⌜ (8 * v ≤ length (now work)) × (p < slotCount v) ⌝ }
-    ensures { λ r. ⌜ r ≡ keyIn (slotsOf (now (work .entry)) v) p ⌝ }
+// The key in a slot.
+fn key_in(work: &[u32], vertices: u32, slot: usize) -> u32
+    requires { ⌜ (8 * vertices ≤ length (now work)) × (slot < slotCount vertices) ⌝ }
+    ensures { λ r. ⌜ r ≡ keyIn (slotsOf (now (work .entry)) vertices) slot ⌝ }
 {
-    slot_word(work, v, 2 * p)
+    slot_word(work, vertices, 2 * slot)
 }
 
-// What slot p holds: 0 if it is empty, else the number of a vertex plus one.
-fn held_in(work: &[u32], v: u32, p: usize) -> u32
-    requires { ⌜ (8 * v ≤ length (now work)) × (p < slotCount v) ⌝ }
-    ensures { λ r. ⌜ r ≡ heldIn (slotsOf (now (work .entry)) v) p ⌝ }
+// What a slot holds: 0 if it is empty, else the number of a vertex plus one.
+fn held_in(work: &[u32], vertices: u32, slot: usize) -> u32
+    requires { ⌜ (8 * vertices ≤ length (now work)) × (slot < slotCount vertices) ⌝ }
+    ensures { λ r. ⌜ r ≡ heldIn (slotsOf (now (work .entry)) vertices) slot ⌝ }
 {
-    slot_word(work, v, 2 * p + 1)
+    slot_word(work, vertices, 2 * slot + 1)
 }
 
 // The state of a vertex's pair.
-pub fn state_of(work: &[u32], v: u32, vertex: VertexIndex) -> u32
-    requires { ⌜ (8 * v ≤ length (now work)) × (vertex .0 < v) ⌝ }
-    ensures { λ r. ⌜ r ≡ stateAt (now (work .entry)) v (vertex .0) ⌝ }
+pub fn state_of(work: &[u32], vertices: u32, vertex: VertexIndex) -> u32
+    requires { ⌜ (8 * vertices ≤ length (now work)) × (vertex .0 < vertices) ⌝ }
+    ensures { λ r. ⌜ r ≡ stateAt (now (work .entry)) vertices (vertex .0) ⌝ }
 {
-    region_word(work, v, KEYS, vertex.0) / 2048
+    region_word(work, vertices, KEYS, vertex.0) / 2048
 }
 
 // The item of a vertex's pair.
-pub fn item_of(work: &[u32], v: u32, vertex: VertexIndex) -> u32
-    requires { ⌜ (8 * v ≤ length (now work)) × (vertex .0 < v) ⌝ }
-    ensures { λ r. ⌜ r ≡ itemAt (now (work .entry)) v (vertex .0) ⌝ }
+pub fn item_of(work: &[u32], vertices: u32, vertex: VertexIndex) -> u32
+    requires { ⌜ (8 * vertices ≤ length (now work)) × (vertex .0 < vertices) ⌝ }
+    ensures { λ r. ⌜ r ≡ itemAt (now (work .entry)) vertices (vertex .0) ⌝ }
 {
-    region_word(work, v, KEYS, vertex.0) % 2048
+    region_word(work, vertices, KEYS, vertex.0) % 2048
 }
 
 // ---- all slots
 
 // Goes along the slots from `from` up to `end` until one has the key or is empty.
-fn probe(work: &[u32], v: u32, key: u32, from: usize, end: usize) -> Place
-    requires { ⌜ (8 * v ≤ length (now work)) × (end ≤ slotCount v) ⌝ }
-    ensures { λ r. ⌜ Probed (slotsOf (now (work .entry)) v) from end key r ⌝ }
+fn probe(work: &[u32], vertices: u32, key: u32, from: usize, end: usize) -> Place
+    requires { ⌜ (8 * vertices ≤ length (now work)) × (end ≤ slotCount vertices) ⌝ }
+    ensures { λ r. ⌜ Probed (slotsOf (now (work .entry)) vertices) from end key r ⌝ }
 {
-    let mut p = from;
-    while p < end {
-        let held = held_in(work, v, p);
+    let mut slot = from;
+    while slot < end {
+        let held = held_in(work, vertices, slot);
         if held == 0 {
-            return Place::Free(p);
+            return Place::Free(slot);
         }
-        if key_in(work, v, p) == key {
+        if key_in(work, vertices, slot) == key {
             return Place::Known(VertexIndex(held - 1));
         }
-        p += 1;
+        slot += 1;
     }
     Place::Nowhere
 }
@@ -410,23 +411,23 @@ fn probe(work: &[u32], v: u32, key: u32, from: usize, end: usize) -> Place
 fn find(
     multiples: &[u32],
     work: &[u32],
-    v: u32,
+    vertices: u32,
     known: u32,
     state: u32,
     item: u32,
     scaled: u32,
 ) -> Place
     requires { ⌜ Scaled (now multiples) item scaled ⌝ }
-    requires { ⌜ Asks (now work) v known state item ⌝ }
-    ensures { λ r. ⌜ Finding (now (work .entry)) v known (keyOf state item) r ⌝ }
+    requires { ⌜ Asks (now work) vertices known state item ⌝ }
+    ensures { λ r. ⌜ Finding (now (work .entry)) vertices known (keyOf state item) r ⌝ }
 {
     let key = state * 2048 + item;
-    let slots = v + v / 2;
+    let slots = vertices + vertices / 2;
     let home = slot_of(multiples, state, item, scaled, slots) as usize;
-    match probe(work, v, key, home, slots as usize) {
+    match probe(work, vertices, key, home, slots as usize) {
         Place::Known(vertex) => Place::Known(vertex),
         Place::Free(slot) => Place::Free(slot),
-        Place::Nowhere => probe(work, v, key, 0, home),
+        Place::Nowhere => probe(work, vertices, key, 0, home),
     }
 }
 
@@ -434,26 +435,26 @@ fn find(
 pub fn number(
     multiples: &[u32],
     work: &mut [u32],
-    v: u32,
+    vertices: u32,
     known: u32,
     state: u32,
     item: u32,
     scaled: u32,
 ) -> Numbered
     requires { ⌜ Scaled (now multiples) item scaled ⌝ }
-    requires { ⌜ Asks (now work) v known state item ⌝ }
-    ensures { λ r. ⌜ Numbering (now (work .entry)) (now (work .exit)) v known (keyOf state item) r ⌝ }
+    requires { ⌜ Asks (now work) vertices known state item ⌝ }
+    ensures { λ r. ⌜ Numbering (now (work .entry)) (now (work .exit)) vertices known (keyOf state item) r ⌝ }
 {
-    match find(multiples, work, v, known, state, item, scaled) {
+    match find(multiples, work, vertices, known, state, item, scaled) {
         Place::Known(vertex) => Numbered::Vertex { vertex, known },
         Place::Free(slot) => {
-            if known == v {
+            if known == vertices {
                 return Numbered::NoRoom;
             }
             let key = state * 2048 + item;
-            put_slot_word(work, v, 2 * slot, key);
-            put_slot_word(work, v, 2 * slot + 1, known + 1);
-            put_word(work, v, KEYS, known, key);
+            put_slot_word(work, vertices, 2 * slot, key);
+            put_slot_word(work, vertices, 2 * slot + 1, known + 1);
+            put_word(work, vertices, KEYS, known, key);
             Numbered::Vertex {
                 vertex: VertexIndex(known),
                 known: known + 1,
@@ -464,14 +465,14 @@ pub fn number(
 }
 
 // An empty table, whatever the words hold: every word of the slots becomes 0.
-pub fn start(work: &mut [u32], v: u32)
-    requires { ⌜ (v ≤ 1048576) × (8 * v ≤ length (now work)) ⌝ }
-    ensures { λ _. ⌜ Started (now (work .entry)) (now (work .exit)) v ⌝ }
+pub fn start(work: &mut [u32], vertices: u32)
+    requires { ⌜ (vertices ≤ 1048576) × (8 * vertices ≤ length (now work)) ⌝ }
+    ensures { λ _. ⌜ Started (now (work .entry)) (now (work .exit)) vertices ⌝ }
 {
-    let end = 3 * (v as usize);
+    let end = 3 * (vertices as usize);
     let mut i = 0;
     while i < end {
-        put_slot_word(work, v, i, 0);
+        put_slot_word(work, vertices, i, 0);
         i += 1;
     }
 }

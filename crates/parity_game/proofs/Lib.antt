@@ -1,5 +1,6 @@
+pub mod Accepted
+pub mod Calls
+pub mod Places
 pub mod Pools
 pub mod Refusals
-pub mod Accepted
 pub mod Stretches
-pub mod Places

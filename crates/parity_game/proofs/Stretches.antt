@@ -65,11 +65,6 @@ module _ {A : Type 0} (fs : List (A → ℕ)) (xs : List A) where
       → Wrote at₀ stretch out₀ out p
   columns-done c h w = done (turn (columns-none fs xs c h) w)
 
-  -- where they end
-  pub columns-past : {at r : ℕ} {out out′ : List ℕ} → Wrote at (columns fs xs) out out′ r
-      → r ≡ at + length fs * length xs
-  columns-past w = omega (arith, w .past, length-columns fs xs)
-
 -- ---- one vertex at a time
 
 pub offsets-none : (e : ℕ) → offsets e [] ≡ e ∷ []

@@ -15,20 +15,20 @@ pub struct VertexIndex(pub u32);
 pub struct Priority(pub u32);
 
 // Even is 0, Odd is 1.
-pub fn to_index(p: Player) -> u32
-    ensures { λ r. ⌜ r ≡ playerIndex p ⌝ }
+pub fn to_index(player: Player) -> u32
+    ensures { λ r. ⌜ r ≡ playerIndex player ⌝ }
 {
-    match p {
+    match player {
         Player::Even => 0,
         Player::Odd => 1,
     }
 }
 
 // The opponent of a player.
-pub fn opponent(p: Player) -> Player
-    ensures { λ r. ⌜ r ≡ otherPlayer p ⌝ }
+pub fn opponent(player: Player) -> Player
+    ensures { λ r. ⌜ r ≡ otherPlayer player ⌝ }
 {
-    match p {
+    match player {
         Player::Even => Player::Odd,
         Player::Odd => Player::Even,
     }

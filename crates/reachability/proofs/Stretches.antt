@@ -10,13 +10,12 @@ use Rattle.rules.specs.Lists.{word}
 use Rattle.rules.specs.Game.{Vertex, edgeTo, vertexColumns, edgeCount, offsets, columns, vertexCount, vertexWord}
 use Rattle.rules.specs.Game.{edgesFrom, targetsIn}
 use Rattle.rules.specs.Restrict.{newNumber, keptVertex, keptVertices}
-use Rattle.words.specs.Stretches.{Wrote}
 use Rattle.words.proofs.Stretches.{Writing, carry-length}
 use Rattle.games.proofs.Columns.{each-vertex-column, rise, targets-edges}
 use Rattle.games.proofs.Reading.{length-offsets, length-edge-column}
 use Rattle.games.specs.Columns.{vertexColumn, edgeColumn, edgeColumnOf}
 use Rattle.parity_game.proofs.Stretches.{offsets-none, offsets-more, column-none, column-more, edges-none, edges-more}
-use Rattle.parity_game.proofs.Stretches.{columns-room, columns-past}
+use Rattle.parity_game.proofs.Stretches.{columns-room}
 use Rattle.restrictions.specs.GoodGame.{GoodGame}
 use Rattle.restrictions.proofs.Kept.{kept-length, edges-fit}
 use Rattle.reachability.specs.Search.{Knows, Chosen}
@@ -159,6 +158,12 @@ targets-room g work count i h w =
           (edgeColumn 0) (keptVertices g (take count work)),
     )
 
+-- ---- a vertex that was met, as it is read from the work slice: its targets can be asked for
+
+pub met-vertex : {g work : List ℕ} {count : ℕ} (i v : ℕ) → Chosen g count work → i < count → v ≡ word work i
+    → GoodGame g × (v < vertexCount g)
+met-vertex i v k h e = (k .good, omega (arith, e, k .inside i h))
+
 -- ---- the vertices met can be written
 
 pub chosen : (g mapping work : List ℕ) (count : ℕ) → GoodGame g → Knows count mapping work → length mapping ≡ vertexCount g → Chosen g count work
@@ -213,23 +218,8 @@ module _ (g work : List ℕ) (count : ℕ) (k : Chosen g count work) where
           ap (λ (w : ℕ). w ∷ map (λ v. vertexWord g c v) xs) (kept-word x)
           ∙ ap (λ (l : List ℕ). vertexColumn c (keptVertex g (take count work) x) ∷ l) (go xs)
 
-  -- there is room for the next column, and where the last one ends
+  -- there is room for the next column
   pub column-room : (c : ℕ) {p at₀ : ℕ} {out out₀ : List ℕ} → c < length vertexColumns
       → at₀ + length vertexColumns * count ≤ length out₀
       → Writing p (columns (drop c vertexColumns) vs) out at₀ (columns vertexColumns vs) out₀ → p + count ≤ length out
   column-room c h l w = omega (arith, columns-room vertexColumns vs c h (omega (arith, kept-many)) w, kept-many)
-
-  pub columns-end : {at r : ℕ} {out out′ : List ℕ}
-      → Wrote at (columns vertexColumns (keptVertices g (take count work))) out out′ r
-      → r ≡ at + length vertexColumns * count
-  columns-end wrote = omega (arith, columns-past vertexColumns vs wrote, kept-many)
-
-  -- where the offsets end, and the targets
-  pub offsets-end : {at r : ℕ} {out out′ : List ℕ} → Wrote at (offsets 0 (keptVertices g (take count work))) out out′ r
-      → r ≡ at + (count + 1)
-  offsets-end wrote = omega (arith, wrote .past, length-offsets 0 vs, kept-many)
-
-  pub targets-end : {at r : ℕ} {out out′ : List ℕ}
-      → Wrote at (edgeColumnOf 0 (keptVertices g (take count work))) out out′ r
-      → r ≡ at + edgeCount (keptVertices g (take count work))
-  targets-end wrote = omega (arith, wrote .past, length-edge-column (edgeColumn 0) vs)

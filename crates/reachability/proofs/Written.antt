@@ -1,23 +1,13 @@
--- The game that is written, and the map, as the definitions have them. Assumes nothing.
+-- The map, as the definitions have it. Assumes nothing.
 use mathlib.Core.Path.{_≡_, sym, ap, _∙_, subst}
-use mathlib.Core.List.{List, [], _∷_, _++_}
+use mathlib.Core.List.{List}
 use Prim.Native.Nat.{ℕ, _<_}
 use lib.ListN.{length, take}
 use lib.Seq.{ext-getD}
-use Rattle.rules.specs.Game.{vertexColumns, edgeCount, offsets, columns, gameOf, vertexCount}
-use Rattle.games.specs.Columns.{edgeColumnOf}
-use Rattle.rules.specs.Restrict.{newNumber, keptVertices, vertexMap, reachedVertices}
-use Rattle.parity_game.proofs.Stretches.{game-stretches}
-use Rattle.restrictions.proofs.Kept.{kept-length, map-length, map-word}
+use Rattle.rules.specs.Game.{vertexCount}
+use Rattle.rules.specs.Restrict.{newNumber, vertexMap, reachedVertices}
+use Rattle.restrictions.proofs.Kept.{map-length, map-word}
 use Rattle.reachability.specs.Search.{Knows}
-
--- the game's stretches, by the counts that the program has
-pub kept-stretches : (g met : List ℕ) (count edges : ℕ) → count ≡ length met → edges ≡ edgeCount (keptVertices g met)
-    → gameOf 0 (keptVertices g met)
-    ≡ (count ∷ edges ∷ 0 ∷ [])
-    ++ (columns vertexColumns (keptVertices g met)
-    ++ (offsets 0 (keptVertices g met) ++ (edgeColumnOf 0 (keptVertices g met) ++ [])))
-kept-stretches g met count edges f h = game-stretches (keptVertices g met) count edges (f ∙ sym (kept-length g met)) h
 
 -- the map
 pub map-is : (g mapping work : List ℕ) (count : ℕ) → Knows count mapping work → length mapping ≡ vertexCount g → take count work ≡ reachedVertices g

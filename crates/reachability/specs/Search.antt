@@ -8,7 +8,7 @@ use Rattle.rules.specs.Game.{edgeCount, vertexCount, edgesIn}
 use Rattle.rules.specs.Restrict.{newNumber, keptVertices}
 use Rattle.restrictions.specs.GoodGame.{GoodGame}
 
--- the first `count` words of `work` are the vertices met, by their new numbers, and `numbers` holds each vertex's new
+-- the first `count` words of `work` are the vertices met, by their new numbers, and `mapping` holds each vertex's new
 -- number
 pub record Knows (count : ℕ) (mapping work : List ℕ) : Type 0 where
   pub workLong : length work ≡ length mapping

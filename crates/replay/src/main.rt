@@ -24,7 +24,7 @@ fn run_build(
 ) {
     let vertices = room.vertices;
     let edges = room.edges;
-    let a = translate::translate(
+    let answer = translate::translate(
         labels,
         system,
         actions,
@@ -35,7 +35,7 @@ fn run_build(
         game,
         work,
     );
-    stored_runs::outcome_line(a, game, &[], work);
+    stored_runs::outcome_line(answer, game, &[], work);
 }
 
 // A build whose lent slices have so many words, each word `fill` before the call.
@@ -66,12 +66,12 @@ fn lend_build(
     );
 }
 
-// The length at i; one above 4,096 counts as 4,096, which is too long for all words of a record.
-fn length_at(stored: &[u32], i: usize) -> usize
-    requires { ⌜ i < length (now stored) ⌝ }
+// The length at a place; one above 4,096 counts as 4,096, which is too long for all words of a record.
+fn length_at(stored: &[u32], place: usize) -> usize
+    requires { ⌜ place < length (now stored) ⌝ }
     ensures { λ r. ⌜ r ≤ 4096 ⌝ }
 {
-    stored_runs::length_of(stored[i], 4096)
+    stored_runs::length_of(stored[place], 4096)
 }
 
 // The four groups of words stand one after the other from word 12 on.

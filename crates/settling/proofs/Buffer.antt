@@ -1,4 +1,5 @@
--- The laws of the stack, of the edge buffer and of what is read off for one vertex. Assumes nothing.
+-- The laws of the stack, of the edge buffer, of what the parts of a step ask and of what is read off for one vertex.
+-- Assumes nothing.
 use mathlib.Core.Path.{_≡_, refl, _∙_, ap}
 use mathlib.Core.Bool.{true, false}
 use mathlib.Core.List.{List, [], _∷_, _++_}
@@ -12,7 +13,10 @@ use lib.Seq.{drop-set-add, take-suc-set, getD-set-same, getD-set-other}
 use Rattle.rules.specs.Lists.{word}
 use Rattle.words.specs.Regions.{region, putWord}
 use Rattle.words.proofs.Regions.{rise, region-past, rest-put, rest-later}
+use Rattle.pairs.specs.Table.{Table}
+use Rattle.settling.specs.declared.Counters.{Counters}
 use Rattle.settling.specs.Stand.{waitingIn, edgesOf, putEdge, settledIn, countIn}
+use Rattle.settling.specs.Made.{Ready}
 
 -- ---- the stack
 
@@ -68,6 +72,21 @@ edges-rest v n w w′ e = ap (take n) (rest-later 5 8 v w w′ e (lit≤ tt))
 pub length-edges : (w : List ℕ) (v n : ℕ) → 8 * v + n ≤ length w → length (edgesOf w v n) ≡ n
 unfolding edgesOf
 length-edges w v n h = simp (length-take, length-drop) (omega arith)
+
+-- ---- what every part of a step asks holds after it
+
+pub ready-on : (v e : ℕ) (w w′ : List ℕ) (c c′ : Counters) → Ready w v e c → length w′ ≡ length w → Table w′ v (c′ .known)
+    → c′ .settled + c′ .waiting ≤ c′ .known → c′ .edges ≤ e → Ready w′ v e c′
+ready-on v e w w′ c c′ r size table stack buffer =
+    record {
+      some = r .some;
+      most = r .most;
+      most-edges = r .most-edges;
+      whole = omega (arith, r .whole);
+      table = table;
+      stack = stack;
+      buffer = buffer;
+    }
 
 -- ---- one vertex
 

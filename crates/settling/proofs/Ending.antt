@@ -12,7 +12,7 @@ use Rattle.pairs.proofs.Uses.{keys-kept, table-kept}
 use Rattle.settling.specs.declared.Counters.{Counters}
 use Rattle.settling.specs.Stand.{edgesOf, putEdge}
 use Rattle.settling.specs.Made.{Ready, Closing}
-use Rattle.settling.proofs.Buffer.{region-edge, edges-more, edges-put, length-putEdge}
+use Rattle.settling.proofs.Buffer.{region-edge, edges-more, edges-put, length-putEdge, ready-on}
 
 module _ (v e : ℕ) (w w₁ w₂ : List ℕ) (c : Counters) (x start : ℕ) (r : Ready w v e c) (below : x < v) (left : c .settled + c .waiting < c .known) where
   -- no edge yet: one to itself
@@ -24,15 +24,8 @@ module _ (v e : ℕ) (w w₁ w₂ : List ℕ) (c : Counters) (x start : ℕ) (r 
       let two : 2 ≡ suc (c .edges + 1 - start) = omega arith in
       record {
         ready =
-            record {
-              some = r .some;
-              most = r .most;
-              most-edges = r .most-edges;
-              whole = omega (arith, r .whole, ap length g₂, length-putWord 6 v x 2 w₁, ap length g₁, length-putEdge v (c .edges) x w);
-              table = table-kept w w₂ v (c .known) (λ a b. kept a (omega arith)) (r .table);
-              stack = omega arith;
-              buffer = omega arith;
-            };
+            ready-on v e w w₂ c _ r (ap length g₂ ∙ length-putWord 6 v x 2 w₁ ∙ ap length g₁ ∙ length-putEdge v (c .edges) x w)
+            (table-kept w w₂ v (c .known) (λ a b. kept a (omega arith)) (r .table)) (omega arith) (omega arith);
         same-known = refl;
         same-waiting = refl;
         one-settled = add-one (c .settled);
@@ -58,15 +51,8 @@ module _ (v e : ℕ) (w w₁ w₂ : List ℕ) (c : Counters) (x start : ℕ) (r 
       let first : (a : ℕ) → a < 4 → region a v w₁ ≡ region a v w = λ a b. kept a (omega arith) in
       record {
         ready =
-            record {
-              some = r .some;
-              most = r .most;
-              most-edges = r .most-edges;
-              whole = omega (arith, r .whole, ap length g, length-putWord 6 v x (c .edges - start + 1) w);
-              table = table-kept w w₁ v (c .known) first (r .table);
-              stack = omega arith;
-              buffer = r .buffer;
-            };
+            ready-on v e w w₁ c _ r (ap length g ∙ length-putWord 6 v x (c .edges - start + 1) w)
+            (table-kept w w₁ v (c .known) first (r .table)) (omega arith) (r .buffer);
         same-known = refl;
         same-waiting = refl;
         one-settled = add-one (c .settled);

@@ -19,7 +19,7 @@ use Rattle.pairs.proofs.Uses.{keys-kept, table-kept}
 use Rattle.settling.specs.declared.Counters.{Counters}
 use Rattle.settling.specs.Stand.{waitingIn, waitingOf, edgesOf, putEdge}
 use Rattle.settling.specs.Made.{Marks, Ready, Meeting, Made, TooMany}
-use Rattle.settling.proofs.Buffer.{region-edge, edges-more, edges-rest, length-putEdge}
+use Rattle.settling.proofs.Buffer.{region-edge, edges-more, edges-rest, length-putEdge, ready-on}
 use Rattle.walks.proofs.Pushes.{push-on}
 
 -- ---- no target, and one stretch after another
@@ -114,15 +114,8 @@ module _ (v e : ℕ) (w w₁ w₂ w₃ : List ℕ) (c : Counters) (t u n m : ℕ
 
   edge-ready : Ready w₃ v e (withEdge c n m)
   edge-ready =
-      record {
-        some = r .some;
-        most = r .most;
-        most-edges = r .most-edges;
-        whole = omega (arith, r .whole, ap length g, length-putEdge v (c .edges) u w₂);
-        table = table-kept w₁ w₃ v n first (p .table);
-        stack = omega (arith, r .stack, p .balance);
-        buffer = omega arith;
-      }
+      ready-on v e w w₃ c (withEdge c n m) r (ap length g ∙ length-putEdge v (c .edges) u w₂ ∙ long)
+      (table-kept w₁ w₃ v n first (p .table)) (omega (arith, r .stack, p .balance)) (omega arith)
 
   pub edge-made : Made w v e c w₃ (withEdge c n m) (t ∷ [])
   unfolding insertAll positions

@@ -3,7 +3,7 @@
 use mathlib.Core.Path.{_≡_, refl, sym, _∙_, ap, ap₂, subst, subst₂}
 use mathlib.Core.List.{List, [], _∷_, _++_, append-nil}
 use mathlib.Core.Logic.{_⊎_, inl, inr, ⊎-elim}
-use Prim.Native.Nat.{ℕ, suc, _+_, _*_, _≤_, _<_}
+use Prim.Native.Nat.{ℕ, suc, _+_, _≤_, _<_}
 use native.Mathlib.Numerals.{add-one}
 use native.Mathlib.Decide.{decLt, ℕ-discrete}
 use native.Mathlib.Omega.{arith}
@@ -16,7 +16,7 @@ use Rattle.lists.proofs.Members.{distinct-positions, position-below, position-a
 use Rattle.lists.proofs.Shapes.{begins-in, begins-at}
 use Rattle.lists.proofs.Inserts.{inserts-none, inserts-append, insert-old, insert-holds, insert-only, insert-begins, added-none, added-old, added-new, added-split}
 use Rattle.lists.proofs.Equalities.{number-equality}
-use Rattle.words.specs.Regions.{region, putWord}
+use Rattle.words.specs.Regions.{region, putWord, InRegion}
 use Rattle.words.proofs.Regions.{region-same, region-other, rest-region, length-region, length-putWord}
 use Rattle.pairs.specs.Table.{keysOf}
 use Rattle.pairs.proofs.Uses.{keys-kept, length-keys}
@@ -24,7 +24,7 @@ use Rattle.settling.specs.declared.Counters.{Counters}
 use Rattle.settling.specs.declared.Stepped.the-variants.{Fits}
 use Rattle.settling.specs.Stand.{edgesOf, putEdge}
 use Rattle.settling.specs.Made.{Marks, Ready, Meeting, Made, TooMany, MarkedIn, Marked, Gathered}
-use Rattle.settling.proofs.Buffer.{region-edge, edges-put, edges-rest}
+use Rattle.settling.proofs.Buffer.{region-edge, edges-put, edges-rest, ready-on}
 use Rattle.settling.proofs.Make.{made-none, made-more, many-more, many-early, many-one, withEdge, edge-made, marks-rest}
 
 inserts-one : (ts : List ℕ) (t : ℕ) → insertAll eqb ts (t ∷ []) ≡ insert eqb ts t
@@ -45,7 +45,7 @@ module _ (marks ks ks₁ : List ℕ) (v n n₁ s t u : ℕ) (ts : List ℕ) (cou
   same-place : (i j : ℕ) → i < n₁ → j < n₁ → word ks₁ i ≡ word ks₁ j → i ≡ j
   same-place i j h l = distinct-positions ks₁ 0 apart i j (omega (arith, count₁)) (omega (arith, count₁))
 
-  pub mark-more : MarkedIn (set marks u s) ks₁ v n₁ s (insert eqb ts t)
+  mark-more : MarkedIn (set marks u s) ks₁ v n₁ s (insert eqb ts t)
   mark-more = record { all = all; only = only; every = every }
     where
       all : (q : ℕ) → In q (insert eqb ts t) → In q ks₁
@@ -96,8 +96,12 @@ module _ (v e : ℕ) (w w₁ : List ℕ) (c : Counters) (t u n m : ℕ) (r : Rea
   met-known : u < n
   met-known = omega (arith, position-below number-equality t (keysOf w₁ v n) holds₁, long₁, p .vertex)
 
-  pub met-below : u < v
+  met-below : u < v
   met-below = omega (arith, met-known, p .table .slots .room)
+
+  -- its mark is a word of the regions
+  pub met-mark : length w₁ ≡ length w → InRegion v 7 u (length w₁)
+  met-mark size = record { whole = omega (arith, r .whole); region = lit< tt; word = met-below }
 
   met-at : word (keysOf w₁ v n) u ≡ t
   met-at = ap (word (keysOf w₁ v n)) (p .vertex) ∙ position-at number-equality t (keysOf w₁ v n) 0 holds₁
@@ -115,7 +119,7 @@ module _ (v e : ℕ) (w w₁ : List ℕ) (c : Counters) (t u n m : ℕ) (r : Rea
   marks-same = rest-region 5 7 v w w₁ (p .rest) (lit≤ tt)
 
   -- marked: it has its edge
-  pub once-old : (ts : List ℕ) → 8 * v + 2 * e ≤ length w₁ → word (region 7 v w₁) u ≡ c .settled + 1 → Marked w v c ts
+  pub once-old : (ts : List ℕ) → length w₁ ≡ length w → word (region 7 v w₁) u ≡ c .settled + 1 → Marked w v c ts
       → Gathered w v e c ts (t ∷ []) w₁ (Fits (record { known = n; settled = c .settled; edges = c .edges; waiting = m }))
   unfolding insertAll positions
   once-old ts size h k =
@@ -124,16 +128,7 @@ module _ (v e : ℕ) (w w₁ : List ℕ) (c : Counters) (t u n m : ℕ) (r : Rea
       let z = was-known (k .all t i) in (
         rw (added-old number-equality ts t i)
             (record {
-              ready =
-                  record {
-                    some = r .some;
-                    most = r .most;
-                    most-edges = r .most-edges;
-                    whole = size;
-                    table = p .table;
-                    stack = omega (arith, r .stack, p .balance);
-                    buffer = r .buffer;
-                  };
+              ready = ready-on v e w w₁ c _ r size (p .table) (omega (arith, r .stack, p .balance)) (r .buffer);
               keys = z .0;
               waits = p .waits;
               row = edges-rest v (c .edges) w w₁ (p .rest) ∙ sym (append-nil (edgesOf w v (c .edges)));

@@ -41,16 +41,16 @@ pub enum Met {
 }
 
 // An edge is put at a place of the edge buffer.
-fn put_edge(work: &mut [u32], v: u32, i: u32, target: VertexIndex)
-    requires { ⌜ (v ≤ 1048576) × (8 * v + i < length (now work)) ⌝ }
-    ensures { λ _. ⌜ now (work .exit) ≡ putEdge v i (target .0) (now (work .entry)) ⌝ }
+fn put_edge(work: &mut [u32], vertices: u32, place: u32, target: VertexIndex)
+    requires { ⌜ (vertices ≤ 1048576) × (8 * vertices + place < length (now work)) ⌝ }
+    ensures { λ _. ⌜ now (work .exit) ≡ putEdge vertices place (target .0) (now (work .entry)) ⌝ }
 {
-    work[REGIONS * (v as usize) + (i as usize)] = target.0;
+    work[REGIONS * (vertices as usize) + (place as usize)] = target.0;
 }
 
 // A pair is numbered, and its vertex pushed if it is new.
 pub fn meet(
-    c: Counters,
+    counters: Counters,
     multiples: &[u32],
     work: &mut [u32],
     room: Room,
@@ -59,13 +59,13 @@ pub fn meet(
     scaled: u32,
 ) -> Met
     requires { ⌜ Scaled (now multiples) item scaled ⌝ }
-    requires { ⌜ Ready (now work) (room .vertices) (room .edges) c × Fitting state item ⌝ }
-    ensures { λ r. ⌜ MeetAnswer (now (work .entry)) (now (work .exit)) (room .vertices) (c .known) (c .waiting) (keyOf state item) r ⌝ }
+    requires { ⌜ Ready (now work) (room .vertices) (room .edges) counters × Fitting state item ⌝ }
+    ensures { λ r. ⌜ MeetAnswer (now (work .entry)) (now (work .exit)) (room .vertices) (counters .known)
+        (counters .waiting) (keyOf state item) r ⌝ }
 {
-    let v = room.vertices;
-    let before = c.known;
-    let waiting = c.waiting;
-    match pairs::number(multiples, work, v, before, state, item, scaled) {
+    let before = counters.known;
+    let waiting = counters.waiting;
+    match pairs::number(multiples, work, room.vertices, before, state, item, scaled) {
         Numbered::Vertex { vertex, known } => {
             if known == before {
                 return Met::Meets {
@@ -74,7 +74,7 @@ pub fn meet(
                     waiting,
                 };
             }
-            words::put_word(work, v, STACK, waiting, before);
+            words::put_word(work, room.vertices, STACK, waiting, before);
             Met::Meets {
                 vertex,
                 known,
@@ -87,7 +87,7 @@ pub fn meet(
 
 // One target is met and gets an edge.
 fn number_target(
-    c: Counters,
+    counters: Counters,
     multiples: &[u32],
     work: &mut [u32],
     room: Room,
@@ -96,12 +96,12 @@ fn number_target(
     scaled: u32,
 ) -> Stepped
     requires { ⌜ Scaled (now multiples) item scaled ⌝ }
-    requires { ⌜ Ready (now work) (room .vertices) (room .edges) c × Fitting state item ⌝ }
-    ensures { λ r. ⌜ Answer (now (work .entry)) (room .vertices) (room .edges) c (keyOf state item ∷ []) (now (work .exit)) r ⌝ }
+    requires { ⌜ Ready (now work) (room .vertices) (room .edges) counters × Fitting state item ⌝ }
+    ensures { λ r. ⌜ Answer (now (work .entry)) (room .vertices) (room .edges) counters (keyOf state item ∷ [])
+        (now (work .exit)) r ⌝ }
 {
-    let v = room.vertices;
-    let edges = c.edges;
-    match meet(c, multiples, work, room, state, item, scaled) {
+    let edges = counters.edges;
+    match meet(counters, multiples, work, room, state, item, scaled) {
         Met::Meets {
             vertex,
             known,
@@ -110,10 +110,10 @@ fn number_target(
             if edges == room.edges {
                 return Stepped::Full;
             }
-            put_edge(work, v, edges, vertex);
+            put_edge(work, room.vertices, edges, vertex);
             Stepped::Fits(Counters {
                 known,
-                settled: c.settled,
+                settled: counters.settled,
                 edges: edges + 1,
                 waiting,
             })
@@ -125,7 +125,7 @@ fn number_target(
 // One target is met and gets an edge, if it has none from this step. The step's number marks its targets, so that each
 // target is told in constant time.
 pub fn target_once(
-    c: Counters,
+    counters: Counters,
     multiples: &[u32],
     work: &mut [u32],
     room: Room,
@@ -134,43 +134,42 @@ pub fn target_once(
     scaled: u32,
 ) -> Stepped
     requires { ⌜ Scaled (now multiples) item scaled ⌝ }
-    requires { ⌜ Ready (now work) (room .vertices) (room .edges) c × Fitting state item ⌝ }
-    requires { ⌜ c .settled < c .known ⌝ }
-    ensures { λ r. ⌜ ((ts : List ℕ) → Marked (now (work .entry)) (room .vertices) c ts → Gathered (now (work .entry)) (room .vertices) (room .edges) c ts (keyOf state item ∷ []) (now (work .exit)) r) ⌝ }
+    requires { ⌜ Ready (now work) (room .vertices) (room .edges) counters × Fitting state item ⌝ }
+    requires { ⌜ counters .settled < counters .known ⌝ }
+    ensures { λ r. ⌜ ((ts : List ℕ) → Marked (now (work .entry)) (room .vertices) counters ts → Gathered
+        (now (work .entry)) (room .vertices) (room .edges) counters ts (keyOf state item ∷ []) (now (work .exit)) r) ⌝ }
 {
-    let v = room.vertices;
-    let edges = c.edges;
-    let mark = c.settled + 1;
-    match meet(c, multiples, work, room, state, item, scaled) {
-        Met::Meets {
-            vertex,
-            known,
-            waiting,
-        } => {
-            let mut next = c;
-            next.known = known;
-            next.waiting = waiting;
-            if words::region_word(work, v, MARKS, vertex.0) == mark {
-                return Stepped::Fits(next);
-            }
-            if edges == room.edges {
-                return Stepped::Full;
-            }
-            words::put_word(work, v, MARKS, vertex.0, mark);
-            put_edge(work, v, edges, vertex);
-            next.edges = edges + 1;
-            Stepped::Fits(next)
-        }
-        Met::Crowded => Stepped::Full,
+    let edges = counters.edges;
+    let mark = counters.settled + 1;
+    let Met::Meets {
+        vertex,
+        known,
+        waiting,
+    } = meet(counters, multiples, work, room, state, item, scaled)
+    else {
+        return Stepped::Full;
+    };
+    let mut next = counters;
+    next.known = known;
+    next.waiting = waiting;
+    if words::region_word(work, room.vertices, MARKS, vertex.0) == mark {
+        return Stepped::Fits(next);
     }
+    if edges == room.edges {
+        return Stepped::Full;
+    }
+    words::put_word(work, room.vertices, MARKS, vertex.0, mark);
+    put_edge(work, room.vertices, edges, vertex);
+    next.edges = edges + 1;
+    Stepped::Fits(next)
 }
 
-// Operand i of an item, 0 the left one and 1 the right one.
-fn operand(left: u32, right: u32, i: usize) -> u32
-    requires { ⌜ i < 2 ⌝ }
-    ensures { λ r. ⌜ r ≡ word (left ∷ right ∷ []) i ⌝ }
+// An operand of an item, 0 the left one and 1 the right one.
+fn operand(left: u32, right: u32, index: usize) -> u32
+    requires { ⌜ index < 2 ⌝ }
+    ensures { λ r. ⌜ r ≡ word (left ∷ right ∷ []) index ⌝ }
 {
-    if i == 0 {
+    if index == 0 {
         return left;
     }
     right
@@ -179,7 +178,7 @@ fn operand(left: u32, right: u32, i: usize) -> u32
 // The first targets, so many of two with the same state, in order: a target named twice gets two edges. One loop for
 // one operand and for two, so that a target is numbered at one place of the code.
 pub fn settle_operands(
-    c: Counters,
+    counters: Counters,
     multiples: &[u32],
     work: &mut [u32],
     room: Room,
@@ -189,11 +188,12 @@ pub fn settle_operands(
     count: usize,
 ) -> Stepped
     requires { ⌜ Multiples (now multiples) ⌝ }
-    requires { ⌜ Ready (now work) (room .vertices) (room .edges) c × Fitting state left × (count ≤ 2) ⌝ }
+    requires { ⌜ Ready (now work) (room .vertices) (room .edges) counters × Fitting state left × (count ≤ 2) ⌝ }
     requires { ⌜ (1 < count → Fitting state right) ⌝ }
-    ensures { λ r. ⌜ Answer (now (work .entry)) (room .vertices) (room .edges) c (take count (keyOf state left ∷ keyOf state right ∷ [])) (now (work .exit)) r ⌝ }
+    ensures { λ r. ⌜ Answer (now (work .entry)) (room .vertices) (room .edges) counters
+        (take count (keyOf state left ∷ keyOf state right ∷ [])) (now (work .exit)) r ⌝ }
 {
-    let mut so_far = c;
+    let mut so_far = counters;
     let mut i = 0;
     while i < count {
         let item = operand(left, right, i);
@@ -212,30 +212,37 @@ pub fn settle_operands(
 }
 
 // The edges of a vertex are counted, after one to itself if it has none: with that it is settled.
-pub fn close(c: Counters, work: &mut [u32], room: Room, vertex: VertexIndex, start: u32) -> Stepped
-    requires { ⌜ Ready (now work) (room .vertices) (room .edges) c × (vertex .0 < room .vertices) × (start ≤ c .edges) × (c .settled + c .waiting < c .known) ⌝ }
-    ensures { λ r. ⌜ CloseAnswer (now (work .entry)) (room .vertices) (room .edges) (vertex .0) start c (now (work .exit)) r ⌝ }
+pub fn close(
+    counters: Counters,
+    work: &mut [u32],
+    room: Room,
+    vertex: VertexIndex,
+    start: u32,
+) -> Stepped
+    requires { ⌜ Ready (now work) (room .vertices) (room .edges) counters × (vertex .0 < room .vertices)
+        × (start ≤ counters .edges) × (counters .settled + counters .waiting < counters .known) ⌝ }
+    ensures { λ r. ⌜ CloseAnswer (now (work .entry)) (room .vertices) (room .edges) (vertex .0) start counters
+        (now (work .exit)) r ⌝ }
 {
-    let v = room.vertices;
-    let edges = c.edges;
+    let edges = counters.edges;
     if edges == start {
         if edges == room.edges {
             return Stepped::Full;
         }
-        put_edge(work, v, edges, vertex);
-        words::put_word(work, v, COUNTS, vertex.0, 2);
+        put_edge(work, room.vertices, edges, vertex);
+        words::put_word(work, room.vertices, COUNTS, vertex.0, 2);
         return Stepped::Fits(Counters {
-            known: c.known,
-            settled: c.settled + 1,
+            known: counters.known,
+            settled: counters.settled + 1,
             edges: edges + 1,
-            waiting: c.waiting,
+            waiting: counters.waiting,
         });
     }
-    words::put_word(work, v, COUNTS, vertex.0, edges - start + 1);
+    words::put_word(work, room.vertices, COUNTS, vertex.0, edges - start + 1);
     Stepped::Fits(Counters {
-        known: c.known,
-        settled: c.settled + 1,
+        known: counters.known,
+        settled: counters.settled + 1,
         edges,
-        waiting: c.waiting,
+        waiting: counters.waiting,
     })
 }

@@ -1,10 +1,10 @@
 -- The keys of a pair's targets, by the words that the table has for its item. Assumes nothing.
-use mathlib.Core.Path.{_≡_, refl, _∙_, ap}
+use mathlib.Core.Path.{_≡_, refl, sym, subst, _∙_, ap}
 use mathlib.Core.List.{List, [], _∷_, map}
-use Prim.Native.Nat.{ℕ, _≤_, _<_}
+use mathlib.Core.Logic.{⊎-elim}
+use Prim.Native.Nat.{ℕ, _/_, _≤_, _<_}
 use native.Mathlib.Decide.{decLt}
 use native.Mathlib.Omega.{arith}
-use lib.ListN.{take}
 use Rattle.rules.specs.Lists.{word}
 use Rattle.compiled.specs.Stretches.{kindsIn, leftsIn, rightsIn}
 use Rattle.rules.specs.Words.{Input}
@@ -19,7 +19,11 @@ use Rattle.item_table.proofs.Steps.{entry-none, entry-two, entry-modal, entry-a
 use Rattle.pairs.specs.Slot.{keyOf}
 use Rattle.settling.specs.Keys.{pairKey}
 use Rattle.settling.specs.Made.{Fitting}
+use Rattle.modalities.specs.declared.Modality.{Modality}
+use Rattle.modalities.specs.Matched.{Inside as InsideModality, modalityKeys}
 use Rattle.stepping.specs.Tables.{Tables}
+use Rattle.stepping.specs.Parts.{operandsOf, AllFit, ModalityIn}
+use Rattle.stepping.proofs.Operands.{operands-none, operands-two, operands-one}
 
 key-each : (l : ℕ) (ts : List ℕ) → map pairKey (map (λ t. (t, l)) ts) ≡ map (λ t. keyOf t l) ts
 key-each l [] = refl
@@ -80,17 +84,44 @@ module _ (x : Input) (compiled matched : List ℕ) (t : Tables x compiled matche
         pub action-there : 4 ≤ k → k < 6 → r < size (x .actions)
         action-there a b = entry-action x q k l r s both a (omega arith)
 
-        -- how many operands there are says which targets
-        module _ (n : ℕ) (two : k < 4 → n ≡ 2) (one : 4 ≤ k → n ≡ 1) (some : 2 ≤ k) (operands : 4 ≤ k → 6 ≤ k) where
-          pub kind-operands : map pairKey (targets x (s, q)) ≡ take n (keyOf s l ∷ keyOf s r ∷ [])
-          kind-operands = go (decLt k 4)
-            where
-              go : Dec (k < 4) → map pairKey (targets x (s, q)) ≡ take n (keyOf s l ∷ keyOf s r ∷ [])
-              go (yes h) = rw (two h) (kind-two some h)
-              go (no h) = rw (one (omega arith)) (kind-one (operands (omega arith)))
+    -- the operands, where it is no modality
+    module _ (operands : 4 ≤ k → 6 ≤ k) where
+      abbrev l : ℕ
+      l = word lefts q
 
-          pub operands-few : n ≤ 2
-          operands-few = elim (decLt k 4) [ yes h ↦ omega (arith, two h) | no h ↦ omega (arith, one (omega arith)) ]
+      abbrev r : ℕ
+      r = word rights q
 
-          pub second-fits : 1 < n → Fitting s r
-          second-fits h = elim (decLt k 4) [ yes b ↦ right-fits some b | no b ↦ absurd (omega (arith, one (omega arith))) ]
+      pub kind-operands : map pairKey (targets x (s, q)) ≡ map (keyOf s) (operandsOf k l r)
+      kind-operands = go (decLt k 2) (decLt k 4)
+        where
+          go : Dec (k < 2) → Dec (k < 4) → map pairKey (targets x (s, q)) ≡ map (keyOf s) (operandsOf k l r)
+          go (yes a) _ = rw (operands-none k l r a) (kind-none a)
+          go (no a) (yes b) = rw (operands-two k l r (omega arith) b) (kind-two l refl r refl (omega arith) b)
+          go (no a) (no b) = rw (operands-one k l r (omega arith)) (kind-one l refl (operands (omega arith)))
+
+      pub operands-fit : AllFit s (operandsOf k l r)
+      operands-fit = go (decLt k 2) (decLt k 4)
+        where
+          go : Dec (k < 2) → Dec (k < 4) → AllFit s (operandsOf k l r)
+          go (yes a) _ = rw (operands-none k l r a) (λ o m. absurd m)
+          go (no a) (yes b) =
+              rw (operands-two k l r (omega arith) b) (λ o m.
+              ⊎-elim (λ (e : o ≡ l). subst (Fitting s) (sym e) (left-fits l refl (omega arith)))
+              (⊎-elim (λ (e : o ≡ r). subst (Fitting s) (sym e) (right-fits l refl r refl (omega arith) b)) absurd) m)
+          go (no a) (no b) =
+              rw (operands-one k l r (omega arith)) (λ o m.
+              ⊎-elim (λ (e : o ≡ l). subst (Fitting s) (sym e) (left-fits l refl (omega arith))) absurd m)
+
+    -- the modality
+    module _ (m : Modality) (is : ModalityIn compiled (record { state = s; item = q }) m) (modal : k / 2 ≡ 2) where
+      pub modality-inside : InsideModality x m
+      modality-inside = (
+        omega (arith, i .0, is .state),
+        action-there (m .operand) (is .operand) (m .action) (is .action) (omega arith) (omega arith),
+        left-small (m .operand) (is .operand) (omega arith),
+      )
+
+      pub modality-targets : map pairKey (targets x (s, q)) ≡ modalityKeys x m
+      modality-targets =
+          rw (is .state) (kind-modal (m .operand) (is .operand) (m .action) (is .action) (omega arith) (omega arith))

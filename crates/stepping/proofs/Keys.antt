@@ -5,7 +5,6 @@ use mathlib.Core.List.{map}
 use Prim.Native.Nat.{ℕ, _<_}
 use native.Mathlib.Omega.{arith}
 use Rattle.rules.specs.Words.{Input}
-use Rattle.rules.specs.Items.{items}
 use Rattle.rules.specs.Pairs.{Pair, initialPair, targets}
 use Rattle.rules.specs.Reach.{Reachable, atRoot, onward}
 use Rattle.tables.specs.Good.{GoodInput}

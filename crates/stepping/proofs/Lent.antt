@@ -1,8 +1,9 @@
 -- What a step is lent to read, as the two walks by hand hold it: the four slices of the input, the compiled words, the
 -- bytes of matching labels, and the room by value. All of it is Copy, so it is passed on as a whole and kept as a
 -- whole.
---     Lent, rows              its values, and their types with what stands behind them in a signature
---     values, flat-values     the machine values, apart and one after another
+--     Six, rows               the values but for the room, and their types, before others
+--     Lent, lent-rows         with the room
+--     values, flat-values     the machine values before others, apart and one after another. lent-values: with the room's
 --     Owned, tokens           what is owned of it, and the tokens of its lifetimes
 --     twice                   it can be had twice
 --     ends-in                 what stands behind it among the parameters is exchanged for something else
@@ -33,14 +34,18 @@ use Rattle.rules.specs.declared.Room.{Room}
 use Rattle.rules.proofs.Room as P
 use Rattle.rules.proofs.Room.Laws as P′
 
-abbrev pub Lent : Type 0
-Lent = RefT (List ℕ) × (RefT (List ℕ) × (RefT (List ℕ) × (RefT (List ℕ) × (RefT (List ℕ) × (RefT (List ℕ) × (Room × Unit {0}))))))
+abbrev pub Six : Type 0 → Type 0
+Six X = RefT (List ℕ) × (RefT (List ℕ) × (RefT (List ℕ) × (RefT (List ℕ) × (RefT (List ℕ) × (RefT (List ℕ) × X)))))
 
--- the values before others
-abbrev pub before : {X : Type 0} → Lent → X
-    → RefT (List ℕ) × (RefT (List ℕ) × (RefT (List ℕ) × (RefT (List ℕ) × (RefT (List ℕ) × (RefT (List ℕ) × (Room × X))))))
-before s xs =
-    (s .0, (s .1 .0, (s .1 .1 .0, (s .1 .1 .1 .0, (s .1 .1 .1 .1 .0, (s .1 .1 .1 .1 .1 .0, (s .1 .1 .1 .1 .1 .1 .0, xs)))))))
+abbrev pub Lent : Type 0
+Lent = Six (Room × Unit {0})
+
+abbrev pub lent-room : Lent → Room
+lent-room s = s .1 .1 .1 .1 .1 .1 .0
+
+-- the six before others
+abbrev pub before : {X Y : Type 0} → Six X → Y → Six Y
+before s ys = (s .0, (s .1 .0, (s .1 .1 .0, (s .1 .1 .1 .0, (s .1 .1 .1 .1 .0, (s .1 .1 .1 .1 .1 .0, ys))))))
 
 abbrev slice-value : RefT (List ℕ) → Val
 slice-value s = sliceVal (s .ptr) (length (s .now))
@@ -49,9 +54,9 @@ abbrev array-value : RefT (List ℕ) → Val
 array-value s = vptr (s .ptr .0) (s .ptr .1)
 
 abbrev pub Values : Type 0 → Type 0
-Values X = List Val × (List Val × (List Val × (List Val × (List Val × (List Val × (List Val × X))))))
+Values X = List Val × (List Val × (List Val × (List Val × (List Val × (List Val × X)))))
 
-abbrev pub values : {X : Type 0} → Lent → X → Values X
+abbrev pub values : {X Y : Type 0} → Six X → Y → Values Y
 values s us = (
   slice-value (s .0) ∷ [],
   (
@@ -60,16 +65,19 @@ values s us = (
       slice-value (s .1 .1 .0) ∷ [],
       (
         slice-value (s .1 .1 .1 .0) ∷ [],
-        (array-value (s .1 .1 .1 .1 .0) ∷ [], (array-value (s .1 .1 .1 .1 .1 .0) ∷ [], (P′.lowered (s .1 .1 .1 .1 .1 .1 .0) ∷ [], us))),
+        (array-value (s .1 .1 .1 .1 .0) ∷ [], (array-value (s .1 .1 .1 .1 .1 .0) ∷ [], us)),
       ),
     ),
   ),
 )
 
-abbrev pub flat-values : Lent → List Val → List Val
+abbrev pub lent-values : Lent → Values (List Val × Unit {0})
+lent-values s = values s (P′.lowered (lent-room s) ∷ [], tt)
+
+abbrev pub flat-values : {X : Type 0} → Six X → List Val → List Val
 flat-values s us =
     slice-value (s .0) ∷ slice-value (s .1 .0) ∷ slice-value (s .1 .1 .0) ∷ slice-value (s .1 .1 .1 .0)
-    ∷ array-value (s .1 .1 .1 .1 .0) ∷ array-value (s .1 .1 .1 .1 .1 .0) ∷ P′.lowered (s .1 .1 .1 .1 .1 .1 .0) ∷ us
+    ∷ array-value (s .1 .1 .1 .1 .0) ∷ array-value (s .1 .1 .1 .1 .1 .0) ∷ us
 
 module _ (κs : Lfts 6) where
   -- the types, whose lifetimes are those of a signature from n on
@@ -77,10 +85,13 @@ module _ (κs : Lfts 6) where
   rows n rest =
       ShrSlice (named n) (κs .0) u32 ∷ ShrSlice (named (n + 1)) (κs .1 .0) u32 ∷ ShrSlice (named (n + 2)) (κs .1 .1 .0) u32
       ∷ ShrSlice (named (n + 3)) (κs .1 .1 .1 .0) u32 ∷ ShrRef (named (n + 4)) (κs .1 .1 .1 .1 .0) (Array u32 16640)
-      ∷ ShrRef (named (n + 5)) (κs .1 .1 .1 .1 .1 .0) (Array u8 17408) ∷ P.the-row ∷ rest
+      ∷ ShrRef (named (n + 5)) (κs .1 .1 .1 .1 .1 .0) (Array u8 17408) ∷ rest
+
+  abbrev pub lent-rows : ℕ → List RattleType
+  lent-rows n = rows n (P.the-row ∷ [])
 
   abbrev pub Owned : Lent → Fml
-  Owned s = owns (rows 0 []) s (values s tt)
+  Owned s = owns (lent-rows 0) s (lent-values s)
 
   abbrev pub tokens : {M : Type 1} (𝓤 : URA M) → Shares 6 → Item 𝓤
   tokens 𝓤 qs =
@@ -91,7 +102,7 @@ module _ (κs : Lfts 6) where
   module _ {M : Type 1} (𝓤 : URA M) (H : Heap 𝓤) (A : Atoms 𝓤) (W : Given 𝓤 H A) where
     pub twice : (s : Lent) → ent 𝓤 (sem 𝓤 H A (Owned s)) (sep 𝓤 (sem 𝓤 H A (Owned s)) (sem 𝓤 H A (Owned s)))
     twice s =
-        twices 𝓤 H A W (rows 0 []) (
+        twices 𝓤 H A W (lent-rows 0) (
           shr-slice-copy 𝓤 H A W (named 0) (κs .0) u32,
           (
             shr-slice-copy 𝓤 H A W (named 1) (κs .1 .0) u32,
@@ -110,7 +121,7 @@ module _ (κs : Lfts 6) where
             ),
           ),
         )
-        s (values s tt)
+        s (lent-values s)
 
     pub ends-in : (s : Lent) (old new : List RattleType) (xs : Denots old) (us : Valss old) (ys : Denots new) (vs : Valss new)
         → ent 𝓤 (sep 𝓤 (sem 𝓤 H A (owns new ys vs)) (sem 𝓤 H A (owns (rows 0 old) (before s xs) (values s us))))
@@ -118,10 +129,10 @@ module _ (κs : Lfts 6) where
     ends-in s old new xs us ys vs =
         qed W (‵ (owns new ys vs) ∷ ‵ (owns (rows 0 old) (before s xs) (values s us)) ∷ []) ∵
         move ! (1 ∷ []) $ fsplit ! $ move ! (1 ∷ []) $ fsplit ! $ move ! (1 ∷ []) $ fsplit ! $ move ! (1 ∷ []) $ fsplit ! $
-        move ! (1 ∷ []) $ fsplit ! $ move ! (1 ∷ []) $ fsplit ! $ move ! (1 ∷ []) $ fsplit ! $ move ! (1 ∷ []) $ drop ! $
-        -- [each of the seven, last first; the new end]
-        move ! (0 ∷ 7 ∷ []) $ fjoin ! $ move ! (1 ∷ 0 ∷ []) $ fjoin ! $ move ! (1 ∷ 0 ∷ []) $ fjoin ! $ move ! (1 ∷ 0 ∷ []) $ fjoin ! $
-        move ! (1 ∷ 0 ∷ []) $ fjoin ! $ move ! (1 ∷ 0 ∷ []) $ fjoin ! $ move ! (1 ∷ 0 ∷ []) $ fjoin ! $ done !
+        move ! (1 ∷ []) $ fsplit ! $ move ! (1 ∷ []) $ fsplit ! $ move ! (1 ∷ []) $ drop ! $
+        -- [each of the six, last first; the new end]
+        move ! (0 ∷ 6 ∷ []) $ fjoin ! $ move ! (1 ∷ 0 ∷ []) $ fjoin ! $ move ! (1 ∷ 0 ∷ []) $ fjoin ! $ move ! (1 ∷ 0 ∷ []) $ fjoin ! $
+        move ! (1 ∷ 0 ∷ []) $ fjoin ! $ move ! (1 ∷ 0 ∷ []) $ fjoin ! $ done !
 
 pub says-two : {M : Type 1} {𝓤 : URA M} {H : Heap 𝓤} {A : Atoms 𝓤} {K : Type 0} {W : Given 𝓤 H A} {Γ : List (Item 𝓤)} → K
     → {φ ψ : Type 0} {Q : SProp 𝓤} → φ → ψ → Step K W Γ (prop Q) Γ (prop (sep 𝓤 Q (sep 𝓤 (fact 𝓤 φ) (fact 𝓤 ψ))))

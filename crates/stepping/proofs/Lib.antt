@@ -1,4 +1,5 @@
 pub mod Keys
+pub mod Operands
 pub mod ByKind
 pub mod Steps
 pub mod Pops
@@ -7,5 +8,6 @@ pub mod Starts
 pub mod Offsets
 pub mod Paired
 pub mod Aside
+pub mod Slots
 pub mod Lent
 pub mod Lies

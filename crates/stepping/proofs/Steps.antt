@@ -31,6 +31,7 @@ use Rattle.settling.specs.declared.Counters.{Counters}
 use Rattle.settling.specs.Stand.{waitingIn, waitingOf, edgesOf, standOf, edgesFor, settledIn, startIn, countIn}
 use Rattle.settling.specs.Made.{Marks, Ready, Made, TooMany, Closing}
 use Rattle.settling.specs.Good.{edgesDue, Exceeding, Stretch, Good, StepMade}
+use Rattle.stepping.specs.Parts.{withoutTop}
 use Rattle.settling.proofs.Buffer.{waiting-top, none-waits, edges-put, length-edges, settled-in, settled-same}
 
 -- ---- lists
@@ -44,10 +45,6 @@ pub length-edgesFor : (u : ℕ) (ks ts : List ℕ) → length (edgesFor u ks ts)
 unfolding edgesFor
 length-edgesFor u ks [] = omega arith
 length-edgesFor u ks (t ∷ ts) = omega (arith, positions-length number-equality ks (t ∷ ts))
-
--- the counters with the last vertex popped
-abbrev pub popped : Counters → Counters
-popped c = record { known = c .known; settled = c .settled; edges = c .edges; waiting = c .waiting - 1 }
 
 module _ (targets : ℕ → List ℕ) (root v e : ℕ) (w : List ℕ) (c : Counters) (g : Good targets root w v e c) where
   -- with nothing waiting nothing changes
@@ -131,7 +128,7 @@ module _ (targets : ℕ → List ℕ) (root v e : ℕ) (w : List ℕ) (c : Count
           ap (λ (l : List ℕ). edgesOf l v (c .edges)) g₁
           ∙ edges-put 5 v u (c .edges) (c .edges) w (lit< tt) top-below
 
-      pub popped-ready : Ready w₁ v e (popped c)
+      pub popped-ready : Ready w₁ v e (withoutTop c)
       popped-ready =
           let r = g .ready in
           record {
@@ -152,7 +149,7 @@ module _ (targets : ℕ → List ℕ) (root v e : ℕ) (w : List ℕ) (c : Count
 
       module _ (ts : List ℕ) (same : ts ≡ targets here) where
         -- too many in the middle of the step are too many after it
-        pub step-many : TooMany w₁ v e (popped c) ts
+        pub step-many : TooMany w₁ v e (withoutTop c) ts
             → Exceeding targets root v e (step eqb targets root (standOf w v c))
         step-many f =
             ⊎-elim
@@ -160,7 +157,7 @@ module _ (targets : ℕ → List ℕ) (root v e : ℕ) (w : List ℕ) (c : Count
             (λ l. inr (omega (arith, next-sum, ap length same)))
             f
 
-        module _ (w₂ : List ℕ) (c₂ : Counters) (a : Made w₁ v e (popped c) w₂ c₂ ts) where
+        module _ (w₂ : List ℕ) (c₂ : Counters) (a : Made w₁ v e (withoutTop c) w₂ c₂ ts) where
           pub close-left : c₂ .settled + c₂ .waiting < c₂ .known
           close-left = omega (arith, a .balance, a .same-settled, g .balance)
 

@@ -15,10 +15,13 @@ use Rattle.walks.proofs.Steps.{walk-step, idle-walk}
 use Rattle.walks.proofs.Facts.{walk-keeps, walk-grows}
 use Rattle.words.specs.Regions.{region}
 use Rattle.settling.specs.declared.Counters.{Counters}
+use Rattle.settling.specs.declared.Stepped.{Stepped}
+use Rattle.settling.specs.declared.Stepped.the-variants.{Fits, Full}
 use Rattle.settling.specs.Stand.{standOf}
-use Rattle.settling.specs.Good.{edgesDue, Exceeding, StepMade, WalkMade}
+use Rattle.settling.specs.Good.{edgesDue, Exceeding, StepMade, StepAnswer, WalkMade}
 use Rattle.settling.proofs.Buffer.{none-waits}
-use Rattle.stepping.specs.Answers.{TriedAnswer, RanAnswer}
+use Rattle.stepping.specs.declared.Tried.{Tried}
+use Rattle.stepping.specs.Answers.{triedOf, TriedAnswer, RanAnswer}
 
 -- too many after fewer steps are too many after more
 pub exceeding-later : (targets : ℕ → List ℕ) (root v e i k : ℕ) → i ≤ k → Exceeding targets root v e (walk eqb targets root i) → Exceeding targets root v e (walk eqb targets root k)
@@ -27,6 +30,12 @@ exceeding-later targets root v e i k h f =
     (λ l. inl (omega (arith, begins-length (walk eqb targets root i .known) (walk eqb targets root k .known) (walk-keeps number-equality targets root i k h))))
     (λ l. inr (omega (arith, walk-grows number-equality targets root (edgesDue targets) i k h)))
     f
+
+-- what a step answers is what its try does
+pub tried-answer : (targets : ℕ → List ℕ) (root v e : ℕ) (w w′ : List ℕ) (c : Counters) (r : Stepped) (t : Tried) → t ≡ triedOf c r
+    → 0 < c .waiting → StepAnswer targets root w v e c w′ r → TriedAnswer targets root w v e c w′ (t .counters) (t .more)
+tried-answer targets root v e w w′ c (Fits next) t is some a = rw is a
+tried-answer targets root v e w w′ c Full t is some a = rw is (inr (some, a))
 
 -- i steps are done
 pub record Walking (targets : ℕ → List ℕ) (root v e k : ℕ) (w₀ w : List ℕ) (c : Counters) (i : ℕ) : Type 0 where

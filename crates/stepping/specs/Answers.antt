@@ -7,8 +7,16 @@ use Prim.Native.Nat.{ℕ, _≤_, _<_}
 use lib.Dec.{eqb}
 use Rattle.rules.specs.Walk.{step, walk}
 use Rattle.settling.specs.declared.Counters.{Counters}
+use Rattle.settling.specs.declared.Stepped.{Stepped}
+use Rattle.settling.specs.declared.Stepped.the-variants.{Fits, Full}
 use Rattle.settling.specs.Stand.{standOf}
 use Rattle.settling.specs.Good.{Exceeding, StepMade, WalkMade}
+use Rattle.stepping.specs.declared.Tried.{Tried}
+
+-- what a step from these counters answers, as a try
+abbrev pub triedOf : Counters → Stepped → Tried
+triedOf c (Fits next) = record { counters = next; more = true }
+triedOf c Full = record { counters = c; more = false }
 
 -- where there may be another step one was made; else none waits, or a vertex waits and its step would be too much
 abbrev pub TriedAnswer : (ℕ → List ℕ) → ℕ → List ℕ → ℕ → ℕ → Counters → List ℕ → Counters → Bool → Type 0

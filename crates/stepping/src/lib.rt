@@ -22,14 +22,15 @@ ghost use Rattle.rules.specs.Pairs.{targets};
 ghost use Rattle.tables.specs.Good.{GoodInput};
 ghost use Rattle.arena.specs.Arena.{Inside};
 ghost use Rattle.compiled.specs.Stretches.{multiplesIn};
-ghost use Rattle.pairs.specs.Slot.{Multiples};
+ghost use Rattle.pairs.specs.Slot.{Multiples, keyOf};
 ghost use Rattle.pairs.specs.Table.{stateAt, itemAt};
 ghost use Rattle.settling.specs.Keys.{pairKey, keyTargets, rootKey};
-ghost use Rattle.settling.specs.Made.{Answer, Cleared, Sized};
+ghost use Rattle.settling.specs.Made.{Answer, Cleared, Ready, Sized};
 ghost use Rattle.modalities.specs.Matched.{Unmarked};
 ghost use Rattle.settling.specs.Good.{Good, StepAnswer, WalkMade, WalkAnswer};
 ghost use Rattle.stepping.specs.Tables.{Tables};
-ghost use Rattle.stepping.specs.Answers.{TriedAnswer, RanAnswer};
+ghost use Rattle.stepping.specs.Parts.{topOf, PopAnswer, operandsIn, AllFit, ModalityIn};
+ghost use Rattle.stepping.specs.Answers.{triedOf, TriedAnswer, RanAnswer};
 
 // A state and the number of an item.
 pub struct Pair {
@@ -38,20 +39,93 @@ pub struct Pair {
 }
 
 // The pair that a vertex stands for.
-fn pair_of(work: &[u32], v: u32, vertex: VertexIndex) -> Pair
-    requires { ⌜ (8 * v ≤ length (now work)) × (vertex .0 < v) ⌝ }
-    ensures { λ r. ⌜ (r .state ≡ stateAt (now (work .entry)) v (vertex .0))
-        × (r .item ≡ itemAt (now (work .entry)) v (vertex .0)) ⌝ }
+fn pair_of(work: &[u32], vertices: u32, vertex: VertexIndex) -> Pair
+    requires { ⌜ (8 * vertices ≤ length (now work)) × (vertex .0 < vertices) ⌝ }
+    ensures { λ r. ⌜ (r .state ≡ stateAt (now (work .entry)) vertices (vertex .0))
+        × (r .item ≡ itemAt (now (work .entry)) vertices (vertex .0)) ⌝ }
 {
     Pair {
-        state: pairs::state_of(work, v, vertex),
-        item: pairs::item_of(work, v, vertex),
+        state: pairs::state_of(work, vertices, vertex),
+        item: pairs::item_of(work, vertices, vertex),
     }
 }
 
-// The targets of a pair are met and get their edges, by the item's kind: crate `kinds` has the rules.
+// A vertex taken off the stack: the counters without it, and the pair that it stands for.
+pub struct Popped {
+    pub counters: Counters,
+    pub vertex: VertexIndex,
+    pub pair: Pair,
+}
+
+// Takes the vertex that was numbered last off the stack. Its edges start behind those that there are.
+fn pop(counters: Counters, work: &mut [u32], room: Room) -> Popped
+    requires { ⌜ Ready (now work) (room .vertices) (room .edges) counters ⌝ }
+    requires { ⌜ (0 < counters .waiting) × (topOf (now work) (room .vertices) counters < room .vertices) ⌝ }
+    ensures { λ r. ⌜ PopAnswer (now (work .entry)) (room .vertices) counters (now (work .exit)) r ⌝ }
+{
+    let vertices = room.vertices;
+    let top = counters.waiting - 1;
+    let vertex = VertexIndex(words::region_word(work, vertices, STACK, top));
+    let pair = pair_of(work, vertices, vertex);
+    words::put_word(work, vertices, STARTS, vertex.0, counters.edges);
+    let mut left = counters;
+    left.waiting = top;
+    Popped {
+        counters: left,
+        vertex,
+        pair,
+    }
+}
+
+// The targets of a pair whose item is no modality are met and get their edges: they stay at its state.
+fn settle_at_state(
+    counters: Counters,
+    compiled: &Compiled,
+    work: &mut [u32],
+    room: Room,
+    pair: Pair,
+    kind: u32,
+) -> Stepped
+    requires { ⌜ Multiples (multiplesIn (now compiled)) × (pair .item < 2048) ⌝ }
+    requires { ⌜ Ready (now work) (room .vertices) (room .edges) counters ⌝ }
+    requires { ⌜ AllFit (pair .state) (operandsIn (now compiled) kind (pair .item)) ⌝ }
+    ensures { λ r. ⌜ Answer (now (work .entry)) (room .vertices) (room .edges) counters
+        (map (keyOf (pair .state)) (operandsIn (now (compiled .entry)) kind (pair .item))) (now (work .exit)) r ⌝ }
+{
+    if kind < 2 {
+        return Stepped::Fits(counters);
+    }
+    let left = compiled::left_of(compiled, pair.item);
+    let right = compiled::right_of(compiled, pair.item);
+    let count = kinds::operand_count(kind);
+    let multiples = compiled::multiples(compiled);
+    settling::settle_operands(
+        counters,
+        multiples,
+        work,
+        room,
+        pair.state,
+        left,
+        right,
+        count,
+    )
+}
+
+// The modality that a pair stands for, where its item is one.
+fn modality_of(compiled: &Compiled, pair: Pair) -> Modality
+    requires { ⌜ pair .item < 2048 ⌝ }
+    ensures { λ r. ⌜ ModalityIn (now (compiled .entry)) pair r ⌝ }
+{
+    Modality {
+        state: pair.state,
+        action: compiled::right_of(compiled, pair.item),
+        operand: compiled::left_of(compiled, pair.item),
+    }
+}
+
+// The targets of a popped vertex are met and get their edges, by the kind of its item: crate `kinds` has the rules.
 fn settle(
-    c: Counters,
+    popped: Popped,
     compiled: &Compiled,
     work: &mut [u32],
     room: Room,
@@ -60,29 +134,21 @@ fn settle(
     actions: &[u32],
     formula: &[u32],
     matched: &MatchBytes,
-    pair: Pair,
 ) -> Stepped
     ghost { Input }
     requires { λ x. ⌜ inputOf (now labels) (now system) (now actions) (now formula) ≡ x ⌝ }
-    requires { λ x. ⌜ Tables x (now compiled) (now matched) × Inside x (pair .state, pair .item) ⌝ }
-    requires { λ x. ⌜ Unmarked (now work) room c ⌝ }
-    ensures { λ x r. ⌜ Answer (now (work .entry)) (room .vertices) (room .edges) c
-        (map pairKey (targets x (pair .state, pair .item))) (now (work .exit)) r ⌝ }
+    requires { λ x. ⌜ Tables x (now compiled) (now matched) × Inside x (popped .pair .state, popped .pair .item) ⌝ }
+    requires { λ x. ⌜ Unmarked (now work) room (popped .counters) ⌝ }
+    ensures { λ x r. ⌜ Answer (now (work .entry)) (room .vertices) (room .edges) (popped .counters)
+        (map pairKey (targets x (popped .pair .state, popped .pair .item))) (now (work .exit)) r ⌝ }
 {
+    let counters = popped.counters;
+    let pair = popped.pair;
     let kind = compiled::kind_of(compiled, pair.item);
-    if kind < 2 {
-        return Stepped::Fits(c);
-    }
-    let left = compiled::left_of(compiled, pair.item);
-    let right = compiled::right_of(compiled, pair.item);
     if kinds::is_modality(kind) {
-        let modality = Modality {
-            state: pair.state,
-            action: right,
-            operand: left,
-        };
+        let modality = modality_of(compiled, pair);
         return modalities::settle_modality(
-            c,
+            counters,
             compiled,
             work,
             room,
@@ -93,14 +159,12 @@ fn settle(
             modality,
         );
     }
-    let count = kinds::operand_count(kind);
-    let multiples = compiled::multiples(compiled);
-    settling::settle_operands(c, multiples, work, room, pair.state, left, right, count)
+    settle_at_state(counters, compiled, work, room, pair, kind)
 }
 
 // The waiting vertex that was numbered last is settled.
 pub fn step(
-    c: Counters,
+    counters: Counters,
     compiled: &Compiled,
     work: &mut [u32],
     room: Room,
@@ -113,22 +177,15 @@ pub fn step(
     ghost { Input }
     requires { λ x. ⌜ inputOf (now labels) (now system) (now actions) (now formula) ≡ x ⌝ }
     requires { λ x. ⌜ Tables x (now compiled) (now matched) ⌝ }
-    requires { λ x. ⌜ Good (keyTargets x) (rootKey x) (now work) (room .vertices) (room .edges) c ⌝ }
-    ensures { λ x r. ⌜ StepAnswer (keyTargets x) (rootKey x) (now (work .entry)) (room .vertices) (room .edges) c
-        (now (work .exit)) r ⌝ }
+    requires { λ x. ⌜ Good (keyTargets x) (rootKey x) (now work) (room .vertices) (room .edges) counters ⌝ }
+    ensures { λ x r. ⌜ StepAnswer (keyTargets x) (rootKey x) (now (work .entry)) (room .vertices) (room .edges)
+        counters (now (work .exit)) r ⌝ }
 {
-    let waiting = c.waiting;
-    if waiting == 0 {
-        return Stepped::Fits(c);
+    if counters.waiting == 0 {
+        return Stepped::Fits(counters);
     }
-    let v = room.vertices;
-    let start = c.edges;
-    let top = waiting - 1;
-    let vertex = VertexIndex(words::region_word(work, v, STACK, top));
-    let pair = pair_of(work, v, vertex);
-    words::put_word(work, v, STARTS, vertex.0, start);
-    let mut popped = c;
-    popped.waiting = top;
+    let popped = pop(counters, work, room);
+    let vertex = popped.vertex;
     match settle(
         popped,
         compiled,
@@ -139,9 +196,8 @@ pub fn step(
         actions,
         formula,
         matched,
-        pair,
     ) {
-        Stepped::Fits(made) => settling::close(made, work, room, vertex, start),
+        Stepped::Fits(made) => settling::close(made, work, room, vertex, counters.edges),
         Stepped::Full => Stepped::Full,
     }
 }
@@ -152,9 +208,25 @@ pub struct Tried {
     pub more: bool,
 }
 
+// What a step answers, as a try: where there was no room the counters stay as they are.
+fn tried_by(counters: Counters, stepped: Stepped) -> Tried
+    ensures { λ r. ⌜ r ≡ triedOf counters stepped ⌝ }
+{
+    match stepped {
+        Stepped::Fits(next) => Tried {
+            counters: next,
+            more: true,
+        },
+        Stepped::Full => Tried {
+            counters,
+            more: false,
+        },
+    }
+}
+
 // A step, where a vertex waits and there is room for its targets. Elsewhere the counters stay as they are.
 fn try_step(
-    c: Counters,
+    counters: Counters,
     work: &mut [u32],
     labels: &[u32],
     system: &[u32],
@@ -167,19 +239,18 @@ fn try_step(
     ghost { Input }
     requires { λ x. ⌜ inputOf (now labels) (now system) (now actions) (now formula) ≡ x ⌝ }
     requires { λ x. ⌜ Tables x (now compiled) (now matched)
-        × Good (keyTargets x) (rootKey x) (now work) (room .vertices) (room .edges) c ⌝ }
-    ensures { λ x r. ⌜ TriedAnswer (keyTargets x) (rootKey x) (now (work .entry)) (room .vertices) (room .edges) c
-        (now (work .exit)) (r .counters) (r .more) ⌝ }
+        × Good (keyTargets x) (rootKey x) (now work) (room .vertices) (room .edges) counters ⌝ }
+    ensures { λ x r. ⌜ TriedAnswer (keyTargets x) (rootKey x) (now (work .entry)) (room .vertices) (room .edges)
+        counters (now (work .exit)) (r .counters) (r .more) ⌝ }
 {
-    let same = Tried {
-        counters: c,
-        more: false,
-    };
-    if c.waiting == 0 {
-        return same;
+    if counters.waiting == 0 {
+        return Tried {
+            counters,
+            more: false,
+        };
     }
-    match step(
-        c,
+    let stepped = step(
+        counters,
         compiled,
         work,
         room,
@@ -188,18 +259,13 @@ fn try_step(
         actions,
         formula,
         matched,
-    ) {
-        Stepped::Fits(next) => Tried {
-            counters: next,
-            more: true,
-        },
-        Stepped::Full => same,
-    }
+    );
+    tried_by(counters, stepped)
 }
 
 // The same where the counters stand. It answers whether there may be another step.
 pub fn step_in_place(
-    c: &mut Counters,
+    counters: &mut Counters,
     work: &mut [u32],
     labels: &[u32],
     system: &[u32],
@@ -212,12 +278,12 @@ pub fn step_in_place(
     ghost { Input }
     requires { λ x. ⌜ inputOf (now labels) (now system) (now actions) (now formula) ≡ x ⌝ }
     requires { λ x. ⌜ Tables x (now compiled) (now matched)
-        × Good (keyTargets x) (rootKey x) (now work) (room .vertices) (room .edges) (now c) ⌝ }
+        × Good (keyTargets x) (rootKey x) (now work) (room .vertices) (room .edges) (now counters) ⌝ }
     ensures { λ x r. ⌜ TriedAnswer (keyTargets x) (rootKey x) (now (work .entry)) (room .vertices) (room .edges)
-        (now (c .entry)) (now (work .exit)) (now (c .exit)) r ⌝ }
+        (now (counters .entry)) (now (work .exit)) (now (counters .exit)) r ⌝ }
 {
     let tried = try_step(
-        *c,
+        *counters,
         work,
         labels,
         system,
@@ -227,7 +293,7 @@ pub fn step_in_place(
         matched,
         room,
     );
-    *c = tried.counters;
+    *counters = tried.counters;
     tried.more
 }
 
@@ -237,7 +303,13 @@ pub struct Ran {
     pub steps: u32,
 }
 
-// At most `limit` steps. The counters stand in one place, and each step updates them there.
+// What a run may use: room for vertices and edges, and so many steps.
+pub struct Bounds {
+    pub room: Room,
+    pub limit: u32,
+}
+
+// At most `bounds.limit` steps. The counters stand in one place, and each step updates them there.
 fn run_steps(
     work: &mut [u32],
     labels: &[u32],
@@ -246,22 +318,22 @@ fn run_steps(
     formula: &[u32],
     compiled: &Compiled,
     matched: &MatchBytes,
-    room: Room,
-    limit: u32,
-    c: Counters,
+    bounds: Bounds,
+    begun: Counters,
 ) -> Ran
     ghost { Input }
     requires { λ x. ⌜ inputOf (now labels) (now system) (now actions) (now formula) ≡ x ⌝ }
     requires { λ x. ⌜ Tables x (now compiled) (now matched)
-        × WalkMade (keyTargets x) (rootKey x) (room .vertices) (room .edges) 0 (now work) c ⌝ }
-    ensures { λ x r. ⌜ RanAnswer (keyTargets x) (rootKey x) (room .vertices) (room .edges) limit (now (work .exit))
-        (r .counters) (r .steps) ⌝ }
+        × WalkMade (keyTargets x) (rootKey x) (bounds .room .vertices) (bounds .room .edges) 0 (now work) begun ⌝ }
+    ensures { λ x r. ⌜ RanAnswer (keyTargets x) (rootKey x) (bounds .room .vertices) (bounds .room .edges)
+        (bounds .limit) (now (work .exit)) (r .counters) (r .steps) ⌝ }
 {
-    let mut at = c;
-    let mut i: u32 = 0;
-    while i < limit {
+    let room = bounds.room;
+    let mut counters = begun;
+    let mut steps: u32 = 0;
+    while steps < bounds.limit {
         if !step_in_place(
-            &mut at,
+            &mut counters,
             work,
             labels,
             system,
@@ -273,33 +345,30 @@ fn run_steps(
         ) {
             break;
         }
-        i += 1;
+        steps += 1;
     }
-    Ran {
-        counters: at,
-        steps: i,
-    }
+    Ran { counters, steps }
 }
 
-// At most `limit` steps from the beginning.
+// At most `bounds.limit` steps from the beginning.
 pub fn walk(
-    c: Counters,
+    counters: Counters,
     compiled: &Compiled,
     work: &mut [u32],
-    room: Room,
+    bounds: Bounds,
     labels: &[u32],
     system: &[u32],
     actions: &[u32],
     formula: &[u32],
     matched: &MatchBytes,
-    limit: u32,
 ) -> Stepped
     ghost { Input }
     requires { λ x. ⌜ inputOf (now labels) (now system) (now actions) (now formula) ≡ x ⌝ }
     requires { λ x. ⌜ Tables x (now compiled) (now matched) ⌝ }
-    requires { λ x. ⌜ WalkMade (keyTargets x) (rootKey x) (room .vertices) (room .edges) 0 (now work) c ⌝ }
-    ensures { λ x r. ⌜ WalkAnswer (keyTargets x) (rootKey x) (room .vertices) (room .edges) limit
-        (now (work .exit)) r ⌝ }
+    requires { λ x. ⌜ WalkMade (keyTargets x) (rootKey x) (bounds .room .vertices) (bounds .room .edges) 0 (now work)
+        counters ⌝ }
+    ensures { λ x r. ⌜ WalkAnswer (keyTargets x) (rootKey x) (bounds .room .vertices) (bounds .room .edges)
+        (bounds .limit) (now (work .exit)) r ⌝ }
 {
     let ran = run_steps(
         work,
@@ -309,27 +378,26 @@ pub fn walk(
         formula,
         compiled,
         matched,
-        room,
-        limit,
-        c,
+        bounds,
+        counters,
     );
-    let counters = ran.counters;
-    if ran.steps < limit {
-        if 0 < counters.waiting {
+    let last = ran.counters;
+    if ran.steps < bounds.limit {
+        if 0 < last.waiting {
             return Stepped::Full;
         }
     }
-    Stepped::Fits(counters)
+    Stepped::Fits(last)
 }
 
 // Every word of a region becomes 0.
-fn clear_region(work: &mut [u32], v: u32, area: u32)
-    requires { ⌜ (v ≤ 1048576) × (8 * v ≤ length (now work)) × (area < 8) ⌝ }
-    ensures { λ _. ⌜ Cleared (now (work .entry)) (now (work .exit)) v area ⌝ }
+fn clear_region(work: &mut [u32], vertices: u32, area: u32)
+    requires { ⌜ (vertices ≤ 1048576) × (8 * vertices ≤ length (now work)) × (area < 8) ⌝ }
+    ensures { λ _. ⌜ Cleared (now (work .entry)) (now (work .exit)) vertices area ⌝ }
 {
     let mut i = 0;
-    while i < v {
-        words::put_word(work, v, area, i, 0);
+    while i < vertices {
+        words::put_word(work, vertices, area, i, 0);
         i += 1;
     }
 }
@@ -350,10 +418,10 @@ pub fn begin(
     requires { λ x. ⌜ Sized (now work) (room .vertices) (room .edges) ⌝ }
     ensures { λ x r. ⌜ WalkAnswer (keyTargets x) (rootKey x) (room .vertices) (room .edges) 0 (now (work .exit)) r ⌝ }
 {
-    let v = room.vertices;
-    pairs::start(work, v);
-    clear_region(work, v, MARKS);
-    clear_region(work, v, COUNTS);
+    let vertices = room.vertices;
+    pairs::start(work, vertices);
+    clear_region(work, vertices, MARKS);
+    clear_region(work, vertices, COUNTS);
     let initial = system[2];
     let none = Counters {
         known: 0,
@@ -364,11 +432,7 @@ pub fn begin(
     let multiples = compiled::multiples(compiled);
     let scaled = pairs::product(multiples, 0);
     match settling::meet(none, multiples, work, room, initial, 0, scaled) {
-        Met::Meets {
-            vertex: _,
-            known,
-            waiting,
-        } => Stepped::Fits(Counters {
+        Met::Meets { known, waiting, .. } => Stepped::Fits(Counters {
             known,
             settled: 0,
             edges: 0,

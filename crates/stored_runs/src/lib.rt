@@ -21,24 +21,24 @@ pub fn read_words(text: &[u8], from: usize, stored: &mut [u32])
     }
 }
 
-fn size(w: u32) -> usize
-    ensures { λ r. ⌜ r ≡ w ⌝ }
+fn size(word: u32) -> usize
+    ensures { λ r. ⌜ r ≡ word ⌝ }
 {
-    w as usize
+    word as usize
 }
 
 // A stored length; one above `most` counts as `most`.
-pub fn length_of(w: u32, most: usize) -> usize
-    ensures { λ r. ⌜ (r ≡ min w most) × (r ≤ most) ⌝ }
+pub fn length_of(word: u32, most: usize) -> usize
+    ensures { λ r. ⌜ (r ≡ min word most) × (r ≤ most) ⌝ }
 {
-    let n = size(w);
-    if n <= most { n } else { most }
+    let stored = size(word);
+    if stored <= most { stored } else { most }
 }
 
 // ---- printing: no contract can say what is written
 
-fn long(w: u32) -> u64 {
-    w as u64
+fn long(word: u32) -> u64 {
+    word as u64
 }
 
 fn space() {
@@ -61,8 +61,8 @@ fn print(label: &[u8], ws: &[u32]) {
 }
 
 // As the thin program prints an answer.
-fn print_answer(a: Answer) {
-    match a {
+fn print_answer(answer: Answer) {
+    match answer {
         Answer::Done(steps, vertices, edges) => {
             print(b"done", &[steps, vertices, edges]);
         }
@@ -75,34 +75,34 @@ fn print_answer(a: Answer) {
     }
 }
 
-pub fn answer_line(a: Answer) {
-    print_answer(a);
+pub fn answer_line(answer: Answer) {
+    print_answer(answer);
     line_end();
 }
 
 // 1 for a word that is not 0.
-fn set(w: u32) -> u64
-    ensures { λ r. ⌜ (r ≡ one w) × (r ≤ 1) ⌝ }
+fn set(word: u32) -> u64
+    ensures { λ r. ⌜ (r ≡ one word) × (r ≤ 1) ⌝ }
 {
-    if w == 0 { 0 } else { 1 }
+    if word == 0 { 0 } else { 1 }
 }
 
 // How many words are not 0.
 fn count_set(ws: &[u32]) -> u64
     ensures { λ r. ⌜ r ≡ setIn (length (now (ws .entry))) (now (ws .entry)) ⌝ }
 {
-    let mut n = 0u64;
+    let mut count = 0u64;
     let mut i = 0;
     while i < ws.len() {
-        n += set(ws[i]);
+        count += set(ws[i]);
         i += 1;
     }
-    n
+    count
 }
 
 // A line: the answer, what the slices for the game and the map hold, and how many words of the work slice are not 0.
-pub fn outcome_line(a: Answer, game: &[u32], map: &[u32], work: &[u32]) {
-    print_answer(a);
+pub fn outcome_line(answer: Answer, game: &[u32], map: &[u32], work: &[u32]) {
+    print_answer(answer);
     print(b" |", game);
     print(b" |", map);
     io::write_all(STDOUT_FILENO, b" | ");
@@ -113,8 +113,8 @@ pub fn outcome_line(a: Answer, game: &[u32], map: &[u32], work: &[u32]) {
 // ---- restricting
 
 fn run_restrict(game: &[u32], out: &mut [u32], map: &mut [u32], work: &mut [u32]) {
-    let a = reachability::compute_reachable(game, out, map, work);
-    outcome_line(a, out, map, work);
+    let answer = reachability::compute_reachable(game, out, map, work);
+    outcome_line(answer, out, map, work);
 }
 
 fn filled(fill: u32) -> [u32; 4096]
@@ -123,12 +123,17 @@ fn filled(fill: u32) -> [u32; 4096]
     [fill; 4096]
 }
 
-// Restricts a game and prints the outcome. The lent slices have n, k and m words, each word `fill` before the call.
-pub fn restrict(game: &[u32], fill: u32, n: usize, k: usize, m: usize)
-    requires { ⌜ (n ≤ 4096) × (k ≤ 4096) × (m ≤ 4096) ⌝ }
+// Restricts a game and prints the outcome. The lent slices have these lengths, each word `fill` before the call.
+pub fn restrict(game: &[u32], fill: u32, out_length: usize, map_length: usize, work_length: usize)
+    requires { ⌜ («out_length» ≤ 4096) × («map_length» ≤ 4096) × («work_length» ≤ 4096) ⌝ }
 {
     let mut out = filled(fill);
     let mut map = filled(fill);
     let mut work = filled(fill);
-    run_restrict(game, &mut out[..n], &mut map[..k], &mut work[..m]);
+    run_restrict(
+        game,
+        &mut out[..out_length],
+        &mut map[..map_length],
+        &mut work[..work_length],
+    );
 }

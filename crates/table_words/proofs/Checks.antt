@@ -2,8 +2,8 @@
 -- code's limit of nodes is that of the rules. Assumes nothing.
 use Prim.Native.Nat.{ℕ, _+_, _*_, _<_, _≤_}
 use native.Mathlib.Omega.{arith}
-use mathlib.Core.Path.{_≡_, refl, sym, _∙_}
-use mathlib.Core.List.{List}
+use mathlib.Core.Path.{_≡_, refl, sym, ap, _∙_}
+use mathlib.Core.List.{List, _++_}
 use lib.ListN.{length}
 use lib.Dec.{eqb, ltb}
 use borrow.Author.Tests.{eq-eqb, ne-eqb}
@@ -15,6 +15,7 @@ use Rattle.rules.specs.Refusal.{faultFrom}
 use Rattle.rules.specs.Table.{size, kind}
 use Rattle.lists.proofs.Tests.{or-left, or-right, or-none, or-false}
 use Rattle.tables.proofs.Faults.{if-true, if-false, if-passed, first-fault, first-next, first-one, first-passed}
+use Rattle.tables.proofs.Faults.{first-fault-of, first-next-of}
 use Rattle.tables.proofs.Choices.{differ-yes, differ-no, differ-false, below-outside, above-outside, inside, outside-false}
 use Rattle.table_words.specs.Tables.{Sized, tableChecks}
 
@@ -46,6 +47,15 @@ module _ (number fewest most : ℕ) (ws : List ℕ) where
         sym
         (first-next _ (if-false _ _ (or-none (ne-eqb (length ws) 0 (omega arith)) (differ-no e)))
         ∙ first-next _ (if-false _ _ (inside h (omega (arith, l, most-nodes)))) ∙ first-one _)
+
+  -- what the code answers, where the rules' first checks are these and others follow
+  module _ {first : List Check} (e : tableChecks number fewest most ws ≡ first) (rest : List Check) {c : Check}
+      (checked : c ≡ firstFault (tableChecks number fewest most ws)) where
+    pub table-fault : {n p : ℕ} → c ≡ Fault n p → Fault n p ≡ firstFault (first ++ rest)
+    table-fault q = sym (ap (λ cs. firstFault (cs ++ rest)) (sym e) ∙ first-fault-of _ rest (sym checked ∙ q))
+
+    pub table-next : c ≡ Passed → firstFault rest ≡ firstFault (first ++ rest)
+    table-next q = sym (ap (λ cs. firstFault (cs ++ rest)) (sym e) ∙ first-next-of _ rest (sym checked ∙ q))
 
   -- words that passed are those of a table
   pub table-passed : firstFault (tableChecks number fewest most ws) ≡ Passed → Sized ws

@@ -5,7 +5,7 @@ use native.Mathlib.Decide.{decLt, ℕ-discrete}
 use mathlib.Core.Path.{_≡_, refl, sym, _∙_}
 use mathlib.Core.Bool.{Bool, true, false}
 use mathlib.Core.List.{List}
-use lib.ListN.{length, getD, set, replicate}
+use lib.ListN.{length, getD, set, replicate, length-replicate}
 use lib.Seq.{getD-set-same, getD-set-other}
 use borrow.Author.Tests.{eq-eqb, ne-eqb}
 use Rattle.rules.specs.Table.{onRow}
@@ -14,11 +14,16 @@ use Rattle.tables.proofs.Ends.{row-start, row-done, row-step, end-number-past}
 use Rattle.table_words.specs.Tables.{Firsts}
 
 -- a new list of marks is blank
-pub blank : (n v : ℕ) → getD (replicate n false) v false ≡ false
+blank : (n v : ℕ) → getD (replicate n false) v false ≡ false
 blank zero zero = refl
 blank zero (suc v) = refl
 blank (suc n) zero = refl
 blank (suc n) (suc v) = blank n v
+
+-- new marks are as many as `first_nodes` asks for, and blank, beside what it asks of the words and of the ends
+pub new-marks : {Fit Known : Type 0} → Fit → Known
+    → (Fit × (length (replicate 1025 false) ≡ 1025)) × (Known × ((v : ℕ) → getD (replicate 1025 false) v false ≡ false))
+new-marks fit known = ((fit, length-replicate {A = Bool} 1025 false), (known, λ v. blank 1025 v))
 
 -- the walk is at node u: what is marked before u is right, and nothing is marked from u on, where the rest of the row
 -- decides

@@ -169,7 +169,8 @@ pub fn first_nodes(ws: &[u32], ends: &TreeEnds, firsts: &mut FirstNodes)
 // Fault `number` at the first node whose kind is above `most`.
 fn check_kinds(ws: &[u32], most: usize, number: u32) -> Check
     requires { ⌜ Sized (now ws) ⌝ }
-    ensures { λ r. ⌜ r ≡ faultFrom number 0 (size (now (ws .entry))) (λ node. ltb most (kind (now (ws .entry)) node)) ⌝ }
+    ensures { λ r. ⌜ r ≡ faultFrom number 0 (size (now (ws .entry)))
+        (λ node. ltb most (kind (now (ws .entry)) node)) ⌝ }
 {
     let count = words::at(ws, 0);
     let mut node = 0;

@@ -23,44 +23,44 @@ pub fn put_bytes(text: &mut [u8], start: usize, bytes: &[u8]) -> usize
     requires { ⌜ start + length (now bytes) ≤ length (now text) ⌝ }
     ensures { λ r. ⌜ Wrote start (now (bytes .entry)) (now (text .entry)) (now (text .exit)) r ⌝ }
 {
-    let mut q = 0;
-    let mut p = start;
-    while q < bytes.len() {
-        text[p] = bytes[q];
-        p += 1;
-        q += 1;
+    let mut i = 0;
+    let mut place = start;
+    while i < bytes.len() {
+        text[place] = bytes[i];
+        place += 1;
+        i += 1;
     }
-    p
+    place
 }
 
 // ---- numbers
 
-fn digit(d: usize) -> u8
-    requires { ⌜ d < 10 ⌝ }
-    ensures { λ r. ⌜ r ≡ 48 + d ⌝ }
+fn digit(value: usize) -> u8
+    requires { ⌜ value < 10 ⌝ }
+    ensures { λ r. ⌜ r ≡ 48 + value ⌝ }
 {
-    48 + d as u8
+    48 + value as u8
 }
 
-// The digits of n: those in front of the last one, then the last one.
-pub fn put_decimal(text: &mut [u8], start: usize, n: usize) -> usize
-    requires { ⌜ start + length (decimal n) ≤ length (now text) ⌝ }
-    ensures { λ r. ⌜ Wrote start (decimal n) (now (text .entry)) (now (text .exit)) r ⌝ }
+// The digits of a number: those in front of the last one, then the last one.
+pub fn put_decimal(text: &mut [u8], start: usize, number: usize) -> usize
+    requires { ⌜ start + length (decimal number) ≤ length (now text) ⌝ }
+    ensures { λ r. ⌜ Wrote start (decimal number) (now (text .entry)) (now (text .exit)) r ⌝ }
 {
-    if n < 10 {
-        return put_byte(text, start, digit(n));
+    if number < 10 {
+        return put_byte(text, start, digit(number));
     }
-    let p = put_decimal(text, start, n / 10);
-    put_byte(text, p, digit(n % 10))
+    let past_front = put_decimal(text, start, number / 10);
+    put_byte(text, past_front, digit(number % 10))
 }
 
 // A space and a number.
-pub fn put_number(text: &mut [u8], start: usize, n: usize) -> usize
-    requires { ⌜ start + length (32 ∷ decimal n) ≤ length (now text) ⌝ }
-    ensures { λ r. ⌜ Wrote start (32 ∷ decimal n) (now (text .entry)) (now (text .exit)) r ⌝ }
+pub fn put_number(text: &mut [u8], start: usize, number: usize) -> usize
+    requires { ⌜ start + length (32 ∷ decimal number) ≤ length (now text) ⌝ }
+    ensures { λ r. ⌜ Wrote start (32 ∷ decimal number) (now (text .entry)) (now (text .exit)) r ⌝ }
 {
-    let p = put_byte(text, start, 32);
-    put_decimal(text, p, n)
+    let past_space = put_byte(text, start, 32);
+    put_decimal(text, past_space, number)
 }
 
 // The words from `from` up to `end`, a space before each.
@@ -70,13 +70,13 @@ pub fn put_numbers(text: &mut [u8], start: usize, ws: &[u32], from: usize, end: 
     ensures { λ r. ⌜ Wrote start (spaced (slice from end (now (ws .entry))))
         (now (text .entry)) (now (text .exit)) r ⌝ }
 {
-    let mut q = from;
-    let mut p = start;
-    while q < end {
-        p = put_number(text, p, words::at(ws, q));
-        q += 1;
+    let mut i = from;
+    let mut place = start;
+    while i < end {
+        place = put_number(text, place, words::at(ws, i));
+        i += 1;
     }
-    p
+    place
 }
 
 // A line: a name, then numbers.
@@ -92,23 +92,23 @@ pub fn put_line(text: &mut [u8], start: usize, name: &[u8], numbers: &[u32]) -> 
 
 // ---- the end of a call
 
-fn word(n: usize) -> u32
-    requires { ⌜ n < 4294967296 ⌝ }
-    ensures { λ r. ⌜ r ≡ n ⌝ }
+fn word(size: usize) -> u32
+    requires { ⌜ size < 4294967296 ⌝ }
+    ensures { λ r. ⌜ r ≡ size ⌝ }
 {
-    n as u32
+    size as u32
 }
 
-// A text of n bytes stands at the slice's front: zeros past them, and the answer.
-pub fn finish(text: &mut [u8], n: usize) -> Answer
-    requires { ⌜ (n ≤ length (now text)) × (n < 4294967296) ⌝ }
-    ensures { λ r. ⌜ r ≡ Done n 0 0 ⌝ }
-    ensures { λ _. ⌜ now (text .exit) ≡ padded (length (now (text .entry))) (take n (now (text .entry))) ⌝ }
+// A text of so many bytes stands at the slice's front: zeros past them, and the answer.
+pub fn finish(text: &mut [u8], size: usize) -> Answer
+    requires { ⌜ (size ≤ length (now text)) × (size < 4294967296) ⌝ }
+    ensures { λ r. ⌜ r ≡ Done size 0 0 ⌝ }
+    ensures { λ _. ⌜ now (text .exit) ≡ padded (length (now (text .entry))) (take size (now (text .entry))) ⌝ }
 {
-    let mut p = n;
-    while p < text.len() {
-        text[p] = 0;
-        p += 1;
+    let mut place = size;
+    while place < text.len() {
+        text[place] = 0;
+        place += 1;
     }
-    Answer::Done(word(n), 0, 0)
+    Answer::Done(word(size), 0, 0)
 }

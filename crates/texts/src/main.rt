@@ -19,30 +19,30 @@ enum Seen {
     Nothing,
 }
 
-fn ended(s: Seen) -> bool {
-    match s {
+fn ended(seen: Seen) -> bool {
+    match seen {
         Seen::Same => false,
         Seen::Different => false,
         Seen::Nothing => true,
     }
 }
 
-fn difference(s: Seen) -> u64
+fn difference(seen: Seen) -> u64
     ensures { λ r. ⌜ r ≤ 1 ⌝ }
 {
-    match s {
+    match seen {
         Seen::Same => 0,
         Seen::Different => 1,
         Seen::Nothing => 0,
     }
 }
 
-fn long(n: usize) -> u64 {
-    n as u64
+fn long(number: usize) -> u64 {
+    number as u64
 }
 
-fn print(n: u64, label: &[u8]) {
-    io::print_decimal(STDOUT_FILENO, n);
+fn print(number: u64, label: &[u8]) {
+    io::print_decimal(STDOUT_FILENO, number);
     io::write_all(STDOUT_FILENO, label);
 }
 
@@ -86,11 +86,13 @@ fn few_hashes() -> [u8; 16383]
     [35; 16383]
 }
 
-// Is the answer Done (n, 0, 0)?
-fn wrote(answer: Answer, n: usize) -> bool {
+// Is the answer Done (size, 0, 0)?
+fn wrote(answer: Answer, size: usize) -> bool {
     match answer {
-        Answer::Done(bytes, v, e) => long(n) == bytes as u64 && v == 0 && e == 0,
-        Answer::Cut(steps, v, e) => false,
+        Answer::Done(bytes, vertices, edges) => {
+            long(size) == bytes as u64 && vertices == 0 && edges == 0
+        }
+        Answer::Cut(steps, vertices, edges) => false,
         Answer::Refused(number, place) => false,
     }
 }
@@ -98,8 +100,8 @@ fn wrote(answer: Answer, n: usize) -> bool {
 // Is the answer Refused (2, 0)?
 fn refused_length(answer: Answer) -> bool {
     match answer {
-        Answer::Done(bytes, v, e) => false,
-        Answer::Cut(steps, v, e) => false,
+        Answer::Done(bytes, vertices, edges) => false,
+        Answer::Cut(steps, vertices, edges) => false,
         Answer::Refused(number, place) => number == 2 && place == 0,
     }
 }
@@ -162,17 +164,17 @@ fn judge(number: u64, input: &[u8], want: &[u8], stored: usize) -> Seen {
     differs(number, answer, stored)
 }
 
-// Reads an input and its text of m bytes, and compares.
-fn read_and_judge(number: u64, input: &mut [u8], want: &mut [u8], m: usize) -> Seen
-    requires { ⌜ m ≤ length (now want) ⌝ }
+// Reads an input and its text of so many bytes, and compares.
+fn read_and_judge(number: u64, input: &mut [u8], want: &mut [u8], stored: usize) -> Seen
+    requires { ⌜ stored ≤ length (now want) ⌝ }
 {
     if io::read_full(STDIN_FILENO, input) < input.len() {
         return broken(number);
     }
-    if io::read_full(STDIN_FILENO, &mut want[..m]) < m {
+    if io::read_full(STDIN_FILENO, &mut want[..stored]) < stored {
         return broken(number);
     }
-    judge(number, input, want, m)
+    judge(number, input, want, stored)
 }
 
 fn zeros() -> [u8; 16384]
@@ -181,13 +183,13 @@ fn zeros() -> [u8; 16384]
     [0; 16384]
 }
 
-// A record whose input has n bytes and whose text has m.
-fn compare(number: u64, n: usize, m: usize) -> Seen
-    requires { ⌜ (n ≤ 16384) × (m ≤ 16384) ⌝ }
+// A record whose input and text have so many bytes.
+fn compare(number: u64, size: usize, stored: usize) -> Seen
+    requires { ⌜ (size ≤ 16384) × (stored ≤ 16384) ⌝ }
 {
     let mut input = zeros();
     let mut want = zeros();
-    read_and_judge(number, &mut input[..n], &mut want, m)
+    read_and_judge(number, &mut input[..size], &mut want, stored)
 }
 
 // Reads a record and compares. A length that is too large counts as one too many.
@@ -197,18 +199,18 @@ fn next_record(number: u64) -> Seen {
     if got == 0 {
         return Seen::Nothing;
     }
-    let n = stored_runs::length_of(words::word_at(&head, 0), 16385);
-    let m = stored_runs::length_of(words::word_at(&head, 4), 16385);
+    let size = stored_runs::length_of(words::word_at(&head, 0), 16385);
+    let stored = stored_runs::length_of(words::word_at(&head, 4), 16385);
     if got < 8 {
         return broken(number);
     }
-    if n > 16384 {
+    if size > 16384 {
         return broken(number);
     }
-    if m > 16384 {
+    if stored > 16384 {
         return broken(number);
     }
-    compare(number, n, m)
+    compare(number, size, stored)
 }
 
 // At most a million records, so that the program ends whatever it reads.

@@ -11,7 +11,7 @@ use lib.Seq.{getD-set-same, getD-set-other}
 use Rattle.rules.specs.Lists.{word, sumWords}
 use Rattle.rules.specs.System.{stateCount, transitionCount, degree, firstTransition}
 use Rattle.tables.specs.Good.{GoodSystem}
-use Rattle.transitions.specs.Samples.{stride}
+use Rattle.transitions.specs.Samples.{System, stride}
 use Rattle.lists.proofs.Sums.{sum-grows}
 
 pub first-none : (ss : List ℕ) → firstTransition ss 0 ≡ 0
@@ -22,9 +22,13 @@ pub first-more : (ss : List ℕ) (s : ℕ) → firstTransition ss (s + 1) ≡ fi
 unfolding firstTransition sumWords
 first-more ss s = rw add-one
 
-pub first-most : (l : ℕ) (ss : List ℕ) → GoodSystem l ss → (s : ℕ) → s ≤ stateCount ss → firstTransition ss s ≤ transitionCount ss
+first-most : (l : ℕ) (ss : List ℕ) → GoodSystem l ss → (s : ℕ) → s ≤ stateCount ss → firstTransition ss s ≤ transitionCount ss
 unfolding firstTransition
 first-most l ss good s h = let a = sum-grows ss 3 s (stateCount ss) h in let b = good .total in omega arith
+
+-- so a sum of out-degrees is a small number
+pub sum-small : (ss : List ℕ) → System ss → (s sum : ℕ) → s ≤ stateCount ss → sum ≡ firstTransition ss s → sum ≤ 262_144
+sum-small ss good s sum h e = omega (arith, first-most (good .0) ss (good .1) s h, good .1 .moves)
 
 -- the samples of the states below s: at a multiple of the stride there is one more
 pub sample-more : (ss samples : List ℕ) (s sum : ℕ) → s / stride < length samples → s % stride ≡ 0 → sum ≡ firstTransition ss s

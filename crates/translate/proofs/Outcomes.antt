@@ -4,6 +4,7 @@ use mathlib.Core.Bool.{Bool, true, false, true≢false}
 use mathlib.Core.List.{List, [], _∷_}
 use mathlib.Core.Logic.{_⊎_, inl, inr}
 use Prim.Native.Nat.{ℕ, _+_, _-_, _≤_, _<_}
+use native.Mathlib.Decide.{ℕ-discrete}
 use native.Mathlib.Omega.{arith}
 use lib.ListN.{length, replicate}
 use lib.Dec.{eqb}
@@ -14,8 +15,7 @@ use Rattle.rules.specs.Lists.{zeros, In}
 use Rattle.rules.specs.declared.Room.{Room}
 use Rattle.rules.specs.Words.{Input, roomOf, gameLength, workLength}
 use Rattle.rules.specs.Answers.{said}
-use Rattle.rules.specs.Depth.{Ranking}
-use Rattle.rules.specs.Items.{items}
+use Rattle.rules.specs.Depth.{Ranking, byDepth}
 use Rattle.rules.specs.Walk.{Stand}
 use Rattle.rules.specs.Pairs.{Pair}
 use Rattle.rules.specs.Game.{Vertex, edgeCount, gameOf, padded}
@@ -28,18 +28,22 @@ use Rattle.lists.proofs.Equalities.{number-equality}
 use Rattle.tables.proofs.Accepted.{accepted-words, accepted-room, accepted-lengths}
 use Rattle.theorems.proofs.Runs.{run-refused, run-exceeds, run-fits, vertices-many, edges-many, demand1}
 use Rattle.theorems.proofs.Demand3.{demand3}
+use Rattle.satisfaction.specs.Claims.{NoFalsePass}
+use Rattle.satisfaction.proofs.NoFalsePass.{no-false-pass}
 use Rattle.settling.specs.declared.Counters.{Counters}
+use Rattle.settling.specs.declared.Stepped.{Stepped}
+use Rattle.settling.specs.declared.Stepped.the-variants.{Fits, Full}
 use Rattle.settling.specs.Keys.{keyTargets, rootKey}
 use Rattle.settling.specs.Made.{Sized}
-use Rattle.settling.specs.Good.{WalkMade, Exceeding}
+use Rattle.settling.specs.Good.{WalkMade, WalkAnswer, Exceeding}
 use Rattle.rules.specs.Walk.{walk}
 use Rattle.item_table.specs.Entries.{ItemTable, Ranks}
 use Rattle.stepping.proofs.Offsets.{offset-last}
 use Rattle.stepping.proofs.Paired.{known-pairs, waiting-pairs, known-count, waiting-count, edges-count, settled-count}
-use Rattle.stepping.proofs.Paired.{made-fits, full-exceeds, pair-inside, item-at, waits-at, stretch-inside}
+use Rattle.stepping.proofs.Paired.{made-fits, full-exceeds, waits-at, stretch-inside}
 use Rattle.settling.specs.Stand.{settledIn, startIn, countIn}
-use Rattle.game_writer.specs.Shown.{itemIn, Showable, shownVertices}
-use Rattle.translate.specs.Runs.{RunBy}
+use Rattle.game_writer.specs.Shown.{Showable, shownVertices}
+use Rattle.translate.specs.Runs.{Writable, WroteOut, RunBy, RunByRanks}
 use Rattle.translate.proofs.Shows.{shown-all}
 
 -- an outcome goes by its three parts
@@ -109,7 +113,7 @@ module _ (x : Input) (v e k : ℕ) (game work : List ℕ) (passed : refusal x (r
       record { some = omega arith; most = b; most-edges = d; whole = omega (arith, l) }
 
   -- out of room: both slices are cleared
-  pub full-run : (rank : Ranking) (g w : List ℕ)
+  full-run : (rank : Ranking) (g w : List ℕ)
       → Exceeding (keyTargets x) (rootKey x) v e (walk eqb (keyTargets x) (rootKey x) k)
       → g ≡ zeros game → w ≡ zeros work
       → RunBy rank x (roomOf v e) k game work (Refused 60 0) g w
@@ -120,7 +124,7 @@ module _ (x : Input) (v e k : ℕ) (game work : List ℕ) (passed : refusal x (r
 
   -- what writing the game asks
   module _ (c : Counters) (made : WalkMade (keyTargets x) (rootKey x) v e k work c) where
-    pub showable : Showable work v (c .known) (c .edges) (length game)
+    showable : Showable work v (c .known) (c .edges) (length game)
     unfolding gameLength
     showable =
         let n = made .good .ready .table .slots .room in
@@ -182,7 +186,7 @@ module _ (x : Input) (v e k : ℕ) (game work : List ℕ) (passed : refusal x (r
     same-answer = λ i. builtAnswer (st .waiting) (settled-many i) (sym many i) (sym edged i)
 
     -- no vertex waits
-    pub done-run : (g w : List ℕ) → c .waiting ≡ 0 → g ≡ padded (length game) (gameOf 0 (shownVertices kinds priorities work v (c .known))) → w ≡ zeros work
+    done-run : (g w : List ℕ) → c .waiting ≡ 0 → g ≡ padded (length game) (gameOf 0 (shownVertices kinds priorities work v (c .known))) → w ≡ zeros work
         → RunBy rank x (roomOf v e) k game work (Done (c .settled) (c .known) (c .edges)) g w
     done-run g w z q s =
         wrote (Done (c .settled) (c .known) (c .edges)) g w
@@ -190,22 +194,48 @@ module _ (x : Input) (v e k : ℕ) (game work : List ℕ) (passed : refusal x (r
         (omega (arith, waiting-count x good k v e work c made)) ∙ same-answer) q s
 
     -- a vertex still waits
-    pub cut-run : (g w : List ℕ) → (c .waiting ≡ 0 → ⊥) → g ≡ padded (length game) (gameOf 0 (shownVertices kinds priorities work v (c .known))) → w ≡ zeros work
+    cut-run : (g w : List ℕ) → (c .waiting ≡ 0 → ⊥) → g ≡ padded (length game) (gameOf 0 (shownVertices kinds priorities work v (c .known))) → w ≡ zeros work
         → RunBy rank x (roomOf v e) k game work (Cut (c .settled) (c .known) (c .edges)) g w
     cut-run g w z q s =
         wrote (Cut (c .settled) (c .known) (c .edges)) g w
         (some-wait (st .waiting) (c .settled) (c .known) (c .edges)
         (λ n. z (omega (arith, waiting-count x good k v e work c made))) ∙ same-answer) q s
 
--- with the answer's words and the demands that follow
-pub whole-run : (rank : Ranking) (x : Input) (r : Room) (k : ℕ) (game work : List ℕ) (a : Answer) (g w : List ℕ)
-    → RunBy rank x r k game work a g w
-    → RunBy rank x r k game work a g w
-    × ((said a ≡ said (run rank x r k game work .answer))
-    × ((Demand1 x r k game work a g w) × (Demand3 rank x k a g)))
-whole-run rank x r k game work a g w e =
-    let (p, q) = demands rank x r k game work a g w e in
-    (e, (ap (λ (o : Outcome). said (o .answer)) e, (p, q)))
+-- what the walk answered, written out, is the run by whatever ranking the priorities show
+module _ (x : Input) (r : Room) (k : ℕ) (game work : List ℕ) (passed : refusal x r (length game) (length work) ≡ Passed) where
+  abbrev v : ℕ
+  v = r .vertices
+
+  abbrev e : ℕ
+  e = r .edges
+
+  pub writable : (walked : Stepped) → WalkAnswer (keyTargets x) (rootKey x) v e k work walked → Writable v (length game) work walked
+  writable (Fits c) made = showable x v e k game work passed c made
+  writable Full f = tt
+
+  pub wrote-out : (kinds lefts rights priorities : List ℕ) → ItemTable x kinds lefts rights
+      → (walked : Stepped) → WalkAnswer (keyTargets x) (rootKey x) v e k work walked
+      → (a : Answer) (g w : List ℕ) → WroteOut kinds priorities v game work a g w walked → RunByRanks priorities x r k game work a g w
+  wrote-out kinds lefts rights priorities table (Fits c) made a g w o = λ rank ranks. go rank ranks (ℕ-discrete (c .waiting) 0)
+    where
+      go : (rank : Ranking) → Ranks rank x priorities → Dec (c .waiting ≡ 0) → RunBy rank x r k game work a g w
+      go rank ranks (yes z) =
+          rw (o .done z) (done-run x v e k game work passed rank kinds lefts rights priorities table ranks c made g w z (o .written) (o .cleared))
+      go rank ranks (no z) =
+          rw (o .cut z) (cut-run x v e k game work passed rank kinds lefts rights priorities table ranks c made g w z (o .written) (o .cleared))
+  wrote-out kinds lefts rights priorities table Full f a g w o =
+      λ rank ranks. rw (o .0) (full-run x v e k game work passed rank g w f (o .1) (o .2))
+
+-- by depth, with the answer's words, the demands that follow, and what a verdict on the game means
+pub whole-run : (x : Input) (r : Room) (k : ℕ) (game work : List ℕ) (a : Answer) (g w : List ℕ)
+    → RunBy byDepth x r k game work a g w
+    → RunBy byDepth x r k game work a g w
+    × ((said a ≡ said (run byDepth x r k game work .answer))
+    × ((Demand1 x r k game work a g w) × ((Demand3 byDepth x k a g) × NoFalsePass x a g)))
+whole-run x r k game work a g w e =
+    let (p, q) = demands byDepth x r k game work a g w e in
+    let means = subst (λ (o : Outcome). NoFalsePass x (o .answer) (o .game)) (sym e) (no-false-pass x r k game work) in
+    (e, (ap (λ (o : Outcome). said (o .answer)) e, (p, (q, means))))
 
 -- the work slice after the walk is as long as before
 pub walked-passed : (x : Input) (r : Room) (game work other : ℕ) → other ≡ work → refusal x r game work ≡ Passed → refusal x r game other ≡ Passed

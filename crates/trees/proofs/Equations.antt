@@ -14,7 +14,7 @@ use Rattle.rules.specs.Table.{size, kind, operand, FormulaNode, decodeFormula, 
 use Rattle.rules.specs.Formula.{Operator, least, greatest, Equation, equationAt, isFixpoint, placeholder, equationsBefore, equations, equationCount, equationOf, equationNumber}
 use Rattle.tables.specs.Good.{GoodFormula}
 use Rattle.tables.proofs.Decode.{formula-of-kind}
-use Rattle.trees.proofs.Fixpoints.{no-fixpoint-below, no-fixpoint-above, fixpoint-inside, fixpoint-kind}
+use Rattle.trees.proofs.Fixpoints.{fixpoint-at, no-fixpoint-below, no-fixpoint-above, fixpoint-inside, fixpoint-kind}
 
 -- ---- the equation of one node
 
@@ -116,6 +116,22 @@ module _ (f : List ℕ) where
   pub number-later : (u v : ℕ) → isFixpoint (formulaNode f u) ≡ true → u < v → equationNumber f u < equationNumber f v
   number-later u v t h = omega (arith, number-monotone (suc u) v h, number-more u t)
 
+  pub number-order : (u v : ℕ) → isFixpoint (formulaNode f v) ≡ true → equationNumber f u < equationNumber f v → u < v
+  number-order u v t h = go (decLt u v)
+    where
+      go : Dec (u < v) → u < v
+      go (yes l) = l
+      go (no l) = absurd (omega (arith, number-monotone v u (omega arith)))
+
+  -- different fixpoints have different numbers
+  pub number-apart : (u v : ℕ) → isFixpoint (formulaNode f u) ≡ true → isFixpoint (formulaNode f v) ≡ true → equationNumber f u ≡ equationNumber f v → u ≡ v
+  number-apart u v s t e = go (decLt u v) (decLt v u)
+    where
+      go : Dec (u < v) → Dec (v < u) → u ≡ v
+      go (yes l) d = absurd (omega (arith, number-later u v s l))
+      go (no l) (yes m) = absurd (omega (arith, number-later v u t m))
+      go (no l) (no m) = omega arith
+
   -- a fixpoint's number is an equation's
   pub number-below : (v : ℕ) → isFixpoint (formulaNode f v) ≡ true → equationNumber f v < equationCount f
   number-below v t = omega (arith, count-number, number-later v (size f) t (fixpoint-inside f v t))
@@ -171,6 +187,12 @@ module _ (f : List ℕ) where
       equations-prefix (suc v) (size f) (equationNumber f v) d (fixpoint-inside f v t) (omega (arith, number-more v t))
       ∙ ap (λ (l : List Equation). getD l (equationNumber f v) d) e
       ∙ getD-append-seam (equationsBefore f v) q [] d
+
+  pub least-equation : (v : ℕ) → v < size f → kind f v ≡ 6 → equationOf f (equationNumber f v) ≡ record { operator = least; body = suc v }
+  least-equation v h e = added v (record { operator = least; body = suc v }) (fixpoint-at f v h (omega arith) (omega arith)) (equations-least v h e)
+
+  pub greatest-equation : (v : ℕ) → v < size f → kind f v ≡ 7 → equationOf f (equationNumber f v) ≡ record { operator = greatest; body = suc v }
+  greatest-equation v h e = added v (record { operator = greatest; body = suc v }) (fixpoint-at f v h (omega arith) (omega arith)) (equations-greatest v h e)
 
   pub fixpoint-body : (v : ℕ) → isFixpoint (formulaNode f v) ≡ true → equationOf f (equationNumber f v) .body ≡ suc v
   fixpoint-body v t = let (o, e) = equations-more v t in ap (λ (q : Equation). q .body) (added v (record { operator = o; body = suc v }) t e)

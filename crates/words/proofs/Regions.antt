@@ -1,15 +1,12 @@
 -- The laws of regions of one flat list: a word of a region, and every region after one word was put. Assumes nothing.
 use mathlib.Core.Path.{_≡_, sym, _∙_, ap, subst}
-use mathlib.Core.Bool.{cond}
 use mathlib.Core.List.{List}
 use Prim.Native.Nat.{ℕ, _+_, _-_, _*_, _≤_, _<_}
 use native.Mathlib.Nat.{mul-le-mul-right, suc-mul}
 use native.Mathlib.Omega.{arith}
 use native.Mathlib.Decide.{decLt}
-use lib.Dec.{eqb}
 use lib.ListN.{length, set, take, drop, length-take, length-drop, length-set}
 use lib.Seq.{getD-take, getD-drop, drop-set-lt, drop-set-add, take-set-lt, take-set-le, drop-drop}
-use borrow.Author.Tests.{eq-eqb, ne-eqb}
 use Rattle.rules.specs.Lists.{word}
 use Rattle.words.specs.Regions.{region, putWord, InRegion}
 
@@ -32,9 +29,9 @@ pub length-region : (r v : ℕ) (w : List ℕ) → r * v + v ≤ length w → le
 unfolding region
 length-region r v w h = simp (length-take, length-drop) (omega arith)
 
-put-same : (r v i x : ℕ) (w : List ℕ) → i < v → region r v (putWord r v i x w) ≡ set (region r v w) i x
+pub region-same : (r v i x : ℕ) (w : List ℕ) → i < v → region r v (putWord r v i x w) ≡ set (region r v w) i x
 unfolding region putWord
-put-same r v i x w h = ap (take v) (drop-set-add (r * v) w i x) ∙ take-set-lt v (drop (r * v) w) i x h
+region-same r v i x w h = ap (take v) (drop-set-add (r * v) w i x) ∙ take-set-lt v (drop (r * v) w) i x h
 
 put-below : (r s v i x : ℕ) (w : List ℕ) → i < v → s < r → region r v (putWord s v i x w) ≡ region r v w
 unfolding region putWord
@@ -53,24 +50,13 @@ put-above : (r s v i x : ℕ) (w : List ℕ) → i < v → r < s → region r v 
 unfolding putWord
 put-above r s v i x w h l = region-past r v (s * v + i) x w (omega (arith, rise r s v l))
 
--- every region after one word was put: at numerals r and s the test computes, so that `simp region-put` does a whole
--- chain of puts, with each `i < v` in scope
-pub region-put : (r s v i x : ℕ) (w : List ℕ) → i < v → region r v (putWord s v i x w) ≡ cond (eqb r s) (set (region r v w) i x) (region r v w)
-region-put r s v i x w h = go (decLt r s) (decLt s r)
-  where
-    go : Dec (r < s) → Dec (s < r) → region r v (putWord s v i x w) ≡ cond (eqb r s) (set (region r v w) i x) (region r v w)
-    go (yes l) d = rw (ne-eqb r s (omega arith)) (put-above r s v i x w h l)
-    go (no a) (yes l) = rw (ne-eqb r s (omega arith)) (put-below r s v i x w h l)
-    go (no a) (no b) =
-        let e : r ≡ s = omega arith in
-        rw (eq-eqb r s e) (subst (λ (t : ℕ). region r v (putWord t v i x w) ≡ set (region r v w) i x) e (put-same r v i x w h))
-
--- the same, where the region is known to be that one or another
-pub region-same : (r v i x : ℕ) (w : List ℕ) → i < v → region r v (putWord r v i x w) ≡ set (region r v w) i x
-region-same r v i x w h = put-same r v i x w h
-
 pub region-other : (r s v i x : ℕ) (w : List ℕ) → i < v → (r ≡ s → ⊥) → region r v (putWord s v i x w) ≡ region r v w
-region-other r s v i x w h d = region-put r s v i x w h ∙ rw (ne-eqb r s d)
+region-other r s v i x w h d = go (decLt r s) (decLt s r)
+  where
+    go : Dec (r < s) → Dec (s < r) → region r v (putWord s v i x w) ≡ region r v w
+    go (yes l) b = put-above r s v i x w h l
+    go (no a) (yes l) = put-below r s v i x w h l
+    go (no a) (no b) = absurd (d (omega arith))
 
 -- what stands from region k on, after a word was put before it
 pub rest-put : (k s v i x : ℕ) (w : List ℕ) → i < v → s < k → drop (k * v) (putWord s v i x w) ≡ drop (k * v) w

@@ -63,10 +63,10 @@ fits h w = omega (arith, w .long, w .last)
 
 -- ---- the same word up to the end
 
-pub replicate-more : (n p x : ℕ) → p < n → replicate (n - p) x ≡ x ∷ replicate (n - (p + 1)) x
+replicate-more : (n p x : ℕ) → p < n → replicate (n - p) x ≡ x ∷ replicate (n - (p + 1)) x
 replicate-more n p x h = let e : n - p ≡ suc (n - (p + 1)) = omega arith in rw e
 
-pub replicate-none : (n p x : ℕ) → n ≤ p → replicate (n - p) x ≡ []
+replicate-none : (n p x : ℕ) → n ≤ p → replicate (n - p) x ≡ []
 replicate-none n p x h = let e : n - p ≡ 0 = omega arith in rw e
 
 pub fill-more : (x : ℕ) {p at₀ : ℕ} {stretch ws ws₀ : List ℕ} → p < length ws → Writing p (replicate (length ws₀ - p) x) ws at₀ stretch ws₀
@@ -89,13 +89,13 @@ module _ (f : ℕ → ℕ) (xs : List ℕ) (i count : ℕ) where
   pub carry-length : count ≤ length xs → length (map f (slice i count xs)) ≡ count - i
   carry-length k = length-map (slice i count xs) f ∙ length-slice i count xs k
 
-  pub carry-take : count ≤ length xs → length (map f (take count xs)) ≡ count
+  carry-take : count ≤ length xs → length (map f (take count xs)) ≡ count
   carry-take k = length-map (take count xs) f ∙ length-take-le count xs k
 
-  pub carry-more : i < count → count ≤ length xs → map f (slice i count xs) ≡ f (word xs i) ∷ map f (slice (i + 1) count xs)
+  carry-more : i < count → count ≤ length xs → map f (slice i count xs) ≡ f (word xs i) ∷ map f (slice (i + 1) count xs)
   carry-more h k = rw (add-one i) (ap (map f) (slice-cons i count xs 0 h k))
 
-  pub carry-none : count ≤ i → map f (slice i count xs) ≡ []
+  carry-none : count ≤ i → map f (slice i count xs) ≡ []
   carry-none h =
       let l : length (take count xs) ≤ i = omega (arith, length-take count xs) in
       ap (map f) (drop-of-length-le (take count xs) l)

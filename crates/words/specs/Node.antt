@@ -7,8 +7,8 @@ use Rattle.rules.specs.Table.{size}
 
 -- the node's kind stands among the words
 abbrev pub hasKind : List ℕ → ℕ → Type 0
-hasKind ws v = 1 + v < length ws
+hasKind ws node = 1 + node < length ws
 
 -- so does its operand
 abbrev pub hasOperand : List ℕ → ℕ → Type 0
-hasOperand ws v = 1 + size ws + v < length ws
+hasOperand ws node = 1 + size ws + node < length ws

@@ -11,12 +11,12 @@ ghost use Rattle.words.specs.Node.{hasKind, hasOperand};
 ghost use Rattle.words.specs.Regions.{region, putWord, InRegion};
 ghost use Rattle.words.specs.Stretches.{Wrote};
 
-// The word at p, as a usize: a caller has to show only that p is below the length.
-pub fn at(ws: &[u32], p: usize) -> usize
-    requires { ⌜ p < length (now ws) ⌝ }
-    ensures { λ r. ⌜ (r ≡ word (now (ws .entry)) p) × (r < 4294967296) ⌝ }
+// The word at an index, as a usize: a caller has to show only that the index is below the length.
+pub fn at(ws: &[u32], index: usize) -> usize
+    requires { ⌜ index < length (now ws) ⌝ }
+    ensures { λ r. ⌜ (r ≡ word (now (ws .entry)) index) × (r < 4294967296) ⌝ }
 {
-    ws[p] as usize
+    ws[index] as usize
 }
 
 // ---- nodes of a table of trees: m, m kinds, m operands. Both tables of a run are read by these two functions
@@ -34,12 +34,12 @@ pub fn operand_at(table: &[u32], node: usize) -> usize
     requires { ⌜ hasOperand (now table) node ⌝ }
     ensures { λ r. ⌜ r ≡ operand (now (table .entry)) node ⌝ }
 {
-    let m = at(table, 0);
-    at(table, 1 + m + node)
+    let nodes = at(table, 0);
+    at(table, 1 + nodes + node)
 }
 
-// ---- the work slice of a run: eight regions of v words each, then the edges. Its map stands here alone. Regions 0 to
-// 2 are the slots in which a pair is looked up (crate `pairs`)
+// ---- the work slice of a run: eight regions with a word for each vertex that fits, then the edges. Its map stands
+// here alone. Regions 0 to 2 are the slots in which a pair is looked up (crate `pairs`)
 
 // The key of each vertex.
 pub const KEYS: u32 = 3;
@@ -59,35 +59,36 @@ pub const MARKS: u32 = 7;
 // How many regions there are: the edges begin behind them.
 pub const REGIONS: usize = 8;
 
-// ---- regions of v words each: only these two functions index them
+// ---- words of a region: only these two functions index them
 
-// Word i of a region.
-pub fn region_word(work: &[u32], v: u32, area: u32, i: u32) -> u32
-    requires { ⌜ InRegion v area i (length (now work)) ⌝ }
-    ensures { λ r. ⌜ r ≡ word (region area v (now (work .entry))) i ⌝ }
+// The word of a region at an index.
+pub fn region_word(work: &[u32], vertices: u32, area: u32, index: u32) -> u32
+    requires { ⌜ InRegion vertices area index (length (now work)) ⌝ }
+    ensures { λ r. ⌜ r ≡ word (region area vertices (now (work .entry))) index ⌝ }
 {
-    work[(area as usize) * (v as usize) + (i as usize)]
+    work[(area as usize) * (vertices as usize) + (index as usize)]
 }
 
-// Word i of a region becomes x.
-pub fn put_word(work: &mut [u32], v: u32, area: u32, i: u32, x: u32)
-    requires { ⌜ InRegion v area i (length (now work)) ⌝ }
-    ensures { λ _. ⌜ now (work .exit) ≡ putWord area v i x (now (work .entry)) ⌝ }
+// It becomes another.
+pub fn put_word(work: &mut [u32], vertices: u32, area: u32, index: u32, value: u32)
+    requires { ⌜ InRegion vertices area index (length (now work)) ⌝ }
+    ensures { λ _. ⌜ now (work .exit) ≡ putWord area vertices index value (now (work .entry)) ⌝ }
 {
-    work[(area as usize) * (v as usize) + (i as usize)] = x;
+    work[(area as usize) * (vertices as usize) + (index as usize)] = value;
 }
 
 // ---- stretches, written from left to right. A function that appends one answers the place past it
 
-// All words from `from` on become x.
-pub fn fill(ws: &mut [u32], from: usize, x: u32)
+// All words from `from` on become the value.
+pub fn fill(ws: &mut [u32], from: usize, value: u32)
     requires { ⌜ from ≤ length (now ws) ⌝ }
-    ensures { λ _. ⌜ now (ws .exit) ≡ take from (now (ws .entry)) ++ replicate (length (now (ws .entry)) - from) x ⌝ }
+    ensures { λ _. ⌜ now (ws .exit) ≡ take from (now (ws .entry))
+        ++ replicate (length (now (ws .entry)) - from) value ⌝ }
 {
-    let mut p = from;
-    while p < ws.len() {
-        ws[p] = x;
-        p += 1;
+    let mut place = from;
+    while place < ws.len() {
+        ws[place] = value;
+        place += 1;
     }
 }
 
@@ -103,14 +104,14 @@ pub fn copy(src: &[u32], from: usize, end: usize, out: &mut [u32], start: usize)
     requires { ⌜ (from ≤ end) × (end ≤ length (now src)) × (start + (end - from) ≤ length (now out)) ⌝ }
     ensures { λ r. ⌜ Wrote start (slice from end (now (src .entry))) (now (out .entry)) (now (out .exit)) r ⌝ }
 {
-    let mut q = from;
-    let mut p = start;
-    while q < end {
-        out[p] = src[q];
-        p += 1;
-        q += 1;
+    let mut index = from;
+    let mut place = start;
+    while index < end {
+        out[place] = src[index];
+        place += 1;
+        index += 1;
     }
-    p
+    place
 }
 
 // For each of the first `count` numbers that `numbers` holds, in order, the word that src has for it in the array at
@@ -125,35 +126,36 @@ pub fn carry(
 ) -> usize
     requires { ⌜ (count ≤ length (now numbers)) × (start + count ≤ length (now out)) ⌝ }
     requires { ⌜ ((i : ℕ) → i < count → base + word (now numbers) i < length (now src)) ⌝ }
-    ensures { λ r. ⌜ Wrote start (map (λ n. word (now (src .entry)) (base + n)) (take count (now (numbers .entry)))) (now (out .entry)) (now (out .exit)) r ⌝ }
+    ensures { λ r. ⌜ Wrote start (map (λ n. word (now (src .entry)) (base + n)) (take count (now (numbers .entry))))
+        (now (out .entry)) (now (out .exit)) r ⌝ }
 {
     let mut i = 0;
-    let mut p = start;
+    let mut place = start;
     while i < count {
-        let n = at(numbers, i);
-        out[p] = src[base + n];
-        p += 1;
+        let number = at(numbers, i);
+        out[place] = src[base + number];
+        place += 1;
         i += 1;
     }
-    p
+    place
 }
 
 // ---- words in bytes
 
-fn wide(b: u8) -> u32
-    ensures { λ r. ⌜ (r ≡ b) × (r < 256) ⌝ }
+fn wide(byte: u8) -> u32
+    ensures { λ r. ⌜ (r ≡ byte) × (r < 256) ⌝ }
 {
-    b as u32
+    byte as u32
 }
 
-// The word whose first byte stands at p, the lowest byte first.
-pub fn word_at(bytes: &[u8], p: usize) -> u32
-    requires { ⌜ p + 4 ≤ length (now bytes) ⌝ }
-    ensures { λ r. ⌜ r ≡ wordAt (now (bytes .entry)) p ⌝ }
+// The word whose four bytes begin at a place, the lowest byte first.
+pub fn word_at(bytes: &[u8], place: usize) -> u32
+    requires { ⌜ place + 4 ≤ length (now bytes) ⌝ }
+    ensures { λ r. ⌜ r ≡ wordAt (now (bytes .entry)) place ⌝ }
 {
-    let a = wide(bytes[p]);
-    let b = wide(bytes[p + 1]);
-    let c = wide(bytes[p + 2]);
-    let d = wide(bytes[p + 3]);
-    a + 256 * (b + 256 * (c + 256 * d))
+    let first = wide(bytes[place]);
+    let second = wide(bytes[place + 1]);
+    let third = wide(bytes[place + 2]);
+    let fourth = wide(bytes[place + 3]);
+    first + 256 * (second + 256 * (third + 256 * fourth))
 }

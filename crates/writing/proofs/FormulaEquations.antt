@@ -7,7 +7,7 @@ use Prim.Native.Nat.{ℕ, suc, _+_, _-_, _≤_, _<_}
 use native.Mathlib.Omega.{arith}
 use lib.ListN.{length}
 use Rattle.rules.specs.Words.{Input}
-use Rattle.rules.specs.Table.{size, kind, operand, formulaNode}
+use Rattle.rules.specs.Table.{size, kind, formulaNode}
 use Rattle.rules.specs.Actions.{actionTree}
 use Rattle.rules.specs.Formula.{Operator, least, greatest, Equation, isFixpoint, equationsBefore, equationNumber, Formula, conjunction, disjunction, box, diamond, reference, formulaTree, bodyTree}
 use Rattle.tables.specs.Good.{GoodFormula}

@@ -6,25 +6,16 @@ use Rattle.action_words.proofs.Actions.{action-operand}
 use borrow.Author.Needs.{needs}
 use Rattle.action_words.proofs.bad_operand.Statement.{statement}
 use Rattle.action_words.proofs.bad_operand.Tie as tie
-use Rattle.action_words.proofs.bad_operand.Reads as reads
-use Rattle.action_words.proofs.bad_operand.Lts as lts
-use Rattle.table_words.proofs.bad_operand.Reads as bad-operand-reads
-use Rattle.words.proofs.at.Reads as at-reads
-use Rattle.words.proofs.operand_at.Reads as operand-at-reads
 
--- src/lib.rt:22:19
 at-requires : tie.Need-at-requires
 at-requires c κs = search needs
 
--- src/lib.rt:22:43
 operand-at-requires : tie.Need-operand-at-requires
 operand-at-requires c κs = search needs
 
--- src/lib.rt:23:5
 bad-operand-requires : tie.Need-bad-operand-requires
 bad-operand-requires c κs = search needs
 
--- src/lib.rt:17:1
 returns : tie.Need-returns
 returns c = c .bad-operand .ensures (leb (labelCount (c .before .before .before .before .before .args .labels .now))) (ap (λ (l : ℕ). leb l (c .before .operand-at .result)) (c .before .before .at .ensures .0) ∙ ap (leb (labelCount (c .before .before .before .before .before .args .labels .now))) (c .before .operand-at .ensures)) ∙ action-operand (c .before .before .before .before .before .args .labels .now) (c .before .before .before .before .before .args .actions .now) (c .before .before .before .before .before .args .node)
 

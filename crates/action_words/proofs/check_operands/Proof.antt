@@ -19,56 +19,44 @@ Inv-loop labels acts ends firsts m v₀ v = refusal34 labels acts ≡ andThen (f
 abbrev μ-loop : tie.MeasureT-loop
 μ-loop labels acts ends firsts m v₀ v = m - v
 
--- src/lib.rt:46:9
 at-requires : tie.Need-at-requires Inv-loop μ-loop
 at-requires c κs = search needs
 
--- src/lib.rt:48:5
 loop-holds : tie.Need-loop-holds Inv-loop μ-loop
 loop-holds c = refusal34-scan _ _
 
--- src/lib.rt:49:12
 bad-operand-requires : tie.Need-bad-operand-requires Inv-loop μ-loop
 bad-operand-requires c κs =
     let start = c .before .before .before .before .before in
     ((start .pre .0 .0, start .pre .0 .1, omega arith), start .pre .1 .0)
 
--- src/lib.rt:50:37
 cast-t9 : tie.Need-cast-t9 Inv-loop μ-loop
 cast-t9 c = search needs
 
--- src/lib.rt:50:13
 returns : tie.Need-returns Inv-loop μ-loop
 returns c = sym (c .before .before .before .loop .inv ∙ then-fault _ (from-stop _ _ _ _ (omega arith) (cc)))
 
--- src/lib.rt:52:9
 add-node : tie.Need-add-node Inv-loop μ-loop
 add-node c = search needs
 
--- src/lib.rt:48:5
 loop-less : tie.Need-loop-less Inv-loop μ-loop
 loop-less c = search needs
 
--- src/lib.rt:48:5
 loop-again : tie.Need-loop-again Inv-loop μ-loop
 loop-again c = c .before .before .before .loop .inv ∙ then-same _ (from-next _ _ _ _ (cc))
 
--- src/lib.rt:54:8
 element-copy-out-if2 : tie.Need-element-copy-out-if2 Inv-loop μ-loop
 element-copy-out-if2 c = search needs
 
--- src/lib.rt:55:9
 returns-2 : tie.Need-returns-2 Inv-loop μ-loop
 returns-2 c =
     let at-at = c .before .before .before .before in
     let start = at-at .before .before .before in
     sym (c .before .before .before .loop .inv ∙ then-passed _ (from-done _ _ _ _ (omega arith)) ∙ row-whole (now (start .args .actions)) (now (start .args .firsts)) (at-at .at .result) (at-at .at .ensures .0) (start .pre .1 .1) (c .if2 .taken))
 
--- src/lib.rt:57:22
 cast-t14 : tie.Need-cast-t14 Inv-loop μ-loop
 cast-t14 c = search needs
 
--- src/lib.rt:36:1
 returns-3 : tie.Need-returns-3 Inv-loop μ-loop
 returns-3 c =
     let at-at = c .before .before .before .before in

@@ -8,9 +8,6 @@ use Rattle.alike_nodes.proofs.Placing.{found-first, found-none, none-mo
 use borrow.Author.Needs.{needs}
 use Rattle.alike_nodes.proofs.first_shown.Statement.{statement}
 use Rattle.alike_nodes.proofs.first_shown.Tie as tie
-use Rattle.alike_nodes.proofs.first_shown.Reads as reads
-use Rattle.alike_nodes.proofs.first_shown.Lts as lts
-use Rattle.alike_nodes.proofs.is_shown.Reads as is-shown-reads
 
 abbrev Inv-loop : tie.InvT-loop
 Inv-loop shapes shape from to node₀ node =

@@ -3,8 +3,6 @@ use Rattle.alike_nodes.proofs.Columns.{kind-differs, left-differs, righ
 use borrow.Author.Needs.{needs}
 use Rattle.alike_nodes.proofs.is_shown.Statement.{statement}
 use Rattle.alike_nodes.proofs.is_shown.Tie as tie
-use Rattle.alike_nodes.proofs.is_shown.Reads as reads
-use Rattle.alike_nodes.proofs.is_shown.Lts as lts
 
 add-if1 : tie.Need-add-if1
 add-if1 c = search needs

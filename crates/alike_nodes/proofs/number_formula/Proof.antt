@@ -1,28 +1,17 @@
 -- `number_formula` meets its contract. The nodes from i on are placed. Assumes nothing.
-use mathlib.Core.Path.{_≡_, refl, subst, _∙_}
-use Prim.Native.Nat.{ℕ, _+_, _-_, _≤_}
 use native.Mathlib.Omega.{arith}
-use lib.ListN.{length}
 use Rattle.rules.specs.Words.{inputOf}
 use Rattle.rules.specs.Table.{size}
 use Rattle.rules.specs.Formula.{formulaTree}
-use Rattle.alike_nodes.specs.Nodes.{Numbered}
-use Rattle.alike_nodes.proofs.FormulaShapes.{FormulaPlaced, formula-none, formula-next}
-use Rattle.compiled.proofs.Laws.{stretch-length}
-use Rattle.alike_nodes.specs.Nodes.{kindsIn, leftsIn, rightsIn}
+use Rattle.alike_nodes.proofs.Numbering.{numbering-none, placing-asked, node-below, numbering-end}
+use Rattle.alike_nodes.proofs.FormulaShapes.{FormulaShows, FormulaNumbering, formula-next}
 use borrow.Author.Needs.{needs}
 use Rattle.alike_nodes.proofs.number_formula.Statement.{statement}
 use Rattle.alike_nodes.proofs.number_formula.Tie as tie
-use Rattle.alike_nodes.proofs.number_formula.Reads as reads
-use Rattle.alike_nodes.proofs.number_formula.Lts as lts
-use Rattle.alike_nodes.proofs.formula_shape.Reads as formula-shape-reads
-use Rattle.alike_nodes.proofs.place_node.Reads as place-node-reads
-use Rattle.words.proofs.at.Reads as at-reads
 
 abbrev Inv-loop : tie.InvT-loop
 Inv-loop labels system actions formula acts equations shapes₀ numbers₀ count i₀ shapes numbers i =
-    (length shapes ≡ length shapes₀) × (length numbers ≡ length numbers₀) × (i ≤ count) × (count ≡ size formula)
-    × FormulaPlaced (inputOf labels system actions formula) i (kindsIn shapes) (leftsIn shapes) (rightsIn shapes) numbers
+    FormulaNumbering (inputOf labels system actions formula) shapes₀ numbers₀ count i shapes numbers
 
 abbrev μ-loop : tie.MeasureT-loop
 μ-loop labels system actions formula acts equations shapes₀ numbers₀ count i₀ shapes numbers i = i
@@ -33,43 +22,27 @@ at-requires c κs = search needs
 loop-holds : tie.Need-loop-holds Inv-loop μ-loop
 loop-holds c =
     let start = c .before .before .before .before .before .before .before .before in
-    let few = start .pre .0 .0 .formula .few in
-    let rooms = start .pre .1 in
-    let shapes = start .args .shapes .now in (
-      refl,
-      refl,
-      omega arith,
-      c .at .ensures .0,
-      formula-none (inputOf (start .args .labels .now) (start .args .system .now) (start .args .actions .now)
-          (start .args .formula .now)) _ _ _ (start .args .numbers .now) (c .at .result) (c .at .ensures .0)
-          (omega (arith, few, rooms .0, stretch-length 0 1024 shapes (omega (arith, rooms .0))))
-          (omega (arith, few, rooms .0, stretch-length 1024 1024 shapes (omega (arith, rooms .0))))
-          (omega (arith, few, rooms .0, stretch-length 2048 1024 shapes (omega (arith, rooms .0))))
-          (omega (arith, few, rooms .1)),
-    )
+    let x = inputOf (start .args .labels .now) (start .args .system .now) (start .args .actions .now) (start .args .formula .now) in
+    numbering-none (formulaTree x) (FormulaShows x) (size (x .formula)) (start .args .shapes .now) (start .args .numbers .now)
+    (c .at .result) (start .pre .1 .0) (start .pre .1 .1) (start .pre .0 .0 .formula .few) (c .at .ensures .0)
 
 sub-node : tie.Need-sub-node Inv-loop μ-loop
 sub-node c = search needs
 
 formula-shape-requires : tie.Need-formula-shape-requires Inv-loop μ-loop
 formula-shape-requires c κs =
-    let start = c .before .before .before .before .before .before .before .before .before .before .before in
-    let i = c .before .before .loop in
-    let e : i .i - 1 + 1 ≡ i .i = omega (arith, c .before .loop-test .taken) in
-    ((start .pre .0 .0, omega (arith, e, i .inv .2, i .inv .3), i .inv .4 .numbered .room), (start .pre .0 .1, start .pre .0 .2))
+    let at-loop-test = c .before in
+    let done = at-loop-test .before .loop .inv in
+    let start = at-loop-test .before .before .before .before .before .before .before .before .before .before in (
+      (start .pre .0 .0, node-below done (at-loop-test .loop-test .taken), done .placed .numbered .room),
+      (start .pre .0 .1, start .pre .0 .2),
+    )
 
 place-node-requires : tie.Need-place-node-requires Inv-loop μ-loop
 place-node-requires c κs =
     let at-loop-test = c .before .before .before .before in
     let start = at-loop-test .before .before .before .before .before .before .before .before .before .before in
-    let i = at-loop-test .before .loop in
-    let rooms = start .pre .1 in
-    let few = start .pre .0 .0 .formula .few in (
-      omega (arith, at-loop-test .loop-test .taken, i .inv .2),
-      omega (arith, few, i .inv .3),
-      omega
-          (arith, rooms .1, few, i .inv .1, i .inv .3),
-    )
+    placing-asked (at-loop-test .before .loop .inv) (at-loop-test .loop-test .taken) (start .pre .0 .0 .formula .few) (start .pre .1 .1)
 
 loop-less : tie.Need-loop-less Inv-loop μ-loop
 loop-less c =
@@ -79,33 +52,19 @@ loop-less c =
 loop-again : tie.Need-loop-again Inv-loop μ-loop
 loop-again c =
     let at-formula-shape = c .before .before .before .before .before in
-    let at-at = at-formula-shape .before .before .before .before in
-    let start = at-at .before .before .before .before .before .before .before .before in
-    let i = at-formula-shape .before .before .before .loop in
-    let e : i .i - 1 + 1 ≡ i .i = omega (arith, at-formula-shape .before .before .loop-test .taken) in
-    let p = c .before .before .place-node in (
-      p .ensures .0 .sized ∙ i .inv .0,
-      p .kept .1 .0 ∙ i .inv .1,
-      omega (arith, e, i .inv .2),
-      i .inv .3,
-      formula-next
-          (inputOf (start .args .labels .now) (start .args .system .now) (start .args .actions .now)
-          (start .args .formula .now)) (start .pre .0 .0) (at-at .at .result) (i .i) (i .i - 1)
-          (at-formula-shape .formula-shape .result .kind) (at-formula-shape .formula-shape .result .left)
-          (at-formula-shape .formula-shape .result .right) _ _ _ (i .numbers) _ _ _ _ (i .inv .3) e
-          (omega (arith, e, i .inv .2, i .inv .3)) (i .inv .4) (at-formula-shape .formula-shape .ensures)
-          (p .ensures .0 .kinds) (p .ensures .0 .lefts) (p .ensures .0 .rights) (p .ensures .1),
-    )
+    let at-loop-test = at-formula-shape .before .before in
+    let start = at-loop-test .before .before .before .before .before .before .before .before .before .before in
+    let placed = c .before .before .place-node in
+    formula-next
+    (inputOf (start .args .labels .now) (start .args .system .now) (start .args .actions .now) (start .args .formula .now))
+    (start .pre .0 .0) (at-loop-test .before .loop .inv) (at-loop-test .loop-test .taken) (at-formula-shape .formula-shape .result) _ _
+    (at-formula-shape .formula-shape .ensures) (placed .ensures .0) (placed .kept .1 .0) (placed .ensures .1)
 
 same-length : tie.Need-same-length Inv-loop μ-loop
 same-length c = search needs
 
 returns : tie.Need-returns Inv-loop μ-loop
-returns c =
-    let start = c .before .before .before .before .before .before .before .before .before .before in
-    let i = c .before .loop in
-    let e : i .i ≡ 0 = omega (arith, c .loop-test .left) in
-    subst (λ (j : ℕ). Numbered (formulaTree (inputOf (start .args .labels .now) (start .args .system .now) (start .args .actions .now) (start .args .formula .now))) (size (start .args .formula .now)) j (i .numbers)) e (i .inv .4 .numbered)
+returns c = numbering-end (c .before .loop .inv) (omega (arith, c .loop-test .left))
 
 pub number-formula-spec : {M : Type 1} → statement M
 number-formula-spec =

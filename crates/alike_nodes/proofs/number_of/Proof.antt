@@ -3,9 +3,6 @@ use Rattle.alike_nodes.proofs.Placing.{number-found, number-own}
 use borrow.Author.Needs.{needs}
 use Rattle.alike_nodes.proofs.number_of.Statement.{statement}
 use Rattle.alike_nodes.proofs.number_of.Tie as tie
-use Rattle.alike_nodes.proofs.number_of.Reads as reads
-use Rattle.alike_nodes.proofs.number_of.Lts as lts
-use Rattle.alike_nodes.proofs.first_shown.Reads as first-shown-reads
 
 add-first-shown : tie.Need-add-first-shown
 add-first-shown c = search needs

@@ -7,9 +7,6 @@ use Rattle.alike_nodes.proofs.Columns.{shape-put}
 use borrow.Author.Needs.{needs}
 use Rattle.alike_nodes.proofs.place_node.Statement.{statement}
 use Rattle.alike_nodes.proofs.place_node.Tie as tie
-use Rattle.alike_nodes.proofs.place_node.Reads as reads
-use Rattle.alike_nodes.proofs.place_node.Lts as lts
-use Rattle.alike_nodes.proofs.number_of.Reads as number-of-reads
 
 number-of-requires : tie.Need-number-of-requires
 number-of-requires c κs = search needs

@@ -9,40 +9,32 @@ use Rattle.faults.proofs.check_below.Statement.{statement}
 use Rattle.faults.proofs.check_below.Tie as tie
 
 abbrev Inv-loop : tie.InvT-loop
-Inv-loop ws first end bound number p₀ p = faultFrom number first end (tooLarge ws bound) ≡ faultFrom number p end (tooLarge ws bound)
+Inv-loop ws first end bound number place₀ place = faultFrom number first end (tooLarge ws bound) ≡ faultFrom number place end (tooLarge ws bound)
 
 abbrev μ-loop : tie.MeasureT-loop
-μ-loop ws first end bound number p₀ p = end - p
+μ-loop ws first end bound number place₀ place = end - place
 
--- src/lib.rt:32:5
 loop-holds : tie.Need-loop-holds Inv-loop μ-loop
 loop-holds c = refl
 
--- src/lib.rt:33:21
 at-requires : tie.Need-at-requires Inv-loop μ-loop
 at-requires c κs = search needs
 
--- src/lib.rt:34:41
 cast-t9 : tie.Need-cast-t9 Inv-loop μ-loop
 cast-t9 c = search needs
 
--- src/lib.rt:34:13
 returns : tie.Need-returns Inv-loop μ-loop
 returns c = sym (c .before .before .before .loop .inv ∙ from-stop _ _ _ _ (omega arith) (large _ _ _ (omega arith)))
 
--- src/lib.rt:36:9
-add-p : tie.Need-add-p Inv-loop μ-loop
-add-p c = search needs
+add-place : tie.Need-add-place Inv-loop μ-loop
+add-place c = search needs
 
--- src/lib.rt:32:5
 loop-less : tie.Need-loop-less Inv-loop μ-loop
 loop-less c = search needs
 
--- src/lib.rt:32:5
 loop-again : tie.Need-loop-again Inv-loop μ-loop
 loop-again c = c .before .before .before .loop .inv ∙ from-next _ _ _ _ (small _ _ _ (omega arith))
 
--- src/lib.rt:27:1
 returns-2 : tie.Need-returns-2 Inv-loop μ-loop
 returns-2 c = sym (c .before .loop .inv ∙ from-done _ _ _ _ (omega arith))
 
@@ -56,7 +48,7 @@ check-below-spec =
     at-requires
     cast-t9
     returns
-    add-p
+    add-place
     loop-less
     loop-again
     returns-2)

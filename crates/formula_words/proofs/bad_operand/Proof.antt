@@ -4,25 +4,16 @@ use Rattle.formula_words.proofs.Formula.{formula-operand}
 use borrow.Author.Needs.{needs}
 use Rattle.formula_words.proofs.bad_operand.Statement.{statement}
 use Rattle.formula_words.proofs.bad_operand.Tie as tie
-use Rattle.formula_words.proofs.bad_operand.Reads as reads
-use Rattle.formula_words.proofs.bad_operand.Lts as lts
-use Rattle.formula_words.proofs.names_no_tree.Reads as names-no-tree-reads
-use Rattle.table_words.proofs.bad_operand.Reads as bad-operand-reads
-use Rattle.words.proofs.operand_at.Reads as operand-at-reads
 
--- src/lib.rt:38:50
 operand-at-requires : tie.Need-operand-at-requires
 operand-at-requires c κs = search needs
 
--- src/lib.rt:38:9
 names-no-tree-requires : tie.Need-names-no-tree-requires
 names-no-tree-requires c κs = search needs
 
--- src/lib.rt:39:5
 bad-operand-requires : tie.Need-bad-operand-requires
 bad-operand-requires c κs = search needs
 
--- src/lib.rt:27:1
 returns : tie.Need-returns
 returns c = c .bad-operand .ensures (namesNoTree (c .before .before .before .before .before .args .actions .now)) (c .before .names-no-tree .ensures ∙ ap (namesNoTree (c .before .before .before .before .before .args .actions .now)) (c .before .before .operand-at .ensures)) ∙ formula-operand (namesNoTree (c .before .before .before .before .before .args .actions .now)) (c .before .before .before .before .before .args .formula .now) (c .before .before .before .before .before .args .node)
 

@@ -4,54 +4,43 @@ use borrow.Author.Needs.{needs}
 use Rattle.formula_words.proofs.bad_reference.Statement.{statement}
 use Rattle.formula_words.proofs.bad_reference.Tie as tie
 
--- src/lib.rt:86:8
 kind-at-requires : tie.Need-kind-at-requires
 kind-at-requires c κs = search needs
 
--- src/lib.rt:87:9
 returns : tie.Need-returns
 returns c = no-reference _ _ _ (c .before .before .before .pre .1) (c .before .kind-at .ensures) (c .if1 .taken)
 
--- src/lib.rt:89:9
 operand-at-requires : tie.Need-operand-at-requires
 operand-at-requires c κs = search needs
 
--- src/lib.rt:91:9
 returns-2 : tie.Need-returns-2
 returns-2 c =
     let start = c .before .before .before .before .before in
     later _ _ _ (start .pre .1) (c .before .before .before .kind-at .ensures) (c .before .before .if1 .left) _ (c .before .operand-at .ensures) (c .if2 .taken)
 
--- src/lib.rt:93:9
 kind-at-requires-2 : tie.Need-kind-at-requires-2
 kind-at-requires-2 c κs = search needs
 
--- src/lib.rt:95:9
 returns-3 : tie.Need-returns-3
 returns-3 c =
     let at-if1 = c .before .before .before .before in
     low _ _ _ (at-if1 .before .before .before .pre .1) (at-if1 .before .kind-at .ensures) (at-if1 .if1 .left) _ (c .before .before .before .operand-at .ensures) (c .before .before .if2 .left) _ (c .before .kind-at2 .ensures) (c .if3 .taken)
 
--- src/lib.rt:98:9
 returns-4 : tie.Need-returns-4
 returns-4 c =
     let at-operand-at = c .before .before .before .before in
     let start = at-operand-at .before .before .before .before in
     high _ _ _ (start .pre .1) (at-operand-at .before .before .kind-at .ensures) (at-operand-at .before .if1 .left) _ (at-operand-at .operand-at .ensures) (c .before .before .before .if2 .left) _ (c .before .before .kind-at2 .ensures) (c .if4 .taken)
 
--- src/lib.rt:100:15
 mul-end : tie.Need-mul-end
 mul-end c = search needs
 
--- src/lib.rt:100:15
 element-copy-out-end : tie.Need-element-copy-out-end
 element-copy-out-end c = search needs
 
--- src/lib.rt:101:8
 at-requires : tie.Need-at-requires
 at-requires c κs = search needs
 
--- src/lib.rt:102:9
 returns-5 : tie.Need-returns-5
 returns-5 c =
     let at-if3 = c .before .before .before .before in
@@ -59,7 +48,6 @@ returns-5 c =
     let start = at-operand-at .before .before .before .before in
     broken _ _ _ (start .pre .1) (at-operand-at .before .before .kind-at .ensures) (at-operand-at .before .if1 .left) _ (at-operand-at .operand-at .ensures) (at-if3 .before .before .if2 .left) _ (at-if3 .before .kind-at2 .ensures) (at-if3 .if3 .left) (c .before .before .before .if4 .left) _ _ (c .before .at .ensures .0) (start .pre .2 (at-operand-at .operand-at .result) (omega arith)) (c .if5 .taken)
 
--- src/lib.rt:82:1
 returns-6 : tie.Need-returns-6
 returns-6 c =
     let at-if3 = c .before .before .before .before in

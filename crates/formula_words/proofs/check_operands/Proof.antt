@@ -25,29 +25,23 @@ Inv-loop acts firsts f ends n end v₀ v =
 abbrev μ-loop : tie.MeasureT-loop
 μ-loop acts firsts f ends n end v₀ v = n - v
 
--- src/lib.rt:63:9
 at-requires : tie.Need-at-requires Inv-loop μ-loop
 at-requires c κs = search needs
 
--- src/lib.rt:64:15
 element-copy-out-end : tie.Need-element-copy-out-end Inv-loop μ-loop
 element-copy-out-end c = search needs
 
--- src/lib.rt:66:5
 loop-holds : tie.Need-loop-holds Inv-loop μ-loop
 loop-holds c = refusal44-scan _ _
 
--- src/lib.rt:67:12
 bad-operand-requires : tie.Need-bad-operand-requires Inv-loop μ-loop
 bad-operand-requires c κs =
     let start = c .before .before .before .before .before .before in
     (start .pre .0, (start .pre .1 .0, omega arith, start .pre .1 .1))
 
--- src/lib.rt:68:37
 cast-t13 : tie.Need-cast-t13 Inv-loop μ-loop
 cast-t13 c = search needs
 
--- src/lib.rt:68:13
 returns : tie.Need-returns Inv-loop μ-loop
 returns c =
     let at-loop = c .before .before .before in
@@ -57,11 +51,9 @@ returns c =
     (bad-node (namesNoTree (now (start .args .actions))) (now (start .args .formula)) (at-loop .loop .node) _ _
     (c .before .bad-operand .ensures) (start .pre .1 .1 0 (omega arith)) (c .if1 .taken))))
 
--- src/lib.rt:71:37
 cast-t14 : tie.Need-cast-t14 Inv-loop μ-loop
 cast-t14 c = search needs
 
--- src/lib.rt:71:13
 returns-2 : tie.Need-returns-2 Inv-loop μ-loop
 returns-2 c =
     let at-loop = c .before .before .before .before in
@@ -71,15 +63,12 @@ returns-2 c =
     (left-over (namesNoTree (now (start .args .actions))) (now (start .args .formula)) (at-loop .loop .node) _
     _ (c .before .before .bad-operand .ensures) (start .pre .1 .1 0 (omega arith)) (c .if2 .taken))))
 
--- src/lib.rt:73:9
 add-node : tie.Need-add-node Inv-loop μ-loop
 add-node c = search needs
 
--- src/lib.rt:66:5
 loop-less : tie.Need-loop-less Inv-loop μ-loop
 loop-less c = search needs
 
--- src/lib.rt:66:5
 loop-again : tie.Need-loop-again Inv-loop μ-loop
 loop-again c =
     let at-loop = c .before .before .before .before in
@@ -90,18 +79,15 @@ loop-again c =
     _ (c .before .before .bad-operand .ensures) (start .pre .1 .1 0 (omega arith)) (c .before .if1 .left)
     (c .if2 .left)))
 
--- src/lib.rt:76:33
 cast-t16 : tie.Need-cast-t16 Inv-loop μ-loop
 cast-t16 c = search needs
 
--- src/lib.rt:76:9
 returns-3 : tie.Need-returns-3 Inv-loop μ-loop
 returns-3 c =
     let at-at = c .before .before .before .before in
     let start = at-at .before .before .before in
     sym (c .before .before .loop .inv ∙ then-passed _ (from-done _ _ _ _ (omega arith)) ∙ unfinished (now (start .args .formula)) _ _ (at-at .at .ensures .0) (start .pre .1 .1 0 (omega arith)) (c .if3 .taken))
 
--- src/lib.rt:53:1
 returns-4 : tie.Need-returns-4 Inv-loop μ-loop
 returns-4 c =
     let at-at = c .before .before .before .before in

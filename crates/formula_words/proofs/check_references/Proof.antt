@@ -15,41 +15,32 @@ Inv-loop f ends n v₀ v = refusal45 f ≡ faultFrom 45 v (size f) (λ j. wrongR
 abbrev μ-loop : tie.MeasureT-loop
 μ-loop f ends n v₀ v = n - v
 
--- src/lib.rt:112:9
 at-requires : tie.Need-at-requires Inv-loop μ-loop
 at-requires c κs = search needs
 
--- src/lib.rt:114:5
 loop-holds : tie.Need-loop-holds Inv-loop μ-loop
 loop-holds c = references-45 _
 
--- src/lib.rt:115:12
 bad-reference-requires : tie.Need-bad-reference-requires Inv-loop μ-loop
 bad-reference-requires c κs =
     let start = c .before .before .before .before in
     (start .pre .0, omega arith, start .pre .1)
 
--- src/lib.rt:116:37
 cast-t7 : tie.Need-cast-t7 Inv-loop μ-loop
 cast-t7 c = search needs
 
--- src/lib.rt:116:13
 returns : tie.Need-returns Inv-loop μ-loop
 returns c = sym (c .before .before .before .loop .inv ∙ from-stop _ _ _ _ (omega arith) (cc))
 
--- src/lib.rt:118:9
 add-node : tie.Need-add-node Inv-loop μ-loop
 add-node c = search needs
 
--- src/lib.rt:114:5
 loop-less : tie.Need-loop-less Inv-loop μ-loop
 loop-less c = search needs
 
--- src/lib.rt:114:5
 loop-again : tie.Need-loop-again Inv-loop μ-loop
 loop-again c = c .before .before .before .loop .inv ∙ from-next _ _ _ _ (cc)
 
--- src/lib.rt:108:1
 returns-2 : tie.Need-returns-2 Inv-loop μ-loop
 returns-2 c = sym (c .before .loop .inv ∙ from-done _ _ _ _ (omega arith))
 

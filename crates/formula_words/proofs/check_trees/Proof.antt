@@ -1,31 +1,23 @@
-use lib.ListN.{length-replicate}
 use denote.Ref.{now}
 use Rattle.rules.specs.Table.{actionChildren}
 use mathlib.Core.Path.{sym, _∙_}
-use mathlib.Core.Bool.{Bool, false}
 use Rattle.tables.proofs.Faults.{first-fault, first-next, first-one}
-use Rattle.table_words.proofs.Row.{blank}
+use Rattle.table_words.proofs.Row.{new-marks}
 use borrow.Author.Needs.{needs}
 use Rattle.formula_words.proofs.check_trees.Statement.{statement}
 use Rattle.formula_words.proofs.check_trees.Tie as tie
 
--- src/lib.rt:129:5
 tree-ends-requires : tie.Need-tree-ends-requires
 tree-ends-requires c κs = search needs
 
--- src/lib.rt:131:5
 first-nodes-requires : tie.Need-first-nodes-requires
 first-nodes-requires c κs =
-    let start = c .before .before .before .before .before .before in (
-      (start .pre .0, length-replicate {A = Bool} 1025 false),
-      ((actionChildren (now (start .args .actions)), c .before .before .tree-ends .ensures .0), λ v. blank 1025 v),
-    )
+    let start = c .before .before .before .before .before .before in
+    new-marks (start .pre .0) (actionChildren (now (start .args .actions)), c .before .before .tree-ends .ensures .0)
 
--- src/lib.rt:132:5
 tree-ends-requires-2 : tie.Need-tree-ends-requires-2
 tree-ends-requires-2 c κs = search needs
 
--- src/lib.rt:133:9
 check-operands-requires : tie.Need-check-operands-requires
 check-operands-requires c κs =
     let at-first-nodes = c .before .before .before .before in
@@ -34,23 +26,18 @@ check-operands-requires c κs =
     let firsts = at-first-nodes .first-nodes .ensures (actionChildren (now (start .args .actions))) known in
     ((start .pre .0, firsts), (start .pre .1, c .before .before .tree-ends2 .ensures .0))
 
--- src/lib.rt:135:22
 enum-known-nodes : tie.Need-enum-known-nodes
 enum-known-nodes c = search needs
 
--- src/lib.rt:136:46
 enum-told : tie.Need-enum-told
 enum-told c = search needs
 
--- src/lib.rt:136:26
 check-references-requires : tie.Need-check-references-requires
 check-references-requires c κs = search needs
 
--- src/lib.rt:124:1
 returns : tie.Need-returns
 returns c = sym (first-fault _ (sym (c .before .before .before .check-operands .ensures) ∙ c .before .nodes .given .1))
 
--- src/lib.rt:124:1
 returns-2 : tie.Need-returns-2
 returns-2 c =
     let at-check-operands = c .before .before .before .before in

@@ -4,19 +4,15 @@ use borrow.Author.Needs.{needs}
 use Rattle.formula_words.proofs.names_no_tree.Statement.{statement}
 use Rattle.formula_words.proofs.names_no_tree.Tie as tie
 
--- src/lib.rt:17:8
 at-requires : tie.Need-at-requires
 at-requires c κs = search needs
 
--- src/lib.rt:18:9
 returns : tie.Need-returns
 returns c = no-action _ _ _ (c .before .at .ensures .0) (c .if1 .taken)
 
--- src/lib.rt:20:6
 element-copy-out-result : tie.Need-element-copy-out-result
 element-copy-out-result c = search needs
 
--- src/lib.rt:13:1
 returns-2 : tie.Need-returns-2
 returns-2 c =
     let start = c .before .before .before .before in

@@ -1,36 +1,27 @@
-use mathlib.Core.Path.{_≡_}
 use native.Mathlib.Omega.{arith}
 use Rattle.compiled.specs.Stretches.{kindsIn, prioritiesIn}
 use Rattle.game_writer.proofs.Whole.{owner-shown, priority-shown}
 use borrow.Author.Needs.{needs}
 use Rattle.game_writer.proofs.column_word.Statement.{statement}
 use Rattle.game_writer.proofs.column_word.Tie as tie
-use Rattle.game_writer.proofs.column_word.Reads as reads
-use Rattle.game_writer.proofs.column_word.Lts as lts
-use Rattle.game_writer.proofs.owner_word.Reads as owner-word-reads
-use Rattle.game_writer.proofs.shown_priority.Reads as shown-priority-reads
 
--- src/lib.rt:108:9
 owner-word-requires : tie.Need-owner-word-requires
 owner-word-requires c κs = search needs
 
--- src/lib.rt:108:9
 returns : tie.Need-returns
 returns c =
     let start = c .before .before .before in
-    owner-shown (kindsIn (start .args .compiled .now)) (prioritiesIn (start .args .compiled .now)) _ _ (start .args .column) (start .args .u .0) _ (c .before .if1 .taken) (c .owner-word .ensures)
+    owner-shown (kindsIn (start .args .compiled .now)) (prioritiesIn (start .args .compiled .now)) _ _ (start .args .column) (start .args .vertex .0) _ (c .before .if1 .taken) (c .owner-word .ensures)
 
--- src/lib.rt:110:9
 shown-priority-requires : tie.Need-shown-priority-requires
 shown-priority-requires c κs =
     let start = c .before .before in
-    ((start .pre .0 .placed .regions, omega (arith, start .pre .0 .placed .known)), start .pre .0 .edged .stretch (start .args .u .0) (omega arith))
+    ((start .pre .0 .placed .regions, omega (arith, start .pre .0 .placed .known)), start .pre .0 .edged .stretch (start .args .vertex .0) (omega arith))
 
--- src/lib.rt:101:1
 returns-2 : tie.Need-returns-2
 returns-2 c =
     let start = c .before .before .before in
-    priority-shown (kindsIn (start .args .compiled .now)) (prioritiesIn (start .args .compiled .now)) _ _ (start .args .column) (start .args .u .0) _ (start .pre .1) (c .before .if1 .left) (c .shown-priority .ensures)
+    priority-shown (kindsIn (start .args .compiled .now)) (prioritiesIn (start .args .compiled .now)) _ _ (start .args .column) (start .args .vertex .0) _ (start .pre .1) (c .before .if1 .left) (c .shown-priority .ensures)
 
 pub column-word-spec : {M : Type 1} → statement M
 column-word-spec =

@@ -3,43 +3,31 @@ use Rattle.game_writer.proofs.Vertices.{loops-none, loops-read}
 use borrow.Author.Needs.{needs}
 use Rattle.game_writer.proofs.first_loops.Statement.{statement}
 use Rattle.game_writer.proofs.first_loops.Tie as tie
-use Rattle.game_writer.proofs.first_loops.Reads as reads
-use Rattle.game_writer.proofs.first_loops.Lts as lts
-use Rattle.words.proofs.region_word.Reads as region-word-reads
 
--- src/lib.rt:63:8
 region-word-requires : tie.Need-region-word-requires
 region-word-requires c κs = search needs
 
--- src/lib.rt:64:9
 returns : tie.Need-returns
 returns c = loops-none _ _ _ (omega (arith, c .before .region-word .ensures, c .if1 .taken))
 
--- src/lib.rt:66:17
 region-word-requires-2 : tie.Need-region-word-requires-2
 region-word-requires-2 c κs = search needs
 
--- src/lib.rt:66:17
 cast-start : tie.Need-cast-start
 cast-start c = search needs
 
--- src/lib.rt:67:10
 mul-result : tie.Need-mul-result
 mul-result c = search needs
 
--- src/lib.rt:67:10
 add-result : tie.Need-add-result
 add-result c = search needs
 
--- src/lib.rt:67:5
 mul-result-2 : tie.Need-mul-result-2
 mul-result-2 c = search needs
 
--- src/lib.rt:67:5
 shared-slice-read-result : tie.Need-shared-slice-read-result
 shared-slice-read-result c = search needs
 
--- src/lib.rt:58:1
 returns-2 : tie.Need-returns-2
 returns-2 c =
     let at-region-word = c .before .before .before .before in

@@ -4,39 +4,25 @@ use Rattle.game_writer.proofs.Vertices.{settled-read, waits-read, owner
 use borrow.Author.Needs.{needs}
 use Rattle.game_writer.proofs.owner_word.Statement.{statement}
 use Rattle.game_writer.proofs.owner_word.Tie as tie
-use Rattle.game_writer.proofs.owner_word.Reads as reads
-use Rattle.game_writer.proofs.owner_word.Lts as lts
-use Rattle.compiled.proofs.kind_of.Reads as kind-of-reads
-use Rattle.kinds.proofs.owner_of.Reads as owner-of-reads
-use Rattle.pairs.proofs.item_of.Reads as item-of-reads
-use Rattle.player.proofs.to_index.Reads as to-index-reads
-use Rattle.words.proofs.region_word.Reads as region-word-reads
 
--- src/lib.rt:50:8
 region-word-requires : tie.Need-region-word-requires
 region-word-requires c κs = search needs
 
--- src/lib.rt:51:9
 returns : tie.Need-returns
 returns c = sym (owner-waits _ _ _ _ (waits-read _ _ _ _ (c .before .region-word .ensures) (c .if1 .taken)))
 
--- src/lib.rt:53:9
 item-of-requires : tie.Need-item-of-requires
 item-of-requires c κs = search needs
 
--- src/lib.rt:54:23
 kind-of-requires : tie.Need-kind-of-requires
 kind-of-requires c κs = search needs
 
--- src/lib.rt:54:14
 owner-of-requires : tie.Need-owner-of-requires
 owner-of-requires c κs = search needs
 
--- src/lib.rt:54:5
 to-index-requires : tie.Need-to-index-requires
 to-index-requires c κs = search needs
 
--- src/lib.rt:46:1
 returns-2 : tie.Need-returns-2
 returns-2 c =
     let at-if1 = c .before .before .before .before in

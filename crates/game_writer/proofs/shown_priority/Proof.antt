@@ -4,57 +4,38 @@ use Rattle.game_writer.proofs.Vertices.{settled-read, waits-read, prior
 use borrow.Author.Needs.{needs}
 use Rattle.game_writer.proofs.shown_priority.Statement.{statement}
 use Rattle.game_writer.proofs.shown_priority.Tie as tie
-use Rattle.game_writer.proofs.shown_priority.Reads as reads
-use Rattle.game_writer.proofs.shown_priority.Lts as lts
-use Rattle.compiled.proofs.kind_of.Reads as kind-of-reads
-use Rattle.compiled.proofs.priority_of.Reads as priority-of-reads
-use Rattle.game_writer.proofs.first_loops.Reads as first-loops-reads
-use Rattle.game_writer.proofs.stuck_priority.Reads as stuck-priority-reads
-use Rattle.kinds.proofs.owner_of.Reads as owner-of-reads
-use Rattle.pairs.proofs.item_of.Reads as item-of-reads
-use Rattle.words.proofs.region_word.Reads as region-word-reads
 
--- src/lib.rt:78:8
 region-word-requires : tie.Need-region-word-requires
 region-word-requires c κs = search needs
 
--- src/lib.rt:79:9
 returns : tie.Need-returns
 returns c = sym (priority-waits _ _ _ _ _ (waits-read _ _ _ _ (c .before .region-word .ensures) (c .if1 .taken)))
 
--- src/lib.rt:81:9
 item-of-requires : tie.Need-item-of-requires
 item-of-requires c κs = search needs
 
--- src/lib.rt:82:8
 first-loops-requires : tie.Need-first-loops-requires
 first-loops-requires c κs =
     let start = c .before .before .before .before in
     ((start .pre .0 .0, start .pre .0 .1), start .pre .1 (settled-read _ _ _ _ (c .before .before .region-word .ensures) (c .before .if1 .left)))
 
--- src/lib.rt:83:40
 kind-of-requires : tie.Need-kind-of-requires
 kind-of-requires c κs = search needs
 
--- src/lib.rt:83:31
 owner-of-requires : tie.Need-owner-of-requires
 owner-of-requires c κs = search needs
 
--- src/lib.rt:83:9
 stuck-priority-requires : tie.Need-stuck-priority-requires
 stuck-priority-requires c κs = search needs
 
--- src/lib.rt:83:9
 returns-2 : tie.Need-returns-2
 returns-2 c =
     let at-first-loops = c .before .before .before .before in
     stuck-read _ _ _ _ _ _ _ _ (settled-read _ _ _ _ (at-first-loops .before .before .before .region-word .ensures) (at-first-loops .before .before .if1 .left)) (sym (at-first-loops .first-loops .ensures) ∙ c .before .before .before .if2 .taken) (at-first-loops .before .item-of .ensures) (c .before .owner-of .ensures ∙ ap kindOwner (c .before .before .kind-of .ensures)) (c .stuck-priority .ensures)
 
--- src/lib.rt:85:14
 priority-of-requires : tie.Need-priority-of-requires
 priority-of-requires c κs = search needs
 
--- src/lib.rt:71:1
 returns-3 : tie.Need-returns-3
 returns-3 c =
     let at-if1 = c .before .before .before .before in

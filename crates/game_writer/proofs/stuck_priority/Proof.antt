@@ -4,20 +4,13 @@ use Rattle.rules.specs.Game.{stuckPriority}
 use borrow.Author.Needs.{needs}
 use Rattle.game_writer.proofs.stuck_priority.Statement.{statement}
 use Rattle.game_writer.proofs.stuck_priority.Tie as tie
-use Rattle.game_writer.proofs.stuck_priority.Reads as reads
-use Rattle.game_writer.proofs.stuck_priority.Lts as lts
-use Rattle.player.proofs.opponent.Reads as opponent-reads
-use Rattle.player.proofs.to_index.Reads as to-index-reads
 
--- src/lib.rt:45:23
 opponent-requires : tie.Need-opponent-requires
 opponent-requires c κs = search needs
 
--- src/lib.rt:45:14
 to-index-requires : tie.Need-to-index-requires
 to-index-requires c κs = search needs
 
--- src/lib.rt:42:1
 returns : tie.Need-returns
 unfolding stuckPriority
 returns c = c .to-index .ensures ∙ ap playerIndex (c .before .opponent .ensures)

@@ -1,105 +1,116 @@
-use Rattle.compiled.specs.Stretches.{kindsIn, prioritiesIn}
-use denote.Ref.{now}
-use Prim.Native.Nat.{_-_}
+-- `write_game` meets its contract: four calls write the game of the vertices that are shown, and zeros follow. Assumes
+-- nothing.
+use mathlib.Core.Path.{_≡_, sym, _∙_}
+use mathlib.Core.List.{List, []}
+use Prim.Native.Nat.{ℕ}
 use native.Mathlib.Omega.{arith}
-use mathlib.Core.List.{[]}
-use Rattle.rules.specs.Game.{gameOf}
-use Rattle.words.proofs.Stretches.{Writing, turn, called, done}
-use Rattle.parity_game.proofs.Stretches.{game-padded}
+use denote.Ref.{now}
+use lib.ListN.{length}
+use Rattle.compiled.specs.Stretches.{kindsIn, prioritiesIn}
+use Rattle.rules.specs.Game.{Vertex, edgeCount, gameOf}
+use Rattle.words.proofs.Stretches.{Writing, called}
+use Rattle.parity_game.proofs.Calls.{behindHeader, behindColumns, behindOffsets, header-done, columns-fit, offsets-fit}
+use Rattle.parity_game.proofs.Calls.{targets-fit, game-fits, game-done}
 use Rattle.game_writer.specs.Shown.{shownVertices}
-use Rattle.game_writer.proofs.Edges.{offsets-past, targets-past}
-use Rattle.game_writer.proofs.Whole.{placed, edges-within, showing, columns-end, stretches}
+use Rattle.game_writer.proofs.Edges.{total}
+use Rattle.game_writer.proofs.Whole.{placed, edges-within, showing, shown-length}
 use borrow.Author.Needs.{needs}
 use Rattle.game_writer.proofs.write_game.Statement.{statement}
 use Rattle.game_writer.proofs.write_game.Tie as tie
-use Rattle.game_writer.proofs.write_game.Reads as reads
-use Rattle.game_writer.proofs.write_game.Lts as lts
-use Rattle.game_writer.proofs.write_columns.Reads as write-columns-reads
-use Rattle.game_writer.proofs.write_offsets.Reads as write-offsets-reads
-use Rattle.game_writer.proofs.write_targets.Reads as write-targets-reads
-use Rattle.parity_game.proofs.write_header.Reads as write-header-reads
-use Rattle.words.proofs.fill.Reads as fill-reads
 
--- src/lib.rt:224:9
+abbrev kinds : tie.Start → List ℕ
+kinds s = kindsIn (now (s .args .compiled))
+
+abbrev priorities : tie.Start → List ℕ
+priorities s = prioritiesIn (now (s .args .compiled))
+
+-- the vertices that are written, and how many they and their edges are
+abbrev shown : tie.Start → List Vertex
+shown s = shownVertices (kinds s) (priorities s) (now (s .args .work)) (s .args .vertices) (s .args .known)
+
+many : (s : tie.Start) → s .args .known ≡ length (shown s)
+many s = sym (shown-length (kinds s) (priorities s) (now (s .args .work)) (s .args .vertices) (s .args .known))
+
+most : (s : tie.Start) → s .args .edges ≡ edgeCount (shown s)
+most s =
+    sym (s .pre .total)
+    ∙ sym (total (kinds s) (priorities s) (now (s .args .work)) (s .args .vertices) (s .args .known) (edges-within (s .pre)))
+
+-- so much is left of the game, where `at` words of it are written
+abbrev Left : tie.Start → (at : ℕ) (left : List ℕ) (out : List ℕ) → Type 0
+Left s at left out = Writing at left out 0 (gameOf 0 (shown s)) (now (s .args .game))
+
+abbrev header-start : tie.After-write-header → tie.Start
+header-start c = c .before .before .before .before
+
+header : (c : tie.After-write-header)
+    → Left (header-start c) (c .write-header .result) (behindHeader (shown (header-start c)))
+    (c .write-header .last .1 .1 .0)
+header c =
+    let s = header-start c in
+    header-done (shown s) (s .args .known) (s .args .edges) (many s) (most s) (c .write-header .kept .1 .1 .0)
+    (c .write-header .ensures)
+
+abbrev columns-start : tie.After-write-columns → tie.Start
+columns-start c = header-start (c .before .before .before .before)
+
+columns : (c : tie.After-write-columns)
+    → Left (columns-start c) (c .write-columns .result) (behindColumns (shown (columns-start c)))
+    (c .write-columns .last .1 .1 .1 .1 .0)
+columns c =
+    called (c .write-columns .kept .1 .1 .1 .1 .0) (c .write-columns .ensures) (header (c .before .before .before .before))
+
+abbrev offsets-start : tie.After-write-offsets → tie.Start
+offsets-start c = columns-start (c .before .before .before .before)
+
+offsets : (c : tie.After-write-offsets)
+    → Left (offsets-start c) (c .write-offsets .result) (behindOffsets (shown (offsets-start c)))
+    (c .write-offsets .last .1 .1 .1 .0)
+offsets c =
+    let s = offsets-start c in
+    called (c .write-offsets .kept .1 .1 .1 .0) (c .write-offsets .ensures (kinds s) (priorities s))
+    (columns (c .before .before .before .before))
+
+abbrev targets-start : tie.After-write-targets → tie.Start
+targets-start c = offsets-start (c .before .before .before .before)
+
+targets : (c : tie.After-write-targets)
+    → Left (targets-start c) (c .write-targets .result) [] (c .write-targets .last .1 .1 .1 .0)
+targets c =
+    let s = targets-start c in
+    called (c .write-targets .kept .1 .1 .1 .0) (c .write-targets .ensures (kinds s) (priorities s))
+    (offsets (c .before .before .before .before))
+
 write-header-requires : tie.Need-write-header-requires
 write-header-requires c κs = search needs
 
--- src/lib.rt:225:9
 write-columns-requires : tie.Need-write-columns-requires
 write-columns-requires c κs =
-    let at-write-header = c .before .before .before in
-    let start = at-write-header .before .before .before .before in
-    (showing (start .pre), omega (arith, start .pre .room, at-write-header .write-header .ensures .past, at-write-header .write-header .kept .1 .1 .0))
+    let s = header-start (c .before .before .before) in
+    (showing (s .pre), columns-fit (shown s) _ _ (many s) (most s) (s .pre .room) (header (c .before .before .before)))
 
--- src/lib.rt:226:9
 write-offsets-requires : tie.Need-write-offsets-requires
 write-offsets-requires c κs =
-    let at-write-columns = c .before .before .before in
-    let at-write-header = at-write-columns .before .before .before .before in
-    let start = at-write-header .before .before .before .before in
-    let p1 = columns-end (kindsIn (now (start .args .compiled))) (prioritiesIn (now (start .args .compiled))) (now (start .args .work)) (start .args .v) (start .args .known) (at-write-columns .write-columns .ensures) in (
-      placed (start .pre),
-      (
-        edges-within (start .pre),
-        (
-          omega (arith, start .pre .total),
-          omega (arith, start .pre .room, p1, at-write-header .write-header .ensures .past, at-write-header .write-header .kept .1 .1 .0, at-write-columns .write-columns .kept .1 .1 .1 .1 .0),
-        ),
-      ),
-    )
+    let s = columns-start (c .before .before .before) in
+    let fit = offsets-fit (shown s) _ _ (many s) (most s) (s .pre .room) (columns (c .before .before .before)) in
+    (placed (s .pre), (edges-within (s .pre), (omega (arith, s .pre .total), omega (arith, fit))))
 
--- src/lib.rt:227:9
 write-targets-requires : tie.Need-write-targets-requires
 write-targets-requires c κs =
-    let at-write-offsets = c .before .before .before in
-    let at-write-columns = at-write-offsets .before .before .before .before in
-    let at-write-header = at-write-columns .before .before .before .before in
-    let start = at-write-header .before .before .before .before in
-    let p1 = columns-end (kindsIn (now (start .args .compiled))) (prioritiesIn (now (start .args .compiled))) (now (start .args .work)) (start .args .v) (start .args .known) (at-write-columns .write-columns .ensures) in
-    let p2 = offsets-past [] [] (now (start .args .work)) (start .args .v) (start .args .known) (edges-within (start .pre)) (at-write-offsets .write-offsets .ensures [] []) in (
-      placed (start .pre),
-      (
-        edges-within (start .pre),
-        omega (arith, start .pre .room, start .pre .total, p1, p2, at-write-header .write-header .ensures .past, at-write-header .write-header .kept .1 .1 .0, at-write-columns .write-columns .kept .1 .1 .1 .1 .0, at-write-offsets .write-offsets .kept .1 .1 .1 .0),
-      ),
-    )
+    let s = offsets-start (c .before .before .before) in
+    let fit = targets-fit (shown s) _ _ (many s) (most s) (s .pre .room) (offsets (c .before .before .before)) in
+    (placed (s .pre), (edges-within (s .pre), omega (arith, fit, s .pre .total)))
 
--- src/lib.rt:228:5
 fill-requires : tie.Need-fill-requires
 fill-requires c κs =
-    let at-write-targets = c .before .before .before in
-    let at-write-offsets = at-write-targets .before .before .before .before in
-    let at-write-columns = at-write-offsets .before .before .before .before in
-    let at-write-header = at-write-columns .before .before .before .before in
-    let start = at-write-header .before .before .before .before in
-    let p1 = columns-end (kindsIn (now (start .args .compiled))) (prioritiesIn (now (start .args .compiled))) (now (start .args .work)) (start .args .v) (start .args .known) (at-write-columns .write-columns .ensures) in
-    let p2 = offsets-past [] [] (now (start .args .work)) (start .args .v) (start .args .known) (edges-within (start .pre)) (at-write-offsets .write-offsets .ensures [] []) in
-    let p3 = targets-past [] [] (now (start .args .work)) (start .args .v) (start .args .known) (edges-within (start .pre)) (at-write-targets .write-targets .ensures [] []) in
-    omega (arith, start .pre .room, start .pre .total, p1, p2, p3, at-write-header .write-header .ensures .past, at-write-header .write-header .kept .1 .1 .0, at-write-columns .write-columns .kept .1 .1 .1 .1 .0, at-write-offsets .write-offsets .kept .1 .1 .1 .0, at-write-targets .write-targets .kept .1 .1 .1 .0)
+    let s = targets-start (c .before .before .before) in
+    game-fits (shown s) _ _ (many s) (most s) (s .pre .room) (targets (c .before .before .before))
 
--- src/lib.rt:212:1
 same-length : tie.Need-same-length
 same-length c = search needs
 
--- src/lib.rt:212:1
 returns : tie.Need-returns
-returns c =
-    let at-write-targets = c .before .before .before .before .before .before in
-    let at-write-offsets = at-write-targets .before .before .before .before in
-    let at-write-columns = at-write-offsets .before .before .before .before in
-    let at-write-header = at-write-columns .before .before .before .before in
-    let start′ = at-write-header .before .before .before .before in
-    let ks = kindsIn (now (start′ .args .compiled)) in
-    let ps = prioritiesIn (now (start′ .args .compiled)) in
-    let w = now (start′ .args .work) in
-    let said = stretches ks ps w (start′ .args .v) (start′ .args .known) (start′ .args .edges) (edges-within (start′ .pre)) (start′ .pre .total) in
-    let w0 : Writing 0 (gameOf 0 (shownVertices ks ps w (start′ .args .v) (start′ .args .known))) (now (start′ .args .game)) 0 (gameOf 0 (shownVertices ks ps w (start′ .args .v) (start′ .args .known))) (now (start′ .args .game))
-    = Rattle.words.proofs.Stretches.start in
-    let w1 = called (at-write-header .write-header .kept .1 .1 .0) (at-write-header .write-header .ensures) (turn said w0) in
-    let w2 = called (at-write-columns .write-columns .kept .1 .1 .1 .1 .0) (at-write-columns .write-columns .ensures) w1 in
-    let w3 = called (at-write-offsets .write-offsets .kept .1 .1 .1 .0) (at-write-offsets .write-offsets .ensures ks ps) w2 in
-    let w4 = called (at-write-targets .write-targets .kept .1 .1 .1 .0) (at-write-targets .write-targets .ensures ks ps) w3 in
-    game-padded _ _ _ _ _ (done w4) (w4 .long) (c .before .before .fill .ensures)
+returns c = game-done (targets (c .before .before .before .before .before .before)) (c .before .before .fill .ensures)
 
 pub write-game-spec : {M : Type 1} → statement M
 write-game-spec =

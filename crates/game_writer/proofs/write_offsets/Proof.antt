@@ -1,9 +1,9 @@
 use denote.Ref.{now}
-use Prim.Native.Nat.{ℕ, _-_, _≤_}
+use Prim.Native.Nat.{ℕ, _-_, _≤_, _<_}
 use native.Mathlib.Omega.{arith}
 use mathlib.Core.Path.{_≡_, _∙_}
 use mathlib.Core.List.{List, []}
-use lib.ListN.{length-set}
+use lib.ListN.{length, length-set}
 use Rattle.rules.specs.Game.{offsets}
 use Rattle.words.proofs.Stretches.{Writing}
 use Rattle.settling.specs.Stand.{degreesIn}
@@ -14,17 +14,19 @@ use Rattle.game_writer.proofs.write_offsets.Statement.{statement}
 use Rattle.game_writer.proofs.write_offsets.Tie as tie
 
 abbrev Inv-loop : tie.InvT-loop
-Inv-loop work v known game₀ start u₀ e₀ p₀ game u e p =
-    (u ≤ known) × (e ≡ degreesIn work v u)
-    × ((kinds priorities : List ℕ) → Writing p (offsets e (later kinds priorities work v known u)) game start (offsets 0 (shownVertices kinds priorities work v known)) game₀)
+Inv-loop work vertices known game₀ start vertex₀ edges₀ place₀ game vertex edges place =
+    (vertex ≤ known) × (edges ≡ degreesIn work vertices vertex)
+    × ((kinds priorities : List ℕ)
+    → Writing place (offsets edges (later kinds priorities work vertices known vertex)) game start
+    (offsets 0 (shownVertices kinds priorities work vertices known)) game₀)
 
 abbrev μ-loop : tie.MeasureT-loop
-μ-loop work v known game₀ start u₀ e₀ p₀ game u e p = known - u
+μ-loop work vertices known game₀ start vertex₀ edges₀ place₀ game vertex edges place = known - vertex
 
 loop-holds : tie.Need-loop-holds Inv-loop μ-loop
 loop-holds c =
     let start = c .before .before in
-    (omega arith, below-none (now (start .args .work)) (start .args .v), λ ks ps. offsets-start ks ps (now (start .args .work)) (start .args .v) (start .args .known) (start .pre .1 .0))
+    (omega arith, below-none (now (start .args .work)) (start .args .vertices), λ ks ps. offsets-start ks ps (now (start .args .work)) (start .args .vertices) (start .args .known) (start .pre .1 .0))
 
 count-of-requires : tie.Need-count-of-requires Inv-loop μ-loop
 count-of-requires c κs =
@@ -32,33 +34,31 @@ count-of-requires c κs =
     let p = start .pre .0 in
     (p .regions, omega (arith, p .known, c .loop-test .taken))
 
+-- there is room for the next word, and for the last
+room : (c : tie.At-loop Inv-loop μ-loop) → c .loop .place < length (c .loop .game)
+room c =
+    let start = c .before .before .before in
+    offsets-room [] [] (now (start .args .work)) (start .args .vertices) (start .args .known) (start .pre .1 .0)
+    (c .loop .edges) (c .loop .vertex) (c .loop .inv .0) (start .pre .1 .1 .1) (c .loop .inv .2 [] [])
+
 mul-game : tie.Need-mul-game Inv-loop μ-loop
-mul-game c =
-    let at-loop = c .before .before in
-    let start = at-loop .before .before .before in
-    omega (arith, offsets-room [] [] (now (start .args .work)) (start .args .v) (start .args .known) (start .pre .1 .0) (at-loop .loop .e) (at-loop .loop .u) (at-loop .loop .inv .0) (start .pre .1 .1 .1) (at-loop .loop .inv .2 [] []), at-loop .loop .inv .2 [] [] .long)
+mul-game c = omega (arith, room (c .before .before), c .before .before .loop .inv .2 [] [] .long)
 
 slice-write-game : tie.Need-slice-write-game Inv-loop μ-loop
-slice-write-game c =
-    let at-loop = c .before .before in
-    let start = at-loop .before .before .before in
-    offsets-room [] [] (now (start .args .work)) (start .args .v) (start .args .known) (start .pre .1 .0) (at-loop .loop .e) (at-loop .loop .u) (at-loop .loop .inv .0) (start .pre .1 .1 .1) (at-loop .loop .inv .2 [] [])
+slice-write-game c = room (c .before .before)
 
-add-p : tie.Need-add-p Inv-loop μ-loop
-add-p c =
-    let at-loop = c .before .before in
-    let start = at-loop .before .before .before in
-    omega (arith, offsets-room [] [] (now (start .args .work)) (start .args .v) (start .args .known) (start .pre .1 .0) (at-loop .loop .e) (at-loop .loop .u) (at-loop .loop .inv .0) (start .pre .1 .1 .1) (at-loop .loop .inv .2 [] []), at-loop .loop .inv .2 [] [] .long)
+add-place : tie.Need-add-place Inv-loop μ-loop
+add-place c = omega (arith, room (c .before .before), c .before .before .loop .inv .2 [] [] .long)
 
-add-e : tie.Need-add-e Inv-loop μ-loop
-add-e c =
+add-edges : tie.Need-add-edges Inv-loop μ-loop
+add-edges c =
     let start = c .before .before .before .before .before in
     let l = c .before .before .loop in
-    let most = below-most [] [] (now (start .args .work)) (start .args .v) (start .args .known) (start .pre .1 .0) (l .u) in
+    let most = below-most [] [] (now (start .args .work)) (start .args .vertices) (start .args .known) (start .pre .1 .0) (l .vertex) in
     omega (arith, most (c .before .loop-test .taken), l .inv .1, c .count-of .ensures, start .pre .1 .1 .0)
 
-add-u : tie.Need-add-u Inv-loop μ-loop
-add-u c = omega arith
+add-vertex : tie.Need-add-vertex Inv-loop μ-loop
+add-vertex c = omega arith
 
 loop-less : tie.Need-loop-less Inv-loop μ-loop
 loop-less c = omega arith
@@ -66,43 +66,33 @@ loop-less c = omega arith
 loop-again : tie.Need-loop-again Inv-loop μ-loop
 loop-again c =
     let start = c .before .before .before .before .before in
-    let l = c .before .before .loop in
-    let room = offsets-room [] [] (now (start .args .work)) (start .args .v) (start .args .known) (start .pre .1 .0) (l .e) (l .u) (l .inv .0) (start .pre .1 .1 .1) (l .inv .2 [] []) in (
+    let l = c .before .before .loop in (
       omega arith,
-      below-more (now (start .args .work)) (start .args .v) (l .u) (l .e) _ (l .inv .1) (c .count-of .ensures),
-      λ ks ps. offsets-put ks ps (now (start .args .work)) (start .args .v) (start .args .known) (start .pre .1 .0) (l .e) (l .u) _
-          (c .count-of .ensures) (c .before .loop-test .taken) room (l .inv .2 ks ps),
+      below-more (now (start .args .work)) (start .args .vertices) (l .vertex) (l .edges) _ (l .inv .1) (c .count-of .ensures),
+      λ ks ps. offsets-put ks ps (now (start .args .work)) (start .args .vertices) (start .args .known) (start .pre .1 .0) (l .edges) (l .vertex) _
+          (c .count-of .ensures) (c .before .loop-test .taken) (room (c .before .before)) (l .inv .2 ks ps),
     )
 
 mul-game-2 : tie.Need-mul-game-2 Inv-loop μ-loop
-mul-game-2 c =
-    let at-loop = c .before in
-    let start = at-loop .before .before .before in
-    omega (arith, offsets-room [] [] (now (start .args .work)) (start .args .v) (start .args .known) (start .pre .1 .0) (at-loop .loop .e) (at-loop .loop .u) (at-loop .loop .inv .0) (start .pre .1 .1 .1) (at-loop .loop .inv .2 [] []), at-loop .loop .inv .2 [] [] .long)
+mul-game-2 c = omega (arith, room (c .before), c .before .loop .inv .2 [] [] .long)
 
 slice-write-game-2 : tie.Need-slice-write-game-2 Inv-loop μ-loop
-slice-write-game-2 c =
-    let at-loop = c .before in
-    let start = at-loop .before .before .before in
-    offsets-room [] [] (now (start .args .work)) (start .args .v) (start .args .known) (start .pre .1 .0) (at-loop .loop .e) (at-loop .loop .u) (at-loop .loop .inv .0) (start .pre .1 .1 .1) (at-loop .loop .inv .2 [] [])
+slice-write-game-2 c = room (c .before)
 
 add-result : tie.Need-add-result Inv-loop μ-loop
-add-result c =
-    let at-loop = c .before in
-    let start = at-loop .before .before .before in
-    omega (arith, offsets-room [] [] (now (start .args .work)) (start .args .v) (start .args .known) (start .pre .1 .0) (at-loop .loop .e) (at-loop .loop .u) (at-loop .loop .inv .0) (start .pre .1 .1 .1) (at-loop .loop .inv .2 [] []), at-loop .loop .inv .2 [] [] .long)
+add-result c = omega (arith, room (c .before), c .before .loop .inv .2 [] [] .long)
 
 same-length : tie.Need-same-length Inv-loop μ-loop
 same-length c =
     let at-loop = c .before in
-    length-set {A = ℕ} (at-loop .loop .game) (at-loop .loop .p) (at-loop .loop .e) ∙ at-loop .loop .inv .2 [] [] .long
+    length-set {A = ℕ} (at-loop .loop .game) (at-loop .loop .place) (at-loop .loop .edges) ∙ at-loop .loop .inv .2 [] [] .long
 
 returns : tie.Need-returns Inv-loop μ-loop
 returns c =
     let start = c .before .before .before .before in
     let l = c .before .loop in
-    let room = offsets-room [] [] (now (start .args .work)) (start .args .v) (start .args .known) (start .pre .1 .0) (l .e) (l .u) (l .inv .0) (start .pre .1 .1 .1) (l .inv .2 [] []) in
-    λ ks ps. offsets-done ks ps (now (start .args .work)) (start .args .v) (start .args .known) (start .pre .1 .0) (l .e) (l .u) (c .loop-test .left) room (l .inv .2 ks ps)
+    λ ks ps. offsets-done ks ps (now (start .args .work)) (start .args .vertices) (start .args .known) (start .pre .1 .0) (l .edges) (l .vertex) (c .loop-test .left)
+    (room (c .before)) (l .inv .2 ks ps)
 
 pub write-offsets-spec : {M : Type 1} → statement M
 write-offsets-spec =
@@ -114,9 +104,9 @@ write-offsets-spec =
     count-of-requires
     mul-game
     slice-write-game
-    add-p
-    add-e
-    add-u
+    add-place
+    add-edges
+    add-vertex
     loop-less
     loop-again
     mul-game-2

@@ -1,7 +1,9 @@
 -- `run_words` meets its contract: the parts of the words are the four slices. Assumes nothing.
 use mathlib.Core.Path.{ap}
+use Prim.Native.Nat.{_+_, _≤_}
 use native.Mathlib.Omega.{arith}
 use denote.Ref.{now}
+use lib.ListN.{length}
 use Rattle.rules.specs.Words.{Input}
 use Rattle.rules.specs.Program.{gateRun, reported}
 use Rattle.text_writer.proofs.Lines.{wrote-as}
@@ -9,6 +11,20 @@ use Rattle.gate_text.proofs.Programs.{four-words, all-words, parts-are}
 use borrow.Author.Needs.{needs}
 use Rattle.gate_text.proofs.run_words.Statement.{statement}
 use Rattle.gate_text.proofs.run_words.Tie as tie
+
+-- the three lengths that are read end within the words
+within : (c : tie.After-at3)
+    → 4 + c .before .before .at .result + c .before .at2 .result + c .at3 .result
+    ≤ length (now (c .before .before .before .before .before .args .ws))
+within c =
+    let start = c .before .before .before .before .before in
+    omega (
+      arith,
+      all-words (now (start .args .ws)) (start .pre .0),
+      c .before .before .at .ensures .0,
+      c .before .at2 .ensures .0,
+      c .at3 .ensures .0,
+    )
 
 at-requires : tie.Need-at-requires
 at-requires c κs =
@@ -41,9 +57,7 @@ part-run-input-start : tie.Need-part-run-input-start
 part-run-input-start c = search needs
 
 part-run-input-end : tie.Need-part-run-input-end
-part-run-input-end c =
-    let start = c .before .before .before .before .before in
-    omega (arith, all-words (now (start .args .ws)) (start .pre .0), c .before .before .at .ensures .0, c .before .at2 .ensures .0, c .at3 .ensures .0)
+part-run-input-end c = omega (arith, within c)
 
 mul-run-input : tie.Need-mul-run-input
 mul-run-input c = search needs
@@ -55,15 +69,7 @@ part-run-input-start-2 : tie.Need-part-run-input-start-2
 part-run-input-start-2 c = search needs
 
 part-run-input-end-2 : tie.Need-part-run-input-end-2
-part-run-input-end-2 c =
-    let start = c .before .before .before .before .before .before in
-    omega (
-      arith,
-      all-words (now (start .args .ws)) (start .pre .0),
-      c .before .before .before .at .ensures .0,
-      c .before .before .at2 .ensures .0,
-      c .before .at3 .ensures .0,
-    )
+part-run-input-end-2 c = omega (arith, within (c .before))
 
 mul-run-input-2 : tie.Need-mul-run-input-2
 mul-run-input-2 c = search needs
@@ -75,43 +81,16 @@ part-run-input-start-3 : tie.Need-part-run-input-start-3
 part-run-input-start-3 c = search needs
 
 part-run-input-end-3 : tie.Need-part-run-input-end-3
-part-run-input-end-3 c =
-    let at-at = c .before .before .before .before in
-    let start = at-at .before .before .before in
-    omega (
-      arith,
-      all-words (now (start .args .ws)) (start .pre .0),
-      at-at .at .ensures .0,
-      c .before .before .before .at2 .ensures .0,
-      c .before .before .at3 .ensures .0,
-    )
+part-run-input-end-3 c = omega (arith, within (c .before .before))
 
 mul-run-input-3 : tie.Need-mul-run-input-3
 mul-run-input-3 c = search needs
 
 sub-run-input-4 : tie.Need-sub-run-input-4
-sub-run-input-4 c =
-    let at-at2 = c .before .before .before .before in
-    let start = at-at2 .before .before .before .before in
-    omega (
-      arith,
-      all-words (now (start .args .ws)) (start .pre .0),
-      at-at2 .before .at .ensures .0,
-      at-at2 .at2 .ensures .0,
-      c .before .before .before .at3 .ensures .0,
-    )
+sub-run-input-4 c = omega (arith, within (c .before .before .before))
 
 part-run-input-start-4 : tie.Need-part-run-input-start-4
-part-run-input-start-4 c =
-    let at-at2 = c .before .before .before .before in
-    let start = at-at2 .before .before .before .before in
-    omega (
-      arith,
-      all-words (now (start .args .ws)) (start .pre .0),
-      at-at2 .before .at .ensures .0,
-      at-at2 .at2 .ensures .0,
-      c .before .before .before .at3 .ensures .0,
-    )
+part-run-input-start-4 c = omega (arith, within (c .before .before .before))
 
 part-run-input-end-4 : tie.Need-part-run-input-end-4
 part-run-input-end-4 c = search needs

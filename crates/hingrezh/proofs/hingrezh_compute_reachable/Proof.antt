@@ -1,3 +1,5 @@
+-- `hingrezh_compute_reachable` meets its contract: what holds of the answer holds of the one that the lent words say.
+-- Assumes nothing.
 use Rattle.hingrezh.proofs.Carried.{restriction-carried}
 use borrow.Author.Needs.{needs}
 use Rattle.hingrezh.proofs.hingrezh_compute_reachable.Statement.{statement}

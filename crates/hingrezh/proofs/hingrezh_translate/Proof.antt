@@ -1,3 +1,5 @@
+-- `hingrezh_translate` meets its contract: what holds of the answer holds of the one that the lent words say. Assumes
+-- nothing.
 use Rattle.hingrezh.proofs.Carried.{run-carried}
 use borrow.Author.Needs.{needs}
 use Rattle.hingrezh.proofs.hingrezh_translate.Statement.{statement}

@@ -5,27 +5,21 @@ use borrow.Author.Needs.{needs}
 use Rattle.inputs.proofs.check.Statement.{statement}
 use Rattle.inputs.proofs.check.Tie as tie
 
--- src/lib.rt:80:9
 check-room-requires : tie.Need-check-room-requires
 check-room-requires c κs = search needs
 
--- src/lib.rt:82:22
 enum-known-checked : tie.Need-enum-known-checked
 enum-known-checked c = search needs
 
--- src/lib.rt:83:26
 enum-told : tie.Need-enum-told
 enum-told c = search needs
 
--- src/lib.rt:83:26
 check-words-requires : tie.Need-check-words-requires
 check-words-requires c κs = search needs
 
--- src/lib.rt:68:1
 returns : tie.Need-returns
 returns c = sym (run-order _ _ _ _ ∙ then-fault _ (sym (c .before .before .before .check-room .ensures) ∙ c .before .checked .given .1))
 
--- src/lib.rt:68:1
 returns-2 : tie.Need-returns-2
 returns-2 c = c .check-words .ensures ∙ sym (run-order _ _ _ _ ∙ then-passed _ (sym (c .before .before .before .check-room .ensures) ∙ c .before .enum-told .given .1))
 

@@ -7,30 +7,24 @@ use Rattle.inputs.proofs.check_formulas.Statement.{statement}
 use Rattle.inputs.proofs.check_formulas.Tie as tie
 use Rattle.tables.proofs.Faults.{first-fault-of, first-next-of}
 
--- src/lib.rt:43:9
 check-actions-requires : tie.Need-check-actions-requires
 check-actions-requires c κs = search needs
 
--- src/lib.rt:45:22
 enum-known-checked : tie.Need-enum-known-checked
 enum-known-checked c = search needs
 
--- src/lib.rt:46:26
 enum-told : tie.Need-enum-told
 enum-told c = search needs
 
--- src/lib.rt:46:26
 check-formula-requires : tie.Need-check-formula-requires
 check-formula-requires c κs = actions-passed _ _ (sym (c .before .before .check-actions .ensures) ∙ c .enum-told .given .1)
 
--- src/lib.rt:39:1
 returns : tie.Need-returns
 returns c =
     let start = c .before .before .before .before .before .before .before in
     let a = start .args in
     sym (first-fault-of (actionChecks (now (a .labels)) (now (a .actions))) _ (sym (c .before .before .before .check-actions .ensures) ∙ c .before .checked .given .1))
 
--- src/lib.rt:39:1
 returns-2 : tie.Need-returns-2
 returns-2 c =
     let start = c .before .before .before .before .before .before .before in

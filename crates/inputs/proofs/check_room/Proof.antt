@@ -6,63 +6,48 @@ use borrow.Author.Needs.{needs}
 use Rattle.inputs.proofs.check_room.Statement.{statement}
 use Rattle.inputs.proofs.check_room.Tie as tie
 
--- src/lib.rt:16:9
 returns : tie.Need-returns
 returns c = sym (then-fault _ (no-vertex _ _ (omega arith)))
 
--- src/lib.rt:19:9
 returns-2 : tie.Need-returns-2
 returns-2 c = sym (then-fault _ (many-vertices _ _ (omega arith)))
 
--- src/lib.rt:22:9
 returns-3 : tie.Need-returns-3
 returns-3 c = sym (then-fault _ (no-edge _ _ (omega arith)))
 
--- src/lib.rt:25:9
 returns-4 : tie.Need-returns-4
 returns-4 c = sym (then-fault _ (many-edges _ _ (omega arith)))
 
--- src/lib.rt:33:20
 cast-vertices : tie.Need-cast-vertices
 cast-vertices c = search needs
 
--- src/lib.rt:34:17
 cast-edges : tie.Need-cast-edges
 cast-edges c = search needs
 
--- src/lib.rt:29:24
 mul-if5 : tie.Need-mul-if5
 mul-if5 c = search needs
 
--- src/lib.rt:29:20
 add-if5 : tie.Need-add-if5
 add-if5 c = search needs
 
--- src/lib.rt:29:20
 add-if5-2 : tie.Need-add-if5-2
 add-if5-2 c = search needs
 
--- src/lib.rt:30:9
 returns-5 : tie.Need-returns-5
 returns-5 c = sym (then-passed _ (right-room _ _ (omega arith) (omega arith) (omega arith) (omega arith)) ∙ wrong-game _ _ _ _ (omega arith))
 
--- src/lib.rt:32:20
 mul-if6 : tie.Need-mul-if6
 mul-if6 c = search needs
 
--- src/lib.rt:32:28
 mul-if6-2 : tie.Need-mul-if6-2
 mul-if6-2 c = search needs
 
--- src/lib.rt:32:20
 add-if6 : tie.Need-add-if6
 add-if6 c = search needs
 
--- src/lib.rt:33:9
 returns-6 : tie.Need-returns-6
 returns-6 c = sym (then-passed _ (right-room _ _ (omega arith) (omega arith) (omega arith) (omega arith)) ∙ wrong-work _ _ _ _ (omega arith))
 
--- src/lib.rt:12:1
 returns-7 : tie.Need-returns-7
 returns-7 c = sym (then-passed _ (right-room _ _ (omega arith) (omega arith) (omega arith) (omega arith)) ∙ right-slices _ _ _ _ (omega arith) (omega arith))
 

@@ -6,12 +6,6 @@ use Rattle.labels.specs.Classes.{Classes}
 use borrow.Author.Needs.{needs}
 use Rattle.item_table.proofs.number_all.Statement.{statement}
 use Rattle.item_table.proofs.number_all.Tie as tie
-use Rattle.item_table.proofs.number_all.Reads as reads
-use Rattle.item_table.proofs.number_all.Lts as lts
-use Rattle.alike_nodes.proofs.number_actions.Reads as number-actions-reads
-use Rattle.alike_nodes.proofs.number_formula.Reads as number-formula-reads
-use Rattle.compiled.proofs.classes.Reads as classes-reads
-use Rattle.item_table.proofs.number_items.Reads as number-items-reads
 
 classes-requires : tie.Need-classes-requires
 classes-requires c κs = search needs

@@ -4,8 +4,6 @@ use mathlib.Core.Logic.{inl, inr}
 use borrow.Author.Needs.{needs}
 use Rattle.item_table.proofs.number_node.Statement.{statement}
 use Rattle.item_table.proofs.number_node.Tie as tie
-use Rattle.item_table.proofs.number_node.Reads as reads
-use Rattle.item_table.proofs.number_node.Lts as lts
 
 mul-old : tie.Need-mul-old
 mul-old c = search needs

@@ -3,8 +3,6 @@ use Rattle.item_table.proofs.Parts.{entry-put}
 use borrow.Author.Needs.{needs}
 use Rattle.item_table.proofs.put_entry.Statement.{statement}
 use Rattle.item_table.proofs.put_entry.Tie as tie
-use Rattle.item_table.proofs.put_entry.Reads as reads
-use Rattle.item_table.proofs.put_entry.Lts as lts
 
 add-compiled : tie.Need-add-compiled
 add-compiled c = search needs

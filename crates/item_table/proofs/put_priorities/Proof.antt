@@ -10,10 +10,6 @@ use Rattle.item_table.proofs.Parts.{priorities-length, once-part, twice
 use borrow.Author.Needs.{needs}
 use Rattle.item_table.proofs.put_priorities.Statement.{statement}
 use Rattle.item_table.proofs.put_priorities.Tie as tie
-use Rattle.item_table.proofs.put_priorities.Reads as reads
-use Rattle.item_table.proofs.put_priorities.Lts as lts
-use Rattle.modal_equation_system.proofs.list_priorities.Reads as list-priorities-reads
-use Rattle.words.proofs.clear.Reads as clear-reads
 
 sub-clear : tie.Need-sub-clear
 sub-clear c = search needs

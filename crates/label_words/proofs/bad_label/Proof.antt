@@ -4,49 +4,38 @@ use borrow.Author.Needs.{needs}
 use Rattle.label_words.proofs.bad_label.Statement.{statement}
 use Rattle.label_words.proofs.bad_label.Tie as tie
 
--- src/lib.rt:16:8
 shared-slice-read-if1 : tie.Need-shared-slice-read-if1
 shared-slice-read-if1 c = search needs
 
--- src/lib.rt:16:17
 mul-if1 : tie.Need-mul-if1
 mul-if1 c = search needs
 
--- src/lib.rt:16:17
 shared-slice-read-if1-2 : tie.Need-shared-slice-read-if1-2
 shared-slice-read-if1-2 c = search needs
 
--- src/lib.rt:17:9
 returns : tie.Need-returns
 unfolding badLabel
 returns c = simp (le-leb _ _ (c .if1 .taken))
 
--- src/lib.rt:19:16
 mul-result : tie.Need-mul-result
 mul-result c = search needs
 
--- src/lib.rt:19:16
 shared-slice-read-result : tie.Need-shared-slice-read-result
 shared-slice-read-result c = search needs
 
--- src/lib.rt:19:27
 sub-result : tie.Need-sub-result
 sub-result c = search needs
 
--- src/lib.rt:19:24
 mul-result-2 : tie.Need-mul-result-2
 mul-result-2 c = search needs
 
--- src/lib.rt:19:24
 shared-slice-read-result-2 : tie.Need-shared-slice-read-result-2
 shared-slice-read-result-2 c = search needs
 
--- src/lib.rt:12:1
 returns-2 : tie.Need-returns-2
 unfolding badLabel
 returns-2 c = simp (lt-leb _ _ (c .before .before .before .if1 .left), lt-ltb _ _ (c .before .before .if2 .taken))
 
--- src/lib.rt:12:1
 returns-3 : tie.Need-returns-3
 unfolding badLabel
 returns-3 c = simp (lt-leb _ _ (c .before .if1 .left), le-ltb _ _ (c .if2 .left))

@@ -6,43 +6,33 @@ use borrow.Author.Needs.{needs}
 use Rattle.label_words.proofs.check_labels.Statement.{statement}
 use Rattle.label_words.proofs.check_labels.Tie as tie
 
--- src/lib.rt:43:9
 returns : tie.Need-returns
 returns c = sym (first-fault _ (few-words _ (omega arith)))
 
--- src/lib.rt:45:9
 at-requires : tie.Need-at-requires
 at-requires c κs = search needs
 
--- src/lib.rt:46:28
 mul-if2 : tie.Need-mul-if2
 mul-if2 c = search needs
 
--- src/lib.rt:46:24
 add-if2 : tie.Need-add-if2
 add-if2 c = search needs
 
--- src/lib.rt:47:9
 returns-2 : tie.Need-returns-2
 returns-2 c = sym (first-fault _ (other-length _ (omega arith)))
 
--- src/lib.rt:49:16
 at-requires-2 : tie.Need-at-requires-2
 at-requires-2 c κs = search needs
 
--- src/lib.rt:50:9
 returns-3 : tie.Need-returns-3
 returns-3 c = sym (first-next _ (right-length _ (omega arith) (omega arith)) ∙ first-fault _ (many-labels _ (omega arith)))
 
--- src/lib.rt:53:9
 returns-4 : tie.Need-returns-4
 returns-4 c = sym (first-next _ (right-length _ (omega arith) (omega arith)) ∙ first-fault _ (many-actions _ (omega arith)))
 
--- src/lib.rt:55:5
 check-numbers-requires : tie.Need-check-numbers-requires
 check-numbers-requires c κs = search needs
 
--- src/lib.rt:39:1
 returns-5 : tie.Need-returns-5
 returns-5 c = c .check-numbers .ensures ∙ sym (first-next _ (right-length _ (omega arith) (omega arith)) ∙ first-next _ (few-enough _ (omega arith) (omega arith)) ∙ first-one _)
 

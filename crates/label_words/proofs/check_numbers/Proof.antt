@@ -14,44 +14,34 @@ Inv-loop ls end p₀ p = (2 ≤ p) × (p ≤ 2 + actionCount ls) × (refusal13 l
 abbrev μ-loop : tie.MeasureT-loop
 μ-loop ls end p₀ p = end - p
 
--- src/lib.rt:27:19
 at-requires : tie.Need-at-requires Inv-loop μ-loop
 at-requires c κs = search needs
 
--- src/lib.rt:27:15
 add-end : tie.Need-add-end Inv-loop μ-loop
 add-end c = search needs
 
--- src/lib.rt:29:5
 loop-holds : tie.Need-loop-holds Inv-loop μ-loop
 unfolding refusal13
 loop-holds c = (omega arith, omega arith, refl)
 
--- src/lib.rt:30:12
 bad-label-requires : tie.Need-bad-label-requires Inv-loop μ-loop
 bad-label-requires c κs = search needs
 
--- src/lib.rt:31:37
 cast-t7 : tie.Need-cast-t7 Inv-loop μ-loop
 cast-t7 c = search needs
 
--- src/lib.rt:31:13
 returns : tie.Need-returns Inv-loop μ-loop
 returns c = sym (c .before .before .before .loop .inv .2 ∙ from-stop _ _ _ _ (omega arith) (cc))
 
--- src/lib.rt:33:9
 add-p : tie.Need-add-p Inv-loop μ-loop
 add-p c = search needs
 
--- src/lib.rt:29:5
 loop-less : tie.Need-loop-less Inv-loop μ-loop
 loop-less c = search needs
 
--- src/lib.rt:29:5
 loop-again : tie.Need-loop-again Inv-loop μ-loop
 loop-again c = (omega arith, omega arith, c .before .before .before .loop .inv .2 ∙ from-next _ _ _ _ (cc))
 
--- src/lib.rt:23:1
 returns-2 : tie.Need-returns-2 Inv-loop μ-loop
 returns-2 c = sym (c .before .loop .inv .2 ∙ from-done _ _ _ _ (omega arith))
 

@@ -4,10 +4,6 @@ use Rattle.labels.proofs.Tables.{mark-alone}
 use borrow.Author.Needs.{needs}
 use Rattle.labels.proofs.class_of.Statement.{statement}
 use Rattle.labels.proofs.class_of.Tie as tie
-use Rattle.labels.proofs.class_of.Reads as reads
-use Rattle.labels.proofs.class_of.Lts as lts
-use Rattle.labels.proofs.lowest_same.Reads as lowest-same-reads
-use Rattle.labels.proofs.times_marked.Reads as times-marked-reads
 
 mul-mark : tie.Need-mul-mark
 mul-mark c = search needs
@@ -18,13 +14,13 @@ shared-slice-read-mark c = search needs
 times-marked-requires : tie.Need-times-marked-requires
 times-marked-requires c κs =
     let start = c .before .before .before in
-    (omega (arith, start .pre .1 .0 .1), omega (arith, start .pre .1 .0 .0, start .pre .0 .few))
+    (omega (arith, start .pre .2), omega (arith, start .pre .1, start .pre .0 .few))
 
 returns : tie.Need-returns
 returns c =
     let start = c .before .before .before .before .before in
     let x = start .args in
-    mark-alone (x .labels .now) (x .starts .now) (x .marks .now) (x .label) _ (start .pre .1 .1)
+    mark-alone (x .labels .now) (x .starts .now) (x .marks .now) (x .label) _ (start .pre .3)
     (c .before .times-marked .ensures) (c .if1 .taken)
 
 lowest-same-requires : tie.Need-lowest-same-requires

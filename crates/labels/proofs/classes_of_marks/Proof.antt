@@ -12,9 +12,6 @@ use Rattle.labels.proofs.Tables.{entry-more}
 use borrow.Author.Needs.{needs}
 use Rattle.labels.proofs.classes_of_marks.Statement.{statement}
 use Rattle.labels.proofs.classes_of_marks.Tie as tie
-use Rattle.labels.proofs.classes_of_marks.Reads as reads
-use Rattle.labels.proofs.classes_of_marks.Lts as lts
-use Rattle.labels.proofs.class_of.Reads as class-of-reads
 
 abbrev Inv-loop : tie.InvT-loop
 Inv-loop labels starts classes₀ left₀ classes left =
@@ -39,7 +36,7 @@ class-of-requires c κs =
     let start = c .before .before .before .before .before .before in
     let l = c .before .before .loop in
     let u = c .before .loop-test .taken in
-    (start .pre .0, ((omega arith, omega (arith, u, l .inv .0, l .inv .1, start .pre .1 .0)), λ z h. l .inv .2 z (omega arith)))
+    (start .pre .0, omega arith, omega (arith, u, l .inv .0, l .inv .1, start .pre .1 .0), λ z h. l .inv .2 z (omega arith))
 
 cast-at : tie.Need-cast-at Inv-loop μ-loop
 cast-at c = search needs

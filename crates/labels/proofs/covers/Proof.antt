@@ -8,10 +8,6 @@ use Rattle.labels.proofs.Stretched.{covered-none, covered-more, covered
 use borrow.Author.Needs.{needs}
 use Rattle.labels.proofs.covers.Statement.{statement}
 use Rattle.labels.proofs.covers.Tie as tie
-use Rattle.labels.proofs.covers.Reads as reads
-use Rattle.labels.proofs.covers.Lts as lts
-use Rattle.labels.proofs.action_at.Reads as action-at-reads
-use Rattle.labels.proofs.times_in.Reads as times-in-reads
 
 abbrev Inv-loop : tie.InvT-loop
 Inv-loop labels own other i₀ i =

@@ -9,10 +9,6 @@ use Rattle.rules.specs.Labels.{sameLabel}
 use Rattle.labels.proofs.Tables.{lowest-found, lowest-itself}
 use Rattle.labels.proofs.lowest_same.Statement.{statement}
 use Rattle.labels.proofs.lowest_same.Tie as tie
-use Rattle.labels.proofs.lowest_same.Reads as reads
-use Rattle.labels.proofs.lowest_same.Lts as lts
-use Rattle.labels.proofs.same_as.Reads as same-as-reads
-use Rattle.labels.proofs.stretch_end.Reads as stretch-end-reads
 
 abbrev Inv-loop : tie.InvT-loop
 Inv-loop labels starts marks label at mark from to places lower₀ lower =
@@ -33,18 +29,18 @@ mul-from c = search needs
 element-copy-out-from : tie.Need-element-copy-out-from Inv-loop μ-loop
 element-copy-out-from c =
     let start = c .before .before .before in
-    omega (arith, start .pre .0 .few, start .pre .1 .0 .0)
+    omega (arith, start .pre .0 .few, start .pre .1)
 
 cast-from : tie.Need-cast-from Inv-loop μ-loop
 cast-from c =
     let start′ = c .before .before .before .before in
-    let start = start′ .pre .1 .1 (start′ .args .label) (omega arith) .stretch .starts .within in
+    let start = start′ .pre .3 (start′ .args .label) (omega arith) .stretch .starts .within in
     record { fits = omega (arith, start, start′ .pre .0 .small) }
 
 stretch-end-requires : tie.Need-stretch-end-requires Inv-loop μ-loop
 stretch-end-requires c κs =
     let start = c .before .before .before .before in
-    (start .pre .0, start .pre .1 .1 (start .args .label) (omega arith) .stretch .starts)
+    (start .pre .0, start .pre .3 (start .args .label) (omega arith) .stretch .starts)
 
 loop-holds : tie.Need-loop-holds Inv-loop μ-loop
 loop-holds c = (omega arith, λ z h. absurd (omega arith))
@@ -56,13 +52,13 @@ same-as-requires c κs =
     let u = c .loop-test .taken in (
       (
         start .pre .0,
-        omega (arith, u, start .pre .0 .few, start .pre .1 .0 .0),
+        omega (arith, u, start .pre .0 .few, start .pre .1),
         omega
-            (arith, u, start .pre .1 .0 .1),
+            (arith, u, start .pre .2),
       ),
       (
-        start .pre .1 .1 k (omega arith),
-        (c .before .before .stretch-end .ensures, start .pre .1 .1 (start .args .label) (omega arith)),
+        start .pre .3 k (omega arith),
+        (c .before .before .stretch-end .ensures, start .pre .3 (start .args .label) (omega arith)),
       ),
     )
 

@@ -12,10 +12,6 @@ use Rattle.labels.proofs.Marks.{marked-more}
 use borrow.Author.Needs.{needs}
 use Rattle.labels.proofs.mark_labels.Statement.{statement}
 use Rattle.labels.proofs.mark_labels.Tie as tie
-use Rattle.labels.proofs.mark_labels.Reads as reads
-use Rattle.labels.proofs.mark_labels.Lts as lts
-use Rattle.labels.proofs.mark_of.Reads as mark-of-reads
-use Rattle.labels.proofs.stretch_end.Reads as stretch-end-reads
 
 abbrev Inv-loop : tie.InvT-loop
 Inv-loop labels starts₀ marks₀ count label₀ from₀ starts marks label from =

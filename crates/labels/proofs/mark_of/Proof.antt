@@ -7,10 +7,6 @@ use Rattle.labels.proofs.Marks.{weights-none, weights-more, weight-belo
 use borrow.Author.Needs.{needs}
 use Rattle.labels.proofs.mark_of.Statement.{statement}
 use Rattle.labels.proofs.mark_of.Tie as tie
-use Rattle.labels.proofs.mark_of.Reads as reads
-use Rattle.labels.proofs.mark_of.Lts as lts
-use Rattle.labels.proofs.action_at.Reads as action-at-reads
-use Rattle.labels.proofs.weight_of.Reads as weight-of-reads
 
 abbrev Inv-loop : tie.InvT-loop
 Inv-loop labels from to sum₀ i₀ sum i = (from ≤ i) × (i ≤ to) × (sum ≡ weightIn labels from i) ×

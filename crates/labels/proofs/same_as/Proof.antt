@@ -4,10 +4,6 @@ use Rattle.labels.proofs.Marks.{other-multiset}
 use borrow.Author.Needs.{needs}
 use Rattle.labels.proofs.same_as.Statement.{statement}
 use Rattle.labels.proofs.same_as.Tie as tie
-use Rattle.labels.proofs.same_as.Reads as reads
-use Rattle.labels.proofs.same_as.Lts as lts
-use Rattle.labels.proofs.same_label.Reads as same-label-reads
-use Rattle.labels.proofs.stretch_end.Reads as stretch-end-reads
 
 mul-if1 : tie.Need-mul-if1
 mul-if1 c = search needs

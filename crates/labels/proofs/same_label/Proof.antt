@@ -3,9 +3,6 @@ use Rattle.labels.proofs.Stretched.{sizes-differ, sizes-agree}
 use borrow.Author.Needs.{needs}
 use Rattle.labels.proofs.same_label.Statement.{statement}
 use Rattle.labels.proofs.same_label.Tie as tie
-use Rattle.labels.proofs.same_label.Reads as reads
-use Rattle.labels.proofs.same_label.Lts as lts
-use Rattle.labels.proofs.covers.Reads as covers-reads
 
 sub-if1 : tie.Need-sub-if1
 sub-if1 c = search needs

@@ -7,9 +7,6 @@ use Rattle.rules.specs.Labels.{labelAt, actionCount}
 use borrow.Author.Needs.{needs}
 use Rattle.labels.proofs.stretch_end.Statement.{statement}
 use Rattle.labels.proofs.stretch_end.Tie as tie
-use Rattle.labels.proofs.stretch_end.Reads as reads
-use Rattle.labels.proofs.stretch_end.Lts as lts
-use Rattle.labels.proofs.label_at.Reads as label-at-reads
 
 abbrev Inv-loop : tie.InvT-loop
 Inv-loop labels from label count i₀ i =

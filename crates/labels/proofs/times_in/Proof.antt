@@ -8,9 +8,6 @@ use Rattle.labels.proofs.Stretched.{times-none, times-hit, times-miss}
 use borrow.Author.Needs.{needs}
 use Rattle.labels.proofs.times_in.Statement.{statement}
 use Rattle.labels.proofs.times_in.Tie as tie
-use Rattle.labels.proofs.times_in.Reads as reads
-use Rattle.labels.proofs.times_in.Lts as lts
-use Rattle.labels.proofs.action_at.Reads as action-at-reads
 
 abbrev Inv-loop : tie.InvT-loop
 Inv-loop labels from to action times₀ i₀ times i =

@@ -9,8 +9,6 @@ use Rattle.labels.proofs.Marks.{marked-none, marked-hit, marked-miss}
 use borrow.Author.Needs.{needs}
 use Rattle.labels.proofs.times_marked.Statement.{statement}
 use Rattle.labels.proofs.times_marked.Tie as tie
-use Rattle.labels.proofs.times_marked.Reads as reads
-use Rattle.labels.proofs.times_marked.Lts as lts
 
 abbrev Inv-loop : tie.InvT-loop
 Inv-loop marks count mark times₀ i₀ times i =

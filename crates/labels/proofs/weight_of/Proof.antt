@@ -5,8 +5,6 @@ use Rattle.labels.proofs.Marks.{square-fits}
 use borrow.Author.Needs.{needs}
 use Rattle.labels.proofs.weight_of.Statement.{statement}
 use Rattle.labels.proofs.weight_of.Tie as tie
-use Rattle.labels.proofs.weight_of.Reads as reads
-use Rattle.labels.proofs.weight_of.Lts as lts
 
 mul-stirred : tie.Need-mul-stirred
 mul-stirred c = search needs

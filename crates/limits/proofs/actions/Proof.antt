@@ -4,10 +4,6 @@ use Rattle.limits.proofs.Prefix.{inside, front}
 use borrow.Author.Needs.{needs}
 use Rattle.limits.proofs.actions.Statement.{statement}
 use Rattle.limits.proofs.actions.Tie as tie
-use Rattle.limits.proofs.actions.Reads as reads
-use Rattle.limits.proofs.actions.Lts as lts
-use Rattle.limits.proofs.attempt.Reads as attempt-reads
-use Rattle.limits.proofs.label_room.Reads as label-room-reads
 
 label-room-requires : tie.Need-label-room-requires
 label-room-requires c κs = search needs

@@ -4,62 +4,46 @@ use Rattle.limits.proofs.Prefix.{inside, front}
 use borrow.Author.Needs.{needs}
 use Rattle.limits.proofs.row.Statement.{statement}
 use Rattle.limits.proofs.row.Tie as tie
-use Rattle.limits.proofs.row.Reads as reads
-use Rattle.limits.proofs.row.Lts as lts
-use Rattle.limits.proofs.attempt.Reads as attempt-reads
-use Rattle.limits.proofs.table.Reads as table-reads
 
--- src/main.rt:102:23
 table-requires : tie.Need-table-requires
 table-requires c κs = search needs
 
--- src/main.rt:103:18
 cast-actions : tie.Need-cast-actions
 cast-actions c = search needs
 
--- src/main.rt:103:5
 array-write-actions : tie.Need-array-write-actions
 array-write-actions c = search needs
 
--- src/main.rt:104:19
 mul-end : tie.Need-mul-end
 mul-end c = search needs
 
--- src/main.rt:104:15
 add-end : tie.Need-add-end
 add-end c = search needs
 
--- src/main.rt:105:13
 slice-aggregate-attempt : tie.Need-slice-aggregate-attempt
 slice-aggregate-attempt c = search needs
 
--- src/main.rt:105:28
 slice-aggregate-attempt-2 : tie.Need-slice-aggregate-attempt-2
 slice-aggregate-attempt-2 c = search needs
 
--- src/main.rt:105:43
 array-share-prefix-actions : tie.Need-array-share-prefix-actions
 array-share-prefix-actions c =
     let s = c .before .before .before in
     let room = c .before .before .table in
     inside (room .result) ((0, s .args .count) ∷ []) 2051 _ (room .ensures) (omega arith)
 
--- src/main.rt:105:43
 slice-aggregate-attempt-3 : tie.Need-slice-aggregate-attempt-3
 slice-aggregate-attempt-3 c =
     let s = c .before .before .before .before in
     let room = c .before .before .before .table in
     front (room .result) ((0, s .args .count) ∷ []) 2051 _ (room .ensures) (omega arith)
 
--- src/main.rt:105:60
 slice-aggregate-attempt-4 : tie.Need-slice-aggregate-attempt-4
 slice-aggregate-attempt-4 c = search needs
 
--- src/main.rt:105:5
 attempt-requires : tie.Need-attempt-requires
 attempt-requires c κs = search needs
 
--- src/main.rt:99:1
 returns : tie.Need-returns
 returns c = search needs
 

@@ -4,10 +4,6 @@ use Rattle.limits.proofs.Prefix.{inside, front}
 use borrow.Author.Needs.{needs}
 use Rattle.limits.proofs.states.Statement.{statement}
 use Rattle.limits.proofs.states.Tie as tie
-use Rattle.limits.proofs.states.Reads as reads
-use Rattle.limits.proofs.states.Lts as lts
-use Rattle.limits.proofs.attempt.Reads as attempt-reads
-use Rattle.limits.proofs.blank.Reads as blank-reads
 
 blank-requires : tie.Need-blank-requires
 blank-requires c κs = search needs

@@ -4,10 +4,6 @@ use Rattle.limits.proofs.Prefix.{inside, front}
 use borrow.Author.Needs.{needs}
 use Rattle.limits.proofs.transitions.Statement.{statement}
 use Rattle.limits.proofs.transitions.Tie as tie
-use Rattle.limits.proofs.transitions.Reads as reads
-use Rattle.limits.proofs.transitions.Lts as lts
-use Rattle.limits.proofs.attempt.Reads as attempt-reads
-use Rattle.limits.proofs.system_room.Reads as system-room-reads
 
 system-room-requires : tie.Need-system-room-requires
 system-room-requires c κs = search needs

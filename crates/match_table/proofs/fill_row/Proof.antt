@@ -8,10 +8,6 @@ use Rattle.match_table.proofs.Filled.{told-true, told-false, class-matc
 use borrow.Author.Needs.{needs}
 use Rattle.match_table.proofs.fill_row.Statement.{statement}
 use Rattle.match_table.proofs.fill_row.Tie as tie
-use Rattle.match_table.proofs.fill_row.Reads as reads
-use Rattle.match_table.proofs.fill_row.Lts as lts
-use Rattle.matching.proofs.match_action_formula.Reads as match-action-formula-reads
-use Rattle.words.proofs.at.Reads as at-reads
 
 abbrev Inv-loop : tie.InvT-loop
 Inv-loop labels actions classes node count start matched₀ label₀ matched label =

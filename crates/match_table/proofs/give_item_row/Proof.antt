@@ -7,10 +7,6 @@ use Rattle.match_table.specs.Rows.{GoodTables}
 use borrow.Author.Needs.{needs}
 use Rattle.match_table.proofs.give_item_row.Statement.{statement}
 use Rattle.match_table.proofs.give_item_row.Tie as tie
-use Rattle.match_table.proofs.give_item_row.Reads as reads
-use Rattle.match_table.proofs.give_item_row.Lts as lts
-use Rattle.match_table.proofs.give_row.Reads as give-row-reads
-use Rattle.words.proofs.at.Reads as at-reads
 
 kind-of-requires : tie.Need-kind-of-requires
 kind-of-requires c κs = search needs

@@ -4,10 +4,6 @@ use Rattle.match_table.proofs.Filled.{rows-small, rows-given}
 use borrow.Author.Needs.{needs}
 use Rattle.match_table.proofs.give_row.Statement.{statement}
 use Rattle.match_table.proofs.give_row.Tie as tie
-use Rattle.match_table.proofs.give_row.Reads as reads
-use Rattle.match_table.proofs.give_row.Lts as lts
-use Rattle.match_table.proofs.fill_row.Reads as fill-row-reads
-use Rattle.words.proofs.at.Reads as at-reads
 
 element-copy-out-if1 : tie.Need-element-copy-out-if1
 element-copy-out-if1 c = search needs

@@ -6,9 +6,6 @@ use Rattle.match_table.proofs.Filled.{rows-none}
 use borrow.Author.Needs.{needs}
 use Rattle.match_table.proofs.make_match_table.Statement.{statement}
 use Rattle.match_table.proofs.make_match_table.Tie as tie
-use Rattle.match_table.proofs.make_match_table.Reads as reads
-use Rattle.match_table.proofs.make_match_table.Lts as lts
-use Rattle.match_table.proofs.give_item_row.Reads as give-item-row-reads
 
 abbrev Inv-loop : tie.InvT-loop
 Inv-loop labels actions compiled items matched₀ rows₀ item₀ matched rows item = (item ≤ items) × FirstRows labels

@@ -5,10 +5,6 @@ use Rattle.match_table.proofs.Filled.{part-forward, part-within, part-r
 use borrow.Author.Needs.{needs}
 use Rattle.match_table.proofs.row.Statement.{statement}
 use Rattle.match_table.proofs.row.Tie as tie
-use Rattle.match_table.proofs.row.Reads as reads
-use Rattle.match_table.proofs.row.Lts as lts
-use Rattle.match_table.proofs.row_of.Reads as row-of-reads
-use Rattle.words.proofs.at.Reads as at-reads
 
 row-of-requires : tie.Need-row-of-requires
 row-of-requires c κs = search needs

@@ -4,10 +4,6 @@ use Rattle.match_table.proofs.Filled.{row-told, row-within}
 use borrow.Author.Needs.{needs}
 use Rattle.match_table.proofs.row_of.Statement.{statement}
 use Rattle.match_table.proofs.row_of.Tie as tie
-use Rattle.match_table.proofs.row_of.Reads as reads
-use Rattle.match_table.proofs.row_of.Lts as lts
-use Rattle.match_table.proofs.wide.Reads as wide-reads
-use Rattle.words.proofs.at.Reads as at-reads
 
 element-copy-out-wide : tie.Need-element-copy-out-wide
 element-copy-out-wide c = search needs

@@ -1,10 +1,9 @@
 -- `match_action_formula` meets its contract. The measure is the number of nodes less the node; each answer is the law
 -- of the kind of the node. Assumes nothing.
-use Prim.Native.Nat.{_+_, _-_, _≤_}
+use Prim.Native.Nat.{ℕ, _-_, _≤_, _<_}
 use native.Mathlib.Omega.{arith}
 use Rattle.rules.specs.Table.{size}
-use Rattle.matching.proofs.Nodes.{next-within, right-within, label-within, at-true, at-false, at-label, union-by-left, union-by-right, intersection-by-left, intersection-by-right, at-negation}
-use Prim.Native.Nat.{ℕ, _<_}
+use Rattle.matching.proofs.Nodes.{next-asked, right-asked, label-within, at-true, at-false, at-label, union-by-left, union-by-right, intersection-by-left, intersection-by-right, at-negation}
 use borrow.Fn.Kinds.{In}
 use borrow.Fn.PlainCycle.{Measures, is, falls, and}
 use Rattle.matching.proofs.match_action_formula.Reads as match-action-formula
@@ -35,7 +34,9 @@ match-action-formula-below t =
     (falls 2 match-action-formula-kinds.ps _<_ μ-match-action-formula t)
     match-action-formula.Pre
 
-match-action-formula-kind-at-requires : (t : ℕ) → match-action-formula-lts.Need-kind-at-requires (
+-- what each call asks and teaches
+abbrev claims : ℕ → match-action-formula-lts.Claims
+claims t = (
   kind-at-reads.Asked,
   kind-at-reads.Learnt,
   operand-at-reads.Asked,
@@ -44,37 +45,21 @@ match-action-formula-kind-at-requires : (t : ℕ) → match-action-formula-lts.N
   at-reads.Learnt,
   match-action-formula-below t,
   match-action-formula.Post,
-) (match-action-formula-at t) match-action-formula.Post
+)
+
+match-action-formula-kind-at-requires : (t : ℕ) → match-action-formula-lts.Need-kind-at-requires (claims t) (match-action-formula-at t) match-action-formula.Post
 match-action-formula-kind-at-requires t c κs =
     let start = c .before .before in
     omega (arith, start .pre .1 .0 .sized, start .pre .1 .1)
 
-match-action-formula-returns : (t : ℕ) → match-action-formula-lts.Need-returns (
-  kind-at-reads.Asked,
-  kind-at-reads.Learnt,
-  operand-at-reads.Asked,
-  operand-at-reads.Learnt,
-  at-reads.Asked,
-  at-reads.Learnt,
-  match-action-formula-below t,
-  match-action-formula.Post,
-) (match-action-formula-at t) match-action-formula.Post
+match-action-formula-returns : (t : ℕ) → match-action-formula-lts.Need-returns (claims t) (match-action-formula-at t) match-action-formula.Post
 match-action-formula-returns t c =
     let start = c .before .before .before .before in
     let p = start .pre .1 in
     λ labels table good. at-true labels (start .args .actions .now) good (start .args .node) (p .1) _
     (c .before .kind-at .ensures) (start .args .multiset) (c .if1 .taken)
 
-match-action-formula-returns-2 : (t : ℕ) → match-action-formula-lts.Need-returns-2 (
-  kind-at-reads.Asked,
-  kind-at-reads.Learnt,
-  operand-at-reads.Asked,
-  operand-at-reads.Learnt,
-  at-reads.Asked,
-  at-reads.Learnt,
-  match-action-formula-below t,
-  match-action-formula.Post,
-) (match-action-formula-at t) match-action-formula.Post
+match-action-formula-returns-2 : (t : ℕ) → match-action-formula-lts.Need-returns-2 (claims t) (match-action-formula-at t) match-action-formula.Post
 match-action-formula-returns-2 t c =
     let start = c .before .before .before .before .before in
     let p = start .pre .1 in
@@ -82,30 +67,12 @@ match-action-formula-returns-2 t c =
     (c .before .before .kind-at .ensures) (start .args .multiset) (c .if2 .taken)
 
 match-action-formula-operand-at-requires :
-    (t : ℕ) → match-action-formula-lts.Need-operand-at-requires (
-      kind-at-reads.Asked,
-      kind-at-reads.Learnt,
-      operand-at-reads.Asked,
-      operand-at-reads.Learnt,
-      at-reads.Asked,
-      at-reads.Learnt,
-      match-action-formula-below t,
-      match-action-formula.Post,
-    ) (match-action-formula-at t) match-action-formula.Post
+    (t : ℕ) → match-action-formula-lts.Need-operand-at-requires (claims t) (match-action-formula-at t) match-action-formula.Post
 match-action-formula-operand-at-requires t c κs =
     let start = c .before .before .before .before .before in
     omega (arith, start .pre .1 .0 .sized, start .pre .1 .1)
 
-match-action-formula-at-requires : (t : ℕ) → match-action-formula-lts.Need-at-requires (
-  kind-at-reads.Asked,
-  kind-at-reads.Learnt,
-  operand-at-reads.Asked,
-  operand-at-reads.Learnt,
-  at-reads.Asked,
-  at-reads.Learnt,
-  match-action-formula-below t,
-  match-action-formula.Post,
-) (match-action-formula-at t) match-action-formula.Post
+match-action-formula-at-requires : (t : ℕ) → match-action-formula-lts.Need-at-requires (claims t) (match-action-formula-at t) match-action-formula.Post
 match-action-formula-at-requires t c κs =
     let at-kind-at = c .before .before .before .before in
     let start = at-kind-at .before .before .before in
@@ -114,16 +81,7 @@ match-action-formula-at-requires t c κs =
     (at-kind-at .kind-at .ensures) _ (c .before .operand-at .ensures)
     (c .if3 .taken)
 
-match-action-formula-returns-3 : (t : ℕ) → match-action-formula-lts.Need-returns-3 (
-  kind-at-reads.Asked,
-  kind-at-reads.Learnt,
-  operand-at-reads.Asked,
-  operand-at-reads.Learnt,
-  at-reads.Asked,
-  at-reads.Learnt,
-  match-action-formula-below t,
-  match-action-formula.Post,
-) (match-action-formula-at t) match-action-formula.Post
+match-action-formula-returns-3 : (t : ℕ) → match-action-formula-lts.Need-returns-3 (claims t) (match-action-formula-at t) match-action-formula.Post
 match-action-formula-returns-3 t c =
     let at-kind-at = c .before .before .before .before .before in
     let start = at-kind-at .before .before .before in
@@ -133,31 +91,13 @@ match-action-formula-returns-3 t c =
     (c .before .before .operand-at .ensures) (c .at .ensures .0) (c .before .if3 .taken)
 
 match-action-formula-add-match-action-formula :
-    (t : ℕ) → match-action-formula-lts.Need-add-match-action-formula (
-      kind-at-reads.Asked,
-      kind-at-reads.Learnt,
-      operand-at-reads.Asked,
-      operand-at-reads.Learnt,
-      at-reads.Asked,
-      at-reads.Learnt,
-      match-action-formula-below t,
-      match-action-formula.Post,
-    ) (match-action-formula-at t) match-action-formula.Post
+    (t : ℕ) → match-action-formula-lts.Need-add-match-action-formula (claims t) (match-action-formula-at t) match-action-formula.Post
 match-action-formula-add-match-action-formula t c =
     let start = c .before .before .before .before .before .before .before in
     omega (arith, start .pre .1 .0 .few, start .pre .1 .1)
 
 match-action-formula-match-action-formula-requires :
-    (t : ℕ) → match-action-formula-lts.Need-match-action-formula-requires (
-      kind-at-reads.Asked,
-      kind-at-reads.Learnt,
-      operand-at-reads.Asked,
-      operand-at-reads.Learnt,
-      at-reads.Asked,
-      at-reads.Learnt,
-      match-action-formula-below t,
-      match-action-formula.Post,
-    ) (match-action-formula-at t) match-action-formula.Post
+    (t : ℕ) → match-action-formula-lts.Need-match-action-formula-requires (claims t) (match-action-formula-at t) match-action-formula.Post
 match-action-formula-match-action-formula-requires t c κs =
     let at-kind-at = c .before .before .before .before in
     let start = at-kind-at .before .before .before in
@@ -168,41 +108,20 @@ match-action-formula-match-action-formula-requires t c κs =
       c .before .before .if2 .left,
       c .if3 .left,
     ) in
-    let next = next-within _ (start .args .actions .now) (p .0) (start .args .node) (p .1)
-    _ (at-kind-at .kind-at .ensures) big in
-    (omega (arith, next, start .pre .0), (p .0, next))
+    next-asked _ (start .args .actions .now) (p .0) (start .args .node) (p .1) _ (at-kind-at .kind-at .ensures) big t (start .pre .0)
 
 match-action-formula-match-action-formula-requires-2 :
-    (t : ℕ) → match-action-formula-lts.Need-match-action-formula-requires-2 (
-      kind-at-reads.Asked,
-      kind-at-reads.Learnt,
-      operand-at-reads.Asked,
-      operand-at-reads.Learnt,
-      at-reads.Asked,
-      at-reads.Learnt,
-      match-action-formula-below t,
-      match-action-formula.Post,
-    ) (match-action-formula-at t) match-action-formula.Post
+    (t : ℕ) → match-action-formula-lts.Need-match-action-formula-requires-2 (claims t) (match-action-formula-at t) match-action-formula.Post
 match-action-formula-match-action-formula-requires-2 t c κs =
     let at-if4 = c .before in
     let at-kind-at = at-if4 .before .before .before .before .before .before in
     let start = at-kind-at .before .before .before in
     let p = start .pre .1 in
-    let r = right-within _ (start .args .actions .now) (p .0) (start .args .node) (p .1) _
-    (at-kind-at .kind-at .ensures) _ (at-if4 .before .before .before .operand-at .ensures)
-    (omega (arith, at-if4 .if4 .taken)) (omega (arith, at-if4 .if4 .taken)) in
-    (omega (arith, r, start .pre .0), (p .0, r .1))
+    right-asked _ (start .args .actions .now) (p .0) (start .args .node) (p .1) _ (at-kind-at .kind-at .ensures) _
+    (at-if4 .before .before .before .operand-at .ensures) (omega (arith, at-if4 .if4 .taken))
+    (omega (arith, at-if4 .if4 .taken)) t (start .pre .0)
 
-match-action-formula-returns-4 : (t : ℕ) → match-action-formula-lts.Need-returns-4 (
-  kind-at-reads.Asked,
-  kind-at-reads.Learnt,
-  operand-at-reads.Asked,
-  operand-at-reads.Learnt,
-  at-reads.Asked,
-  at-reads.Learnt,
-  match-action-formula-below t,
-  match-action-formula.Post,
-) (match-action-formula-at t) match-action-formula.Post
+match-action-formula-returns-4 : (t : ℕ) → match-action-formula-lts.Need-returns-4 (claims t) (match-action-formula-at t) match-action-formula.Post
 match-action-formula-returns-4 t c =
     let at-operand-at = c .before .before .before .before in
     let start = at-operand-at .before .before .before .before .before .before in
@@ -212,16 +131,7 @@ match-action-formula-returns-4 t c =
     (at-operand-at .operand-at .ensures) _ (c .before .before .match-action-formula .ensures labels table good)
     (c .before .if4 .taken) (c .if5 .taken)
 
-match-action-formula-returns-5 : (t : ℕ) → match-action-formula-lts.Need-returns-5 (
-  kind-at-reads.Asked,
-  kind-at-reads.Learnt,
-  operand-at-reads.Asked,
-  operand-at-reads.Learnt,
-  at-reads.Asked,
-  at-reads.Learnt,
-  match-action-formula-below t,
-  match-action-formula.Post,
-) (match-action-formula-at t) match-action-formula.Post
+match-action-formula-returns-5 : (t : ℕ) → match-action-formula-lts.Need-returns-5 (claims t) (match-action-formula-at t) match-action-formula.Post
 match-action-formula-returns-5 t c =
     let at-operand-at = c .before .before .before .before .before in
     let start = at-operand-at .before .before .before .before .before .before in
@@ -232,36 +142,17 @@ match-action-formula-returns-5 t c =
     (c .before .before .if4 .taken) (c .before .if5 .left) _ (c .match-action-formula2 .ensures labels table good)
 
 match-action-formula-match-action-formula-requires-3 :
-    (t : ℕ) → match-action-formula-lts.Need-match-action-formula-requires-3 (
-      kind-at-reads.Asked,
-      kind-at-reads.Learnt,
-      operand-at-reads.Asked,
-      operand-at-reads.Learnt,
-      at-reads.Asked,
-      at-reads.Learnt,
-      match-action-formula-below t,
-      match-action-formula.Post,
-    ) (match-action-formula-at t) match-action-formula.Post
+    (t : ℕ) → match-action-formula-lts.Need-match-action-formula-requires-3 (claims t) (match-action-formula-at t) match-action-formula.Post
 match-action-formula-match-action-formula-requires-3 t c κs =
     let at-if6 = c .before in
     let at-operand-at = at-if6 .before .before .before .before in
     let start = at-operand-at .before .before .before .before .before .before in
     let p = start .pre .1 in
-    let r = right-within _ (start .args .actions .now) (p .0) (start .args .node) (p .1) _
+    right-asked _ (start .args .actions .now) (p .0) (start .args .node) (p .1) _
     (at-operand-at .before .before .before .kind-at .ensures) _ (at-operand-at .operand-at .ensures)
-    (omega (arith, at-if6 .if6 .taken)) (omega (arith, at-if6 .if6 .taken)) in
-    (omega (arith, r, start .pre .0), (p .0, r .1))
+    (omega (arith, at-if6 .if6 .taken)) (omega (arith, at-if6 .if6 .taken)) t (start .pre .0)
 
-match-action-formula-returns-6 : (t : ℕ) → match-action-formula-lts.Need-returns-6 (
-  kind-at-reads.Asked,
-  kind-at-reads.Learnt,
-  operand-at-reads.Asked,
-  operand-at-reads.Learnt,
-  at-reads.Asked,
-  at-reads.Learnt,
-  match-action-formula-below t,
-  match-action-formula.Post,
-) (match-action-formula-at t) match-action-formula.Post
+match-action-formula-returns-6 : (t : ℕ) → match-action-formula-lts.Need-returns-6 (claims t) (match-action-formula-at t) match-action-formula.Post
 match-action-formula-returns-6 t c =
     let at-match-action-formula = c .before .before .before .before in
     let at-kind-at = at-match-action-formula .before .before .before .before .before in
@@ -273,16 +164,7 @@ match-action-formula-returns-6 t c =
     (at-match-action-formula .match-action-formula .ensures labels table good) (c .before .before .if6 .taken)
     (c .before .if7 .taken) _ (c .match-action-formula3 .ensures labels table good)
 
-match-action-formula-returns-7 : (t : ℕ) → match-action-formula-lts.Need-returns-7 (
-  kind-at-reads.Asked,
-  kind-at-reads.Learnt,
-  operand-at-reads.Asked,
-  operand-at-reads.Learnt,
-  at-reads.Asked,
-  at-reads.Learnt,
-  match-action-formula-below t,
-  match-action-formula.Post,
-) (match-action-formula-at t) match-action-formula.Post
+match-action-formula-returns-7 : (t : ℕ) → match-action-formula-lts.Need-returns-7 (claims t) (match-action-formula-at t) match-action-formula.Post
 match-action-formula-returns-7 t c =
     let at-operand-at = c .before .before .before .before .before in
     let start = at-operand-at .before .before .before .before .before .before in
@@ -292,16 +174,7 @@ match-action-formula-returns-7 t c =
     (at-operand-at .operand-at .ensures) _ (c .before .before .before .match-action-formula .ensures labels table good)
     (c .before .if6 .taken) (c .if7 .left)
 
-match-action-formula-returns-8 : (t : ℕ) → match-action-formula-lts.Need-returns-8 (
-  kind-at-reads.Asked,
-  kind-at-reads.Learnt,
-  operand-at-reads.Asked,
-  operand-at-reads.Learnt,
-  at-reads.Asked,
-  at-reads.Learnt,
-  match-action-formula-below t,
-  match-action-formula.Post,
-) (match-action-formula-at t) match-action-formula.Post
+match-action-formula-returns-8 : (t : ℕ) → match-action-formula-lts.Need-returns-8 (claims t) (match-action-formula-at t) match-action-formula.Post
 match-action-formula-returns-8 t c =
     let at-if2 = c .before .before .before .before .before in
     let at-kind-at = at-if2 .before .before in
@@ -318,16 +191,7 @@ match-action-formula-returns-8 t c =
     big (c .before .if4 .left) (c .if6 .left)
 
 pub +match-action-formula-spec : {M : Type 1} → statement M
-+match-action-formula-spec = close μ-match-action-formula λ t. match-action-formula-lts.spec (
-  kind-at-reads.Asked,
-  kind-at-reads.Learnt,
-  operand-at-reads.Asked,
-  operand-at-reads.Learnt,
-  at-reads.Asked,
-  at-reads.Learnt,
-  match-action-formula-below t,
-  match-action-formula.Post,
-)
++match-action-formula-spec = close μ-match-action-formula λ t. match-action-formula-lts.spec (claims t)
     (match-action-formula-at t)
     match-action-formula.Post
     (match-action-formula-kind-at-requires t)

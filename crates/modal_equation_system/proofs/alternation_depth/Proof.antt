@@ -3,15 +3,10 @@ use Rattle.rules.specs.Depth.{depth}
 use borrow.Author.Needs.{needs}
 use Rattle.modal_equation_system.proofs.alternation_depth.Statement.{statement}
 use Rattle.modal_equation_system.proofs.alternation_depth.Tie as tie
-use Rattle.modal_equation_system.proofs.alternation_depth.Reads as reads
-use Rattle.modal_equation_system.proofs.alternation_depth.Lts as lts
-use Rattle.modal_equation_system.proofs.read_equation.Reads as read-equation-reads
 
--- src/lib.rt:216:5
 read-equation-requires : tie.Need-read-equation-requires
 read-equation-requires c κs = search needs
 
--- src/lib.rt:211:1
 returns : tie.Need-returns
 unfolding depth
 returns c =

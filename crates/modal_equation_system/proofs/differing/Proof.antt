@@ -7,23 +7,16 @@ use borrow.Author.Tests.{eq-eqb, ne-eqb}
 use borrow.Author.Needs.{needs}
 use Rattle.modal_equation_system.proofs.differing.Statement.{statement}
 use Rattle.modal_equation_system.proofs.differing.Tie as tie
-use Rattle.modal_equation_system.proofs.differing.Reads as reads
-use Rattle.modal_equation_system.proofs.differing.Lts as lts
-use Rattle.modal_equation_system.proofs.operator_of.Reads as operator-of-reads
 
--- src/lib.rt:158:9
 operator-of-requires : tie.Need-operator-of-requires
 operator-of-requires c κs = search needs
 
--- src/lib.rt:159:9
 operator-of-requires-2 : tie.Need-operator-of-requires-2
 operator-of-requires-2 c κs = search needs
 
--- src/lib.rt:154:1
 returns : tie.Need-returns
 returns c = (sym (ap (λ (t : Bool). one (not t)) (eq-eqb _ _ (sym (c .before .before .operator-of .ensures) ∙ c .if1 .taken ∙ c .before .operator-of2 .ensures))), omega arith)
 
--- src/lib.rt:154:1
 returns-2 : tie.Need-returns-2
 returns-2 c = (sym (ap (λ (t : Bool). one (not t)) (ne-eqb _ _ (λ q. c .if1 .left (c .before .before .operator-of .ensures ∙ q ∙ sym (c .before .operator-of2 .ensures))))), omega arith)
 

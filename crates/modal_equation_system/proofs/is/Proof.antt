@@ -4,14 +4,10 @@ use Rattle.rules.specs.Lists.{one}
 use borrow.Author.Tests.{eq-eqb, ne-eqb}
 use Rattle.modal_equation_system.proofs.is.Statement.{statement}
 use Rattle.modal_equation_system.proofs.is.Tie as tie
-use Rattle.modal_equation_system.proofs.is.Reads as reads
-use Rattle.modal_equation_system.proofs.is.Lts as lts
 
--- src/lib.rt:67:1
 returns : tie.Need-returns
 returns c = sym (ap one (eq-eqb _ _ (c .if1 .taken)))
 
--- src/lib.rt:67:1
 returns-2 : tie.Need-returns-2
 returns-2 c = sym (ap one (ne-eqb _ _ (c .if1 .left)))
 

@@ -3,65 +3,48 @@ use Rattle.modal_equation_system.proofs.Listing.{node-few, number-few, 
 use borrow.Author.Needs.{needs}
 use Rattle.modal_equation_system.proofs.list_node.Statement.{statement}
 use Rattle.modal_equation_system.proofs.list_node.Tie as tie
-use Rattle.modal_equation_system.proofs.list_node.Reads as reads
-use Rattle.modal_equation_system.proofs.list_node.Lts as lts
-use Rattle.modal_equation_system.proofs.fixpoints_of.Reads as fixpoints-of-reads
-use Rattle.modal_equation_system.proofs.is.Reads as is-reads
-use Rattle.modal_equation_system.proofs.link_at.Reads as link-at-reads
-use Rattle.modal_equation_system.proofs.put_equation.Reads as put-equation-reads
-use Rattle.modal_equation_system.proofs.put_node.Reads as put-node-reads
 
--- src/lib.rt:151:9
 link-at-requires : tie.Need-link-at-requires
 link-at-requires c κs =
     let start = c .before in
     linkable (start .pre .formula) (start .args .node) _ _ _ _ (start .pre .node) (start .pre .listing)
 
--- src/lib.rt:152:33
 cast-put-node : tie.Need-cast-put-node
 cast-put-node c =
     let start = c .before .before .before in
     omega (arith, kind-few (start .pre .formula) (start .args .node) (start .args .kind) (start .args .operand) (start .args .number) _ (start .pre .node) (start .pre .listing))
 
--- src/lib.rt:152:5
 put-node-requires : tie.Need-put-node-requires
 put-node-requires c κs =
     let start = c .before .before .before in
     node-few (start .pre .formula) (start .args .node) (start .args .kind) (start .args .operand) (start .args .number) _ (start .pre .node) (start .pre .listing)
 
--- src/lib.rt:154:33
 cast-put-equation : tie.Need-cast-put-equation
 cast-put-equation c =
     let start = c .before .before .before .before .before in
     omega (arith, node-few (start .pre .formula) (start .args .node) (start .args .kind) (start .args .operand) (start .args .number) _ (start .pre .node) (start .pre .listing))
 
--- src/lib.rt:154:33
 add-put-equation : tie.Need-add-put-equation
 add-put-equation c =
     let start = c .before .before .before .before .before in
     omega (arith, node-few (start .pre .formula) (start .args .node) (start .args .kind) (start .args .operand) (start .args .number) _ (start .pre .node) (start .pre .listing))
 
--- src/lib.rt:154:50
 is-requires : tie.Need-is-requires
 is-requires c κs = search needs
 
--- src/lib.rt:154:5
 put-equation-requires : tie.Need-put-equation-requires
 put-equation-requires c κs =
     let start = c .before .before .before .before .before .before in
     omega (arith, number-few (start .pre .formula) (start .args .node) (start .args .kind) (start .args .operand) (start .args .number) _ (start .pre .node) (start .pre .listing))
 
--- src/lib.rt:155:14
 fixpoints-of-requires : tie.Need-fixpoints-of-requires
 fixpoints-of-requires c κs = search needs
 
--- src/lib.rt:155:5
 add-result : tie.Need-add-result
 add-result c =
     let start = c .before .before .before .before .before .before .before .before in
     omega (arith, counts-few _ _ (c .fixpoints-of .ensures), number-few (start .pre .formula) (start .args .node) (start .args .kind) (start .args .operand) (start .args .number) _ (start .pre .node) (start .pre .listing))
 
--- src/lib.rt:147:1
 returns : tie.Need-returns
 returns c =
     let at-is = c .before .before in

@@ -10,9 +10,6 @@ use Rattle.modal_equation_system.proofs.Ranking.{ranked-first, ranked-n
 use borrow.Author.Needs.{needs}
 use Rattle.modal_equation_system.proofs.list_priorities.Statement.{statement}
 use Rattle.modal_equation_system.proofs.list_priorities.Tie as tie
-use Rattle.modal_equation_system.proofs.list_priorities.Reads as reads
-use Rattle.modal_equation_system.proofs.list_priorities.Lts as lts
-use Rattle.modal_equation_system.proofs.priority_of.Reads as priority-of-reads
 
 abbrev Inv-loop : tie.InvT-loop
 Inv-loop formula table count priorities₀ i₀ priorities i = (i ≤ count) × (length priorities ≡ length priorities₀) × RankedBy byDepth formula i priorities₀ priorities
@@ -20,35 +17,28 @@ Inv-loop formula table count priorities₀ i₀ priorities i = (i ≤ count) × 
 abbrev μ-loop : tie.MeasureT-loop
 μ-loop formula table count priorities₀ i₀ priorities i = count - i
 
--- src/lib.rt:214:5
 loop-holds : tie.Need-loop-holds Inv-loop μ-loop
 loop-holds c =
     let start = c .before .before in
     (omega arith, refl, ranked-first byDepth (start .args .formula .now) (start .args .priorities .now))
 
--- src/lib.rt:215:13
 priority-of-requires : tie.Need-priority-of-requires Inv-loop μ-loop
 priority-of-requires c κs =
     let start = c .before .before .before .before in
     (start .pre .0, omega (arith, start .pre .1 .0, c .loop-test .taken))
 
--- src/lib.rt:216:9
 mul-priorities : tie.Need-mul-priorities Inv-loop μ-loop
 mul-priorities c = search needs
 
--- src/lib.rt:216:9
 slice-write-priorities : tie.Need-slice-write-priorities Inv-loop μ-loop
 slice-write-priorities c = search needs
 
--- src/lib.rt:217:9
 add-i : tie.Need-add-i Inv-loop μ-loop
 add-i c = search needs
 
--- src/lib.rt:214:5
 loop-less : tie.Need-loop-less Inv-loop μ-loop
 loop-less c = search needs
 
--- src/lib.rt:214:5
 loop-again : tie.Need-loop-again Inv-loop μ-loop
 loop-again c =
     let start = c .before .before .before .before .before in
@@ -56,11 +46,9 @@ loop-again c =
     let next = ranked-next byDepth (start .args .formula .now) (l .i) (start .args .priorities .now) (l .priorities) (c .priority-of .result .0) (omega (arith, l .inv .1, start .pre .1)) (c .priority-of .ensures) (l .inv .2) in
     (omega arith, next .sized, next)
 
--- src/lib.rt:201:1
 same-length : tie.Need-same-length Inv-loop μ-loop
 same-length c = search needs
 
--- src/lib.rt:201:1
 returns : tie.Need-returns Inv-loop μ-loop
 returns c =
     let start = c .before .before .before .before in

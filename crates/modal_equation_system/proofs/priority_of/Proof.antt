@@ -9,33 +9,24 @@ use Rattle.modal_equation_system.proofs.Reading.{equation-few}
 use borrow.Author.Needs.{needs}
 use Rattle.modal_equation_system.proofs.priority_of.Statement.{statement}
 use Rattle.modal_equation_system.proofs.priority_of.Tie as tie
-use Rattle.modal_equation_system.proofs.priority_of.Reads as reads
-use Rattle.modal_equation_system.proofs.priority_of.Lts as lts
-use Rattle.modal_equation_system.proofs.alternation_depth.Reads as alternation-depth-reads
-use Rattle.modal_equation_system.proofs.operator_of.Reads as operator-of-reads
 
--- src/lib.rt:225:9
 alternation-depth-requires : tie.Need-alternation-depth-requires
 alternation-depth-requires c κs = search needs
 
--- src/lib.rt:226:14
 mul-t6 : tie.Need-mul-t6
 mul-t6 c = search needs
 
--- src/lib.rt:226:28
 operator-of-requires : tie.Need-operator-of-requires
 operator-of-requires c κs =
     let start = c .before .before in
     omega (arith, equation-few (start .args .formula .now) (start .args .table .now) (start .pre .0) (start .args .equation) (start .pre .1))
 
--- src/lib.rt:226:14
 add-t8 : tie.Need-add-t8
 unfolding byDepth
 add-t8 c =
     let start = c .before .before .before in
     omega (arith, c .before .alternation-depth .ensures, c .operator-of .ensures, start .pre .0 .operator (start .args .equation) (start .pre .1), byDepth-limit (start .pre .0 .good .actions) (formulaOnly (start .args .formula .now)) (start .pre .0 .good .formula) (start .args .equation))
 
--- src/lib.rt:220:1
 returns : tie.Need-returns
 unfolding byDepth
 returns c =

@@ -10,11 +10,6 @@ use Rattle.match_table.proofs.Filled.{told-true, told-false, class-matches}
 use Rattle.modalities.proofs.Deciding.{Deciding, deciding-start, deciding-more}
 use Rattle.modalities.proofs.decide_labels.Statement.{statement}
 use Rattle.modalities.proofs.decide_labels.Tie as tie
-use Rattle.modalities.proofs.decide_labels.Reads as reads
-use Rattle.modalities.proofs.decide_labels.Lts as lts
-use Rattle.matching.proofs.match_action_formula.Reads as match-action-formula-reads
-use Rattle.modalities.proofs.label_of.Reads as label-of-reads
-use Rattle.words.proofs.at.Reads as at-reads
 
 abbrev Inv-loop : tie.InvT-loop
 Inv-loop labels system actions classes moves node answers₀ t₀ answers t =

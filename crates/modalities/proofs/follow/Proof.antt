@@ -5,11 +5,6 @@ use Rattle.modalities.proofs.Matches.{one-target, no-target}
 use borrow.Author.Needs.{needs}
 use Rattle.modalities.proofs.follow.Statement.{statement}
 use Rattle.modalities.proofs.follow.Tie as tie
-use Rattle.modalities.proofs.follow.Reads as reads
-use Rattle.modalities.proofs.follow.Lts as lts
-use Rattle.modalities.proofs.label_of.Reads as label-of-reads
-use Rattle.modalities.proofs.target_of.Reads as target-of-reads
-use Rattle.settling.proofs.target_once.Reads as target-once-reads
 
 label-of-requires : tie.Need-label-of-requires
 label-of-requires c κs = search needs
@@ -24,7 +19,7 @@ target-once-requires : tie.Need-target-once-requires
 target-once-requires c κs =
     let start = c .before .before .before .before .before .before .before .before .before in
     let good = start .pre .0 .1 .1 in
-    let fits = good .targets (start .args .t) (start .pre .1 .1 .0) in (
+    let fits = good .targets (start .args .transition) (start .pre .1 .1 .0) in (
       start .pre .0 .0,
       (
         (
@@ -46,7 +41,7 @@ returns c =
     let at-target-of = c .before .before .before .before in
     let at-label-of = at-target-of .before .before .before in
     let start = at-label-of .before .before .before .before .before in
-    let one = one-target (start .args .system .now) (start .args .answers .now) (start .args .item) (start .args .t)
+    let one = one-target (start .args .system .now) (start .args .answers .now) (start .args .operand .item) (start .args .transition)
     (at-label-of .label-of .result) (at-label-of .label-of .ensures) (at-target-of .target-of .result)
     (at-target-of .before .if1 .taken) (at-target-of .target-of .ensures) in
     λ ts k. rw one (c .before .before .target-once .ensures ts k)
@@ -55,7 +50,7 @@ returns-2 : tie.Need-returns-2
 returns-2 c =
     let at-label-of = c .before .before in
     let start = at-label-of .before .before .before .before .before in
-    let none = no-target (start .args .system .now) (start .args .answers .now) (start .args .item) (start .args .t)
+    let none = no-target (start .args .system .now) (start .args .answers .now) (start .args .operand .item) (start .args .transition)
     (at-label-of .label-of .result) (at-label-of .label-of .ensures) (c .if1 .left) in
     λ ts k. rw none (gathered-none _ _ _ _ ts (start .pre .1 .0 .0) k)
 

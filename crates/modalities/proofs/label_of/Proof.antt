@@ -5,9 +5,6 @@ use Rattle.rules.specs.Lists.{word}
 use borrow.Author.Needs.{needs}
 use Rattle.modalities.proofs.label_of.Statement.{statement}
 use Rattle.modalities.proofs.label_of.Tie as tie
-use Rattle.modalities.proofs.label_of.Reads as reads
-use Rattle.modalities.proofs.label_of.Lts as lts
-use Rattle.words.proofs.at.Reads as at-reads
 
 add-at : tie.Need-add-at
 add-at c = search needs
@@ -18,7 +15,7 @@ at-requires c κs = search needs
 returns : tie.Need-returns
 returns c =
     let start = c .before .before .before in
-    c .at .ensures .0 ∙ ap (λ (n : ℕ). word (start .args .system .now) (n + start .args .t)) (start .pre .1 .labels)
+    c .at .ensures .0 ∙ ap (λ (n : ℕ). word (start .args .system .now) (n + start .args .transition)) (start .pre .1 .labels)
 
 pub label-of-spec : {M : Type 1} → statement M
 label-of-spec = tie.close (tie.spec add-at at-requires returns)

@@ -6,11 +6,6 @@ use Rattle.modalities.proofs.Deciding.{state-inside}
 use borrow.Author.Needs.{needs}
 use Rattle.modalities.proofs.moves_of.Statement.{statement}
 use Rattle.modalities.proofs.moves_of.Tie as tie
-use Rattle.modalities.proofs.moves_of.Reads as reads
-use Rattle.modalities.proofs.moves_of.Lts as lts
-use Rattle.compiled.proofs.samples.Reads as samples-reads
-use Rattle.transitions.proofs.first_transition.Reads as first-transition-reads
-use Rattle.words.proofs.at.Reads as at-reads
 
 samples-requires : tie.Need-samples-requires
 samples-requires c κs = search needs

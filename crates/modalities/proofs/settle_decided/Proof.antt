@@ -14,11 +14,6 @@ use Rattle.modalities.proofs.Deciding.{decided-bytes}
 use borrow.Author.Needs.{needs}
 use Rattle.modalities.proofs.settle_decided.Statement.{statement}
 use Rattle.modalities.proofs.settle_decided.Tie as tie
-use Rattle.modalities.proofs.settle_decided.Reads as reads
-use Rattle.modalities.proofs.settle_decided.Lts as lts
-use Rattle.compiled.proofs.classes.Reads as classes-reads
-use Rattle.modalities.proofs.decide_labels.Reads as decide-labels-reads
-use Rattle.modalities.proofs.settle_matched.Reads as settle-matched-reads
 
 classes-requires : tie.Need-classes-requires
 classes-requires c κs = search needs
@@ -66,7 +61,7 @@ returns c =
     let a = start .args in
     let same = answered-matched _ _ (actionTree (a .labels .now) (a .actions .now) (a .modality .action)) _
     (a .modality .operand) (a .moves .first) (a .moves .end) (at-decide-labels .decide-labels .ensures .1) in
-    subst (λ (ts : List ℕ). Answer (a .work .now) (a .room .vertices) (a .room .edges) (a .c) (once eqb ts)
+    subst (λ (ts : List ℕ). Answer (a .work .now) (a .room .vertices) (a .room .edges) (a .counters) (once eqb ts)
     (r .last .1 .1 .0) (r .result)) same (r .ensures)
 
 pub settle-decided-spec : {M : Type 1} → statement M

@@ -1,25 +1,21 @@
-use Rattle.pairs.specs.Slot.{Multiples}
 -- `settle_matched` meets its contract: between its turns the transitions before t have given their targets. Assumes
 -- nothing.
 use mathlib.Core.Path.{subst, sym}
 use Prim.Native.Nat.{_-_}
 use native.Mathlib.Omega.{arith}
 use borrow.Author.Needs.{needs}
+use Rattle.pairs.specs.Slot.{Multiples}
 use Rattle.settling.specs.Made.{Gathered}
 use Rattle.modalities.proofs.Gathering.{Gathering, gathering-start, gathering-on, gathering-many, gathering-end}
 use Rattle.modalities.proofs.settle_matched.Statement.{statement}
 use Rattle.modalities.proofs.settle_matched.Tie as tie
-use Rattle.modalities.proofs.settle_matched.Reads as reads
-use Rattle.modalities.proofs.settle_matched.Lts as lts
-use Rattle.modalities.proofs.follow.Reads as follow-reads
-use Rattle.pairs.proofs.product.Reads as product-reads
 
 abbrev Inv-loop : tie.InvT-loop
-Inv-loop compiled work₀ room system answers moves item multiples scaled so-far₀ t₀ work so-far t =
+Inv-loop compiled work₀ room system answers moves item multiples scaled operand so-far₀ t₀ work so-far t =
     Gathering system answers (room .vertices) (room .edges) item (moves .first) (moves .end) work₀ so-far₀ work so-far t
 
 abbrev μ-loop : tie.MeasureT-loop
-μ-loop compiled work₀ room system answers moves item multiples scaled so-far₀ t₀ work so-far t = moves .end - t
+μ-loop compiled work₀ room system answers moves item multiples scaled operand so-far₀ t₀ work so-far t = moves .end - t
 
 multiples-requires : tie.Need-multiples-requires Inv-loop μ-loop
 multiples-requires c κs = search needs

@@ -10,17 +10,11 @@ use Rattle.rules.specs.Words.{inputOf}
 use Rattle.rules.specs.Labels.{labelCount}
 use Rattle.rules.specs.Actions.{actionTree}
 use Rattle.settling.specs.Made.{Answer}
-use Rattle.modalities.proofs.Matches.{answered-matched, matched-state}
+use Rattle.modalities.proofs.Matches.{answered-matched, matched-modality}
 use Rattle.modalities.proofs.Deciding.{row-bytes, row-answers}
 use borrow.Author.Needs.{needs}
 use Rattle.modalities.proofs.settle_modality.Statement.{statement}
 use Rattle.modalities.proofs.settle_modality.Tie as tie
-use Rattle.modalities.proofs.settle_modality.Reads as reads
-use Rattle.modalities.proofs.settle_modality.Lts as lts
-use Rattle.match_table.proofs.row.Reads as row-reads
-use Rattle.modalities.proofs.moves_of.Reads as moves-of-reads
-use Rattle.modalities.proofs.settle_decided.Reads as settle-decided-reads
-use Rattle.modalities.proofs.settle_matched.Reads as settle-matched-reads
 
 cast-row : tie.Need-cast-row
 cast-row c = search needs
@@ -46,11 +40,9 @@ returns c =
     let start = at-moves-of .before .before .before .before .before .before .before in
     let r = c .before .before .settle-decided in
     let a = start .args in
-    let of = at-moves-of .moves-of .ensures .1 in
     let x = inputOf (a .labels .now) (a .system .now) (a .actions .now) [] in
-    let tree = actionTree (a .labels .now) (a .actions .now) (a .modality .action) in
-    let all = matched-state x tree (a .modality .operand) (a .modality .state) _ _ (of .first) (of .end) in
-    subst (λ (ts : List ℕ). Answer (a .work .now) (a .room .vertices) (a .room .edges) (a .c) ts (r .last .1 .1 .0)
+    let all = matched-modality x (a .modality) (at-moves-of .moves-of .result) (at-moves-of .moves-of .ensures .1) in
+    subst (λ (ts : List ℕ). Answer (a .work .now) (a .room .vertices) (a .room .edges) (a .counters) ts (r .last .1 .1 .0)
     (r .result)) all (r .ensures)
 
 settle-matched-requires : tie.Need-settle-matched-requires
@@ -75,15 +67,14 @@ returns-2 c =
     let start = at-moves-of .before .before .before .before .before .before .before in
     let r = c .before .before .settle-matched in
     let a = start .args in
-    let of = at-moves-of .moves-of .ensures .1 in
+    let moves = at-moves-of .moves-of .result in
     let x = inputOf (a .labels .now) (a .system .now) (a .actions .now) [] in
-    let tree = actionTree (a .labels .now) (a .actions .now) (a .modality .action) in
-    let all = matched-state x tree (a .modality .operand) (a .modality .state) _ _ (of .first) (of .end) in
+    let all = matched-modality x (a .modality) moves (at-moves-of .moves-of .ensures .1) in
     let row = at-moves-of .before .row .ensures (omega (arith, at-if1 .if1 .left)) in
     let answers = row-answers _ _ _ _ _ _ _ (start .pre .0 .system) (at-moves-of .moves-of .ensures .0 .inside) row in
-    let same = answered-matched _ _ tree _ (a .modality .operand) (at-moves-of .moves-of .result .first)
-    (at-moves-of .moves-of .result .end) answers in
-    subst (λ (ts : List ℕ). Answer (a .work .now) (a .room .vertices) (a .room .edges) (a .c) ts (r .last .1 .1 .0)
+    let tree = actionTree (a .labels .now) (a .actions .now) (a .modality .action) in
+    let same = answered-matched _ _ tree _ (a .modality .operand) (moves .first) (moves .end) answers in
+    subst (λ (ts : List ℕ). Answer (a .work .now) (a .room .vertices) (a .room .edges) (a .counters) ts (r .last .1 .1 .0)
     (r .result)) (ap (once eqb) same ∙ all) (r .ensures)
 
 pub settle-modality-spec : {M : Type 1} → statement M

@@ -5,8 +5,6 @@ use Rattle.rules.specs.Lists.{word}
 use borrow.Author.Needs.{needs}
 use Rattle.modalities.proofs.target_of.Statement.{statement}
 use Rattle.modalities.proofs.target_of.Tie as tie
-use Rattle.modalities.proofs.target_of.Reads as reads
-use Rattle.modalities.proofs.target_of.Lts as lts
 
 add-place : tie.Need-add-place
 add-place c = search needs
@@ -20,7 +18,7 @@ shared-slice-read-result c = search needs
 returns : tie.Need-returns
 returns c =
     let start = c .before .before in
-    ap (λ (n : ℕ). word (start .args .system .now) (n + start .args .t)) (start .pre .1 .targets)
+    ap (λ (n : ℕ). word (start .args .system .now) (n + start .args .transition)) (start .pre .1 .targets)
 
 pub target-of-spec : {M : Type 1} → statement M
 target-of-spec = tie.close (tie.spec add-place mul-result shared-slice-read-result returns)

@@ -1,67 +1,47 @@
 use Rattle.model_tables.proofs.Written.{all-written}
-use native.Mathlib.Omega.{arith}
 use borrow.Author.Needs.{needs}
 use Rattle.model_tables.proofs.write_model_tables.Statement.{statement}
 use Rattle.model_tables.proofs.write_model_tables.Tie as tie
-use Rattle.model_tables.proofs.write_model_tables.Reads as reads
-use Rattle.model_tables.proofs.write_model_tables.Lts as lts
-use Rattle.labels.proofs.label_classes.Reads as label-classes-reads
-use Rattle.pairs.proofs.write_multiples.Reads as write-multiples-reads
-use Rattle.transitions.proofs.sample_transitions.Reads as sample-transitions-reads
 
--- src/lib.rt:21:35
 sub-label-classes : tie.Need-sub-label-classes
 sub-label-classes c = search needs
 
--- src/lib.rt:21:35
 part-label-classes-start : tie.Need-part-label-classes-start
 part-label-classes-start c = search needs
 
--- src/lib.rt:21:35
 part-label-classes-end : tie.Need-part-label-classes-end
 part-label-classes-end c = search needs
 
--- src/lib.rt:21:5
 label-classes-requires : tie.Need-label-classes-requires
 label-classes-requires c κs = search needs
 
--- src/lib.rt:22:45
 sub-sample-transitions : tie.Need-sub-sample-transitions
 sub-sample-transitions c = search needs
 
--- src/lib.rt:22:45
 part-sample-transitions-start : tie.Need-part-sample-transitions-start
 part-sample-transitions-start c = search needs
 
--- src/lib.rt:22:45
 part-sample-transitions-end : tie.Need-part-sample-transitions-end
 part-sample-transitions-end c = search needs
 
--- src/lib.rt:22:5
 sample-transitions-requires : tie.Need-sample-transitions-requires
 sample-transitions-requires c κs = search needs
 
--- src/lib.rt:23:28
 sub-write-multiples : tie.Need-sub-write-multiples
 sub-write-multiples c = search needs
 
--- src/lib.rt:23:28
 part-write-multiples-start : tie.Need-part-write-multiples-start
 part-write-multiples-start c = search needs
 
--- src/lib.rt:23:28
 part-write-multiples-end : tie.Need-part-write-multiples-end
 part-write-multiples-end c = search needs
 
--- src/lib.rt:23:5
 write-multiples-requires : tie.Need-write-multiples-requires
 write-multiples-requires c κs = search needs
 
--- src/lib.rt:15:1
 same-length : tie.Need-same-length
 same-length c = search needs
 
--- src/lib.rt:15:1
 returns : tie.Need-returns
 returns c =
     let at-write-multiples = c .before .before in

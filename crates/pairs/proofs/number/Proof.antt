@@ -1,114 +1,86 @@
-use Prim.Native.Nat.{_*_}
 use native.Mathlib.Omega.{arith}
-use mathlib.Core.Path.{subst}
-use Rattle.pairs.specs.Slot.{keyOf}
 use Rattle.pairs.proofs.OneMore.{there, full, nowhere-full, added-by, free-within}
 use borrow.Author.Needs.{needs}
 use Rattle.pairs.proofs.number.Statement.{statement}
 use Rattle.pairs.proofs.number.Tie as tie
-use Rattle.pairs.proofs.number.Reads as reads
-use Rattle.pairs.proofs.number.Lts as lts
-use Rattle.pairs.proofs.find.Reads as find-reads
-use Rattle.pairs.proofs.put_slot_word.Reads as put-slot-word-reads
-use Rattle.words.proofs.put_word.Reads as put-word-reads
 
--- src/lib.rt:430:11
 find-requires : tie.Need-find-requires
 find-requires c κs = search needs
 
--- src/lib.rt:431:22
 enum-known-vertex : tie.Need-enum-known-vertex
 enum-known-vertex c = search needs
 
--- src/lib.rt:432:21
 enum-known-slot : tie.Need-enum-known-slot
 enum-known-slot c = search needs
 
--- src/lib.rt:434:17
 same-length : tie.Need-same-length
 same-length c = search needs
 
--- src/lib.rt:434:17
 returns : tie.Need-returns
 returns c =
     let at-find = c .before .before .before .before in
     let start = at-find .before .before .before .before in
     full _ _ _ _ _ (start .pre .1) _ _ (at-find .find .ensures) (c .before .before .slot .given .1) (c .if1 .taken)
 
--- src/lib.rt:436:23
 mul-key : tie.Need-mul-key
 mul-key c = search needs
 
--- src/lib.rt:436:23
 add-key : tie.Need-add-key
 add-key c = search needs
 
--- src/lib.rt:437:36
 mul-put-slot-word : tie.Need-mul-put-slot-word
 mul-put-slot-word c =
     let at-find = c .before .before .before .before .before in
     let start = at-find .before .before .before .before in
     omega (arith, start .pre .1 .most, free-within _ _ _ _ _ (start .pre .1) _ _ (at-find .find .ensures) (c .before .before .before .slot .given .1))
 
--- src/lib.rt:437:13
 put-slot-word-requires : tie.Need-put-slot-word-requires
 put-slot-word-requires c κs =
     let at-find = c .before .before .before .before .before in
     let start = at-find .before .before .before .before in
     omega (arith, start .pre .1 .whole, free-within _ _ _ _ _ (start .pre .1) _ _ (at-find .find .ensures) (c .before .before .before .slot .given .1))
 
--- src/lib.rt:438:36
 mul-put-slot-word-2 : tie.Need-mul-put-slot-word-2
 mul-put-slot-word-2 c =
     let at-slot = c .before .before .before .before .before .before .before in
     let start = at-slot .before .before .before .before .before .before in
     omega (arith, start .pre .1 .most, free-within _ _ _ _ _ (start .pre .1) _ _ (at-slot .before .before .find .ensures) (at-slot .slot .given .1))
 
--- src/lib.rt:438:36
 add-put-slot-word : tie.Need-add-put-slot-word
 add-put-slot-word c =
     let at-slot = c .before .before .before .before .before .before .before in
     let start = at-slot .before .before .before .before .before .before in
     omega (arith, start .pre .1 .most, free-within _ _ _ _ _ (start .pre .1) _ _ (at-slot .before .before .find .ensures) (at-slot .slot .given .1))
 
--- src/lib.rt:438:50
 add-put-slot-word-2 : tie.Need-add-put-slot-word-2
 add-put-slot-word-2 c = search needs
 
--- src/lib.rt:438:13
 put-slot-word-requires-2 : tie.Need-put-slot-word-requires-2
 put-slot-word-requires-2 c κs =
     let at-slot = c .before .before .before .before .before .before .before in
     let start = at-slot .before .before .before .before .before .before in
     omega (arith, start .pre .1 .whole, free-within _ _ _ _ _ (start .pre .1) _ _ (at-slot .before .before .find .ensures) (at-slot .slot .given .1))
 
--- src/lib.rt:439:13
 put-word-requires : tie.Need-put-word-requires
 put-word-requires c κs = search needs
 
--- src/lib.rt:442:24
 add-t16 : tie.Need-add-t16
 add-t16 c = search needs
 
--- src/lib.rt:445:27
 enum-told : tie.Need-enum-told
 enum-told c = search needs
 
--- src/lib.rt:418:1
 same-length-2 : tie.Need-same-length-2
 same-length-2 c = search needs
 
--- src/lib.rt:418:1
 returns-2 : tie.Need-returns-2
 returns-2 c =
     let start = c .before .before .before .before .before .before .before in
     there _ _ _ _ _ (start .pre .1) _ _ (c .before .before .before .find .ensures) (c .before .vertex .given .1)
 
--- src/lib.rt:418:1
 same-length-3 : tie.Need-same-length-3
 same-length-3 c = search needs
 
--- src/lib.rt:418:1
 returns-3 : tie.Need-returns-3
 returns-3 c =
     let at-put-slot-word2 = c .before .before .before .before .before .before in
@@ -117,11 +89,9 @@ returns-3 c =
     let start = at-slot .before .before .before .before .before .before in
     added-by _ _ _ _ _ (start .pre .1) _ _ _ _ _ (omega (arith, at-put-slot-word .before .before .if1 .left, start .pre .1 .table .slots .room)) (at-slot .before .before .find .ensures) (at-slot .slot .given .1) (at-put-slot-word .put-slot-word .ensures) (at-put-slot-word2 .put-slot-word2 .ensures) (c .before .before .put-word .ensures)
 
--- src/lib.rt:418:1
 same-length-4 : tie.Need-same-length-4
 same-length-4 c = search needs
 
--- src/lib.rt:418:1
 returns-4 : tie.Need-returns-4
 returns-4 c =
     let start = c .before .before .before .before .before .before in

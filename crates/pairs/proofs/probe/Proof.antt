@@ -1,5 +1,5 @@
 use mathlib.Core.Path.{sym, _∙_}
-use Prim.Native.Nat.{_+_, _-_, _≤_, _<_}
+use Prim.Native.Nat.{_-_, _≤_}
 use native.Mathlib.Omega.{arith}
 use Rattle.pairs.specs.Table.{slotsOf}
 use Rattle.pairs.specs.Answers.{Others}
@@ -7,61 +7,47 @@ use Rattle.pairs.proofs.Search.{none-yet, one-more, up-to}
 use borrow.Author.Needs.{needs}
 use Rattle.pairs.proofs.probe.Statement.{statement}
 use Rattle.pairs.proofs.probe.Tie as tie
-use Rattle.pairs.proofs.probe.Reads as reads
-use Rattle.pairs.proofs.probe.Lts as lts
-use Rattle.pairs.proofs.held_in.Reads as held-in-reads
-use Rattle.pairs.proofs.key_in.Reads as key-in-reads
 
 abbrev Inv-loop : tie.InvT-loop
-Inv-loop work v key from end p₀ p = (from ≤ p) × Others (slotsOf work v) from p key
+Inv-loop work vertices key from end slot₀ slot = (from ≤ slot) × Others (slotsOf work vertices) from slot key
 
 abbrev μ-loop : tie.MeasureT-loop
-μ-loop work v key from end p₀ p = end - p
+μ-loop work vertices key from end slot₀ slot = end - slot
 
--- src/lib.rt:388:5
 loop-holds : tie.Need-loop-holds Inv-loop μ-loop
 loop-holds c = (omega arith, none-yet)
 
--- src/lib.rt:389:13
 held-in-requires : tie.Need-held-in-requires Inv-loop μ-loop
 held-in-requires c κs = search needs
 
--- src/lib.rt:391:13
 returns : tie.Need-returns Inv-loop μ-loop
 returns c =
     let at-loop = c .before .before .before in
     record { from = at-loop .loop .inv .0; to = c .before .before .loop-test .taken; empty = sym (c .before .held-in .ensures) ∙ c .if1 .taken; before = at-loop .loop .inv .1 }
 
--- src/lib.rt:393:12
 key-in-requires : tie.Need-key-in-requires Inv-loop μ-loop
 key-in-requires c κs = search needs
 
--- src/lib.rt:394:45
 sub-t10 : tie.Need-sub-t10 Inv-loop μ-loop
 sub-t10 c = search needs
 
--- src/lib.rt:394:13
 returns-2 : tie.Need-returns-2 Inv-loop μ-loop
 returns-2 c =
     let at-loop-test = c .before .before .before .before in
     let at-loop = at-loop-test .before in
-    record { slot = at-loop .loop .p; from = at-loop .loop .inv .0; to = at-loop-test .loop-test .taken; key = sym (c .before .key-in .ensures) ∙ c .if2 .taken; holds = omega (arith, c .before .before .before .held-in .ensures, c .before .before .if1 .left) }
+    record { slot = at-loop .loop .slot; from = at-loop .loop .inv .0; to = at-loop-test .loop-test .taken; key = sym (c .before .key-in .ensures) ∙ c .if2 .taken; holds = omega (arith, c .before .before .before .held-in .ensures, c .before .before .if1 .left) }
 
--- src/lib.rt:396:9
-add-p : tie.Need-add-p Inv-loop μ-loop
-add-p c = search needs
+add-slot : tie.Need-add-slot Inv-loop μ-loop
+add-slot c = search needs
 
--- src/lib.rt:388:5
 loop-less : tie.Need-loop-less Inv-loop μ-loop
 loop-less c = search needs
 
--- src/lib.rt:388:5
 loop-again : tie.Need-loop-again Inv-loop μ-loop
 loop-again c =
     let at-loop = c .before .before .before .before .before in
     (omega (arith, at-loop .loop .inv .0), one-more (at-loop .loop .inv .1) (λ e. c .before .before .if1 .left (c .before .before .before .held-in .ensures ∙ e)) (λ e. c .if2 .left (c .before .key-in .ensures ∙ e)))
 
--- src/lib.rt:383:1
 returns-3 : tie.Need-returns-3 Inv-loop μ-loop
 returns-3 c = up-to (c .before .loop .inv .1) (omega (arith, c .loop-test .left))
 
@@ -77,7 +63,7 @@ probe-spec =
     key-in-requires
     sub-t10
     returns-2
-    add-p
+    add-slot
     loop-less
     loop-again
     returns-3)

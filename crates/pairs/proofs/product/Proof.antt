@@ -22,7 +22,7 @@ wrapping-add-u32-requires c κs = search needs
 returns : tie.Need-returns
 returns c =
     let start = c .before .before .before .before in
-    cc (bytes-product (start .args .x))
+    cc (bytes-product (start .args .factor))
 
 pub product-spec : {M : Type 1} → statement M
 product-spec = tie.close (tie.spec cast-multiple multiple-requires cast-multiple-2 multiple-requires-2 wrapping-add-u32-requires returns)

@@ -20,18 +20,18 @@ cast-result c = search needs
 mul-result : tie.Need-mul-result
 mul-result c =
     let start = c .before .before .before in
-    record { fits = wide (c .wrapping-add-u32 .result) (start .args .v) (c .wrapping-add-u32 .ok) (start .fits .v .fits) }
+    record { fits = wide (c .wrapping-add-u32 .result) (start .args .slots) (c .wrapping-add-u32 .ok) (start .fits .slots .fits) }
 
 cast-result-2 : tie.Need-cast-result-2
 cast-result-2 c =
     let start = c .before .before .before in
-    record { fits = scaled-fits (c .wrapping-add-u32 .result) (start .args .v) (c .wrapping-add-u32 .ok) (start .fits .v .fits) }
+    record { fits = scaled-fits (c .wrapping-add-u32 .result) (start .args .slots) (c .wrapping-add-u32 .ok) (start .fits .slots .fits) }
 
 returns : tie.Need-returns
 unfolding slotOf
 returns c =
     let start = c .before .before .before in
-    ap (λ (p : ℕ). p * start .args .v / 2 ^ 32) (let e = start .pre .0 .product in cc (key-product (start .args .state) (start .args .item)))
+    ap (λ (p : ℕ). p * start .args .slots / 2 ^ 32) (let e = start .pre .0 .product in cc (key-product (start .args .state) (start .args .item)))
 
 pub slot-of-spec : {M : Type 1} → statement M
 slot-of-spec = tie.close (tie.spec product-requires wrapping-add-u32-requires cast-result mul-result cast-result-2 returns)

@@ -2,18 +2,13 @@ use Rattle.pairs.proofs.Parts.{slot-at}
 use borrow.Author.Needs.{needs}
 use Rattle.pairs.proofs.slot_word.Statement.{statement}
 use Rattle.pairs.proofs.slot_word.Tie as tie
-use Rattle.pairs.proofs.slot_word.Reads as reads
-use Rattle.pairs.proofs.slot_word.Lts as lts
 
--- src/lib.rt:335:5
 mul-result : tie.Need-mul-result
 mul-result c = search needs
 
--- src/lib.rt:335:5
 shared-slice-read-result : tie.Need-shared-slice-read-result
 shared-slice-read-result c = search needs
 
--- src/lib.rt:331:1
 returns : tie.Need-returns
 returns c = slot-at _ _ _ (c .before .pre .word)
 

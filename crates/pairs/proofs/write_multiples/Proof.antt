@@ -2,28 +2,19 @@ use Rattle.pairs.proofs.Bytes.{written-multiples}
 use borrow.Author.Needs.{needs}
 use Rattle.pairs.proofs.write_multiples.Statement.{statement}
 use Rattle.pairs.proofs.write_multiples.Tie as tie
-use Rattle.pairs.proofs.write_multiples.Reads as reads
-use Rattle.pairs.proofs.write_multiples.Lts as lts
-use Rattle.pairs.proofs.byte_multiples.Reads as byte-multiples-reads
-use Rattle.words.proofs.copy.Reads as copy-reads
 
--- src/lib.rt:288:17
 byte-multiples-requires : tie.Need-byte-multiples-requires
 byte-multiples-requires c κs = search needs
 
--- src/lib.rt:289:10
 slice-aggregate-copy : tie.Need-slice-aggregate-copy
 slice-aggregate-copy c = search needs
 
--- src/lib.rt:289:5
 copy-requires : tie.Need-copy-requires
 copy-requires c κs = search needs
 
--- src/lib.rt:284:1
 same-length : tie.Need-same-length
 same-length c = search needs
 
--- src/lib.rt:284:1
 returns : tie.Need-returns
 returns c =
     let at-copy = c .before .before in

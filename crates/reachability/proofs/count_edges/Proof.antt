@@ -5,6 +5,7 @@ use native.Mathlib.Omega.{arith}
 use lib.ListN.{take}
 use Rattle.rules.specs.Game.{edgeCount}
 use Rattle.rules.specs.Restrict.{keptVertices}
+use Rattle.reachability.proofs.Stretches.{met-vertex}
 use Rattle.reachability.proofs.Stretches.{some-of, all-some, rises-read, count-more, count-none}
 use Rattle.reachability.proofs.count_edges.Statement.{statement}
 use Rattle.reachability.proofs.count_edges.Tie as tie
@@ -28,27 +29,13 @@ vertex-at-requires c κs =
 
 targets-from-requires : tie.Need-targets-from-requires Inv-loop μ-loop
 targets-from-requires c κs =
-    let start = c .before .before .before .before .before in (
-      start .pre .good,
-      omega (
-        arith,
-        c .vertex-at .ensures,
-        start .pre .inside (c .before .before .loop .i)
-            (c .before .loop-test .taken),
-      ),
-    )
+    let start = c .before .before .before .before .before in
+    met-vertex _ _ (start .pre) (c .before .loop-test .taken) (c .vertex-at .ensures)
 
 targets-end-requires : tie.Need-targets-end-requires Inv-loop μ-loop
 targets-end-requires c κs =
-    let start = c .before .before .before .before .before .before in (
-      start .pre .good,
-      omega (
-        arith,
-        c .before .vertex-at .ensures,
-        start .pre .inside (c .before .before .before .loop .i)
-            (c .before .before .loop-test .taken),
-      ),
-    )
+    let start = c .before .before .before .before .before .before in
+    met-vertex _ _ (start .pre) (c .before .before .loop-test .taken) (c .before .vertex-at .ensures)
 
 sub-edges : tie.Need-sub-edges Inv-loop μ-loop
 sub-edges c =

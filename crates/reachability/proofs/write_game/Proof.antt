@@ -1,17 +1,83 @@
-use denote.Ref.{now}
-use mathlib.Core.Path.{sym}
+-- `write_game` meets its contract: four calls write the game of the vertices that are kept, and zeros follow. Assumes
+-- nothing.
+use mathlib.Core.Path.{_≡_, sym, _∙_}
+use mathlib.Core.List.{List, []}
+use Prim.Native.Nat.{ℕ, _≤_}
 use native.Mathlib.Omega.{arith}
-use lib.ListN.{take}
+use denote.Ref.{now}
+use lib.ListN.{length, take}
 use lib.Seq.{length-take-le}
-use Rattle.rules.specs.Game.{gameOf}
+use Rattle.rules.specs.Game.{Vertex, gameWords, gameOf}
 use Rattle.rules.specs.Restrict.{keptVertices}
-use Rattle.words.proofs.Stretches.{Writing, turn, called, done}
-use Rattle.parity_game.proofs.Stretches.{game-padded}
-use Rattle.reachability.proofs.Stretches.{columns-end, offsets-end, targets-end}
-use Rattle.reachability.proofs.Written.{kept-stretches}
+use Rattle.restrictions.proofs.Kept.{kept-length}
+use Rattle.words.proofs.Stretches.{Writing, called}
+use Rattle.parity_game.proofs.Calls.{behindHeader, behindColumns, behindOffsets, header-done, columns-fit, offsets-fit}
+use Rattle.parity_game.proofs.Calls.{targets-fit, game-fits, game-done}
 use borrow.Author.Needs.{needs}
 use Rattle.reachability.proofs.write_game.Statement.{statement}
 use Rattle.reachability.proofs.write_game.Tie as tie
+
+-- the vertices that are written, and how many they are
+abbrev kept : tie.Start → List Vertex
+kept s = keptVertices (now (s .args .game)) (take (s .args .count) (now (s .args .work)))
+
+many : (s : tie.Start) → s .args .count ≡ length (kept s)
+many s =
+    sym
+    (kept-length (now (s .args .game)) (take (s .args .count) (now (s .args .work)))
+    ∙ length-take-le (s .args .count) (now (s .args .work)) (s .pre .0 .within))
+
+-- so much is left of the game, where `at` words of it are written
+abbrev Left : tie.Start → (at : ℕ) (left : List ℕ) (out : List ℕ) → Type 0
+Left s at left out = Writing at left out 0 (gameOf 0 (kept s)) (now (s .args .out))
+
+abbrev edges-start : tie.After-count-edges → tie.Start
+edges-start c = c .before .before .before .before .before
+
+-- the game fits, since it has no more vertices and edges than the one that is restricted
+room : (c : tie.After-count-edges)
+    → gameWords (edges-start c .args .count) (c .count-edges .result) ≤ length (now (edges-start c .args .out))
+room c =
+    let s = edges-start c in
+    omega (arith, c .count-edges .ensures, s .pre .0 .few, s .pre .0 .fit, s .pre .1 .1 .1, s .pre .0 .good .sized)
+
+abbrev counted : tie.After-write-header → tie.After-count-edges
+counted c = c .before .before
+
+header : (c : tie.After-write-header)
+    → Left (edges-start (counted c)) (c .write-header .result) (behindHeader (kept (edges-start (counted c))))
+    (c .write-header .last .1 .1 .0)
+header c =
+    let s = edges-start (counted c) in
+    header-done (kept s) (s .args .count) (counted c .count-edges .result) (many s) (counted c .count-edges .ensures)
+    (c .write-header .kept .1 .1 .0) (c .write-header .ensures)
+
+abbrev columns-counted : tie.After-write-columns → tie.After-count-edges
+columns-counted c = counted (c .before .before .before .before)
+
+columns : (c : tie.After-write-columns)
+    → Left (edges-start (columns-counted c)) (c .write-columns .result)
+    (behindColumns (kept (edges-start (columns-counted c)))) (c .write-columns .last .1 .1 .1 .0)
+columns c =
+    called (c .write-columns .kept .1 .1 .1 .0) (c .write-columns .ensures) (header (c .before .before .before .before))
+
+abbrev offsets-counted : tie.After-write-offsets → tie.After-count-edges
+offsets-counted c = columns-counted (c .before .before .before .before)
+
+offsets : (c : tie.After-write-offsets)
+    → Left (edges-start (offsets-counted c)) (c .write-offsets .result)
+    (behindOffsets (kept (edges-start (offsets-counted c)))) (c .write-offsets .last .1 .1 .1 .0)
+offsets c =
+    called (c .write-offsets .kept .1 .1 .1 .0) (c .write-offsets .ensures) (columns (c .before .before .before .before))
+
+abbrev targets-counted : tie.After-write-targets → tie.After-count-edges
+targets-counted c = offsets-counted (c .before .before .before .before)
+
+targets : (c : tie.After-write-targets)
+    → Left (edges-start (targets-counted c)) (c .write-targets .result) [] (c .write-targets .last .1 .1 .1 .1 .0)
+targets c =
+    called (c .write-targets .kept .1 .1 .1 .1 .0) (c .write-targets .ensures)
+    (offsets (c .before .before .before .before))
 
 count-edges-requires : tie.Need-count-edges-requires
 count-edges-requires c κs = search needs
@@ -27,117 +93,38 @@ write-header-requires c κs = search needs
 
 write-columns-requires : tie.Need-write-columns-requires
 write-columns-requires c κs =
-    let at-write-header = c .before .before .before in
-    let start = at-write-header .before .before .before .before .before .before .before in (
-      start .pre .0,
-      omega (
-        arith,
-        at-write-header .write-header .ensures .past,
-        at-write-header .write-header .kept .1 .1 .0,
-        start .pre .0 .few,
-        start .pre .1 .1 .1,
-        start .pre .0 .good .sized,
-      ),
-    )
+    let at-count = counted (c .before .before .before) in
+    let s = edges-start at-count in
+    let fit = columns-fit (kept s) _ _ (many s) (at-count .count-edges .ensures) (room at-count) (header (c .before .before .before)) in
+    (s .pre .0, fit)
 
 write-offsets-requires : tie.Need-write-offsets-requires
 write-offsets-requires c κs =
-    let at-write-columns = c .before .before .before in
-    let at-write-header = at-write-columns .before .before .before .before in
-    let start = at-write-header .before .before .before .before .before .before .before in
-    let p1 = columns-end _ _ _ (start .pre .0) (at-write-columns .write-columns .ensures) in (
-      start .pre .0,
-      omega (
-        arith,
-        p1,
-        at-write-header .write-header .ensures .past,
-        at-write-header .write-header .kept .1 .1 .0,
-        at-write-columns .write-columns .kept .1 .1 .1 .0,
-        start .pre .0 .few,
-        start .pre .1 .1 .1,
-        start .pre .0 .good .sized,
-      ),
-    )
+    let at-count = columns-counted (c .before .before .before) in
+    let s = edges-start at-count in
+    let fit = offsets-fit (kept s) _ _ (many s) (at-count .count-edges .ensures) (room at-count) (columns (c .before .before .before)) in
+    (s .pre .0, fit)
 
 write-targets-requires : tie.Need-write-targets-requires
 write-targets-requires c κs =
-    let at-write-offsets = c .before .before .before in
-    let at-write-columns = at-write-offsets .before .before .before .before in
-    let at-write-header = at-write-columns .before .before .before .before in
-    let start = at-write-header .before .before .before .before .before .before .before in
-    let p1 = columns-end _ _ _ (start .pre .0) (at-write-columns .write-columns .ensures) in
-    let p2 = offsets-end _ _ _ (start .pre .0) (at-write-offsets .write-offsets .ensures) in (
-      start .pre .0,
-      (
-        start .pre .1 .0,
-        (
-          start .pre .1 .1 .0,
-          omega (
-            arith,
-            p1,
-            p2,
-            at-write-header .write-header .ensures .past,
-            at-write-header .write-header .kept .1 .1 .0,
-            at-write-columns .write-columns .kept .1 .1 .1 .0,
-            at-write-offsets .write-offsets .kept .1 .1 .1 .0,
-            start .pre .0 .few,
-            start .pre .0 .fit,
-            start .pre .1 .1 .1,
-            start .pre .0 .good .sized,
-          ),
-        ),
-      ),
-    )
+    let at-count = offsets-counted (c .before .before .before) in
+    let s = edges-start at-count in
+    let fit = targets-fit (kept s) _ _ (many s) (at-count .count-edges .ensures) (room at-count) (offsets (c .before .before .before)) in
+    (s .pre .0, (s .pre .1 .0, (s .pre .1 .1 .0, omega (arith, fit, at-count .count-edges .ensures))))
 
 fill-requires : tie.Need-fill-requires
 fill-requires c κs =
-    let at-write-targets = c .before .before .before in
-    let at-write-offsets = at-write-targets .before .before .before .before in
-    let at-write-columns = at-write-offsets .before .before .before .before in
-    let at-write-header = at-write-columns .before .before .before .before in
-    let start = at-write-header .before .before .before .before .before .before .before in
-    let p1 = columns-end _ _ _ (start .pre .0) (at-write-columns .write-columns .ensures) in
-    let p2 = offsets-end _ _ _ (start .pre .0) (at-write-offsets .write-offsets .ensures) in
-    let p3 = targets-end _ _ _ (start .pre .0) (at-write-targets .write-targets .ensures) in
-    omega (
-      arith,
-      p1,
-      p2,
-      p3,
-      at-write-header .write-header .ensures .past,
-      at-write-header .write-header .kept .1 .1 .0,
-      at-write-columns .write-columns .kept .1 .1 .1 .0,
-      at-write-offsets .write-offsets .kept .1 .1 .1 .0,
-      at-write-targets .write-targets .kept .1 .1 .1 .1 .0,
-      start .pre .0 .few,
-      start .pre .0 .fit,
-      start .pre .1 .1 .1,
-      start .pre .0 .good .sized,
-    )
+    let at-count = targets-counted (c .before .before .before) in
+    let s = edges-start at-count in
+    game-fits (kept s) _ _ (many s) (at-count .count-edges .ensures) (room at-count) (targets (c .before .before .before))
 
 same-length : tie.Need-same-length
 same-length c = search needs
 
 returns : tie.Need-returns
 returns c =
-    let at-write-targets = c .before .before .before .before .before .before in
-    let at-write-offsets = at-write-targets .before .before .before .before in
-    let at-write-columns = at-write-offsets .before .before .before .before in
-    let at-write-header = at-write-columns .before .before .before .before in
-    let at-count-edges = at-write-header .before .before in
-    let start′ = at-count-edges .before .before .before .before .before in
-    let g = now (start′ .args .game) in
-    let k = take (start′ .args .count) (now (start′ .args .work)) in
-    let o = now (start′ .args .out) in
-    let stretches = kept-stretches g k (start′ .args .count) (at-count-edges .count-edges .result)
-    (sym (length-take-le (start′ .args .count) (now (start′ .args .work)) (start′ .pre .0 .within)))
-    (at-count-edges .count-edges .ensures) in
-    let w0 : Writing 0 (gameOf 0 (keptVertices g k)) o 0 (gameOf 0 (keptVertices g k)) o = Rattle.words.proofs.Stretches.start in
-    let w1 = called (at-write-header .write-header .kept .1 .1 .0) (at-write-header .write-header .ensures) (turn stretches w0) in
-    let w2 = called (at-write-columns .write-columns .kept .1 .1 .1 .0) (at-write-columns .write-columns .ensures) w1 in
-    let w3 = called (at-write-offsets .write-offsets .kept .1 .1 .1 .0) (at-write-offsets .write-offsets .ensures) w2 in
-    let w4 = called (at-write-targets .write-targets .kept .1 .1 .1 .1 .0) (at-write-targets .write-targets .ensures) w3 in
-    (at-count-edges .count-edges .ensures, game-padded _ _ _ _ _ (done w4) (w4 .long) (c .before .before .fill .ensures))
+    let at-targets = c .before .before .before .before .before .before in
+    (targets-counted at-targets .count-edges .ensures, game-done (targets at-targets) (c .before .before .fill .ensures))
 
 pub write-game-spec : {M : Type 1} → statement M
 write-game-spec =

@@ -1,8 +1,9 @@
 use denote.Ref.{now}
-use Prim.Native.Nat.{ℕ, _-_, _≤_}
+use Prim.Native.Nat.{ℕ, _-_, _≤_, _<_}
 use mathlib.Core.Path.{ap, _∙_}
 use mathlib.Core.List.{map}
 use native.Mathlib.Omega.{arith}
+use lib.ListN.{length}
 use lib.Seq.{slice}
 use Rattle.rules.specs.Lists.{word}
 use Rattle.words.proofs.Stretches.{Writing, carry-put, carry-done}
@@ -34,35 +35,22 @@ new-number-requires c κs =
       c .vertex-at .ensures,
     )
 
-mul-out : tie.Need-mul-out Inv-loop μ-loop
-mul-out c =
+-- there is room for the next number
+room : (c : tie.After-new-number Inv-loop μ-loop)
+    → c .before .before .before .loop .next < length (c .before .before .before .loop .out)
+room c =
     let start = c .before .before .before .before .before .before .before in
-    omega (
-      arith,
-      numbers-room (now (start .args .game)) (now (start .args .mapping)) _ _ _
-          (c .before .before .loop-test .taken) (start .pre .0 .1) (start .pre .0 .2)
-          (c .before .before .before .loop .inv .2),
-    )
+    numbers-room (now (start .args .game)) (now (start .args .mapping)) _ _ _ (c .before .before .loop-test .taken)
+    (start .pre .0 .1) (start .pre .0 .2) (c .before .before .before .loop .inv .2)
+
+mul-out : tie.Need-mul-out Inv-loop μ-loop
+mul-out c = omega (arith, room c)
 
 slice-write-out : tie.Need-slice-write-out Inv-loop μ-loop
-slice-write-out c =
-    let start = c .before .before .before .before .before .before .before in
-    omega (
-      arith,
-      numbers-room (now (start .args .game)) (now (start .args .mapping)) _ _ _
-          (c .before .before .loop-test .taken) (start .pre .0 .1) (start .pre .0 .2)
-          (c .before .before .before .loop .inv .2),
-    )
+slice-write-out c = room c
 
 add-next : tie.Need-add-next Inv-loop μ-loop
-add-next c =
-    let start = c .before .before .before .before .before .before .before in
-    omega (
-      arith,
-      numbers-room (now (start .args .game)) (now (start .args .mapping)) _ _ _
-          (c .before .before .loop-test .taken) (start .pre .0 .1) (start .pre .0 .2)
-          (c .before .before .before .loop .inv .2),
-    )
+add-next c = omega (arith, room c)
 
 add-place : tie.Need-add-place Inv-loop μ-loop
 add-place c = omega arith
@@ -75,14 +63,12 @@ loop-again c =
     let at-loop-test = c .before .before in
     let at-loop = at-loop-test .before in
     let start = at-loop .before .before .before .before in
-    let f : ℕ → ℕ = λ t. word (now (start .args .mapping)) t in
-    let room = numbers-room (now (start .args .game)) (now (start .args .mapping)) _ _ _
-    (at-loop-test .loop-test .taken) (start .pre .0 .1) (start .pre .0 .2) (at-loop .loop .inv .2) in (
+    let f : ℕ → ℕ = λ t. word (now (start .args .mapping)) t in (
       omega arith,
       omega arith,
       carry-put f (now (start .args .game)) (at-loop .loop .place) (start .args .end) _
           (c .new-number .ensures ∙ ap f (c .before .vertex-at .ensures)) (at-loop-test .loop-test .taken)
-          (start .pre .0 .1) room (at-loop .loop .inv .2),
+          (start .pre .0 .1) (room c) (at-loop .loop .inv .2),
     )
 
 same-length : tie.Need-same-length Inv-loop μ-loop

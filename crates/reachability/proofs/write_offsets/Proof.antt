@@ -6,6 +6,7 @@ use lib.ListN.{take, length-set}
 use Rattle.rules.specs.Game.{edgeCount, offsets}
 use Rattle.rules.specs.Restrict.{keptVertices}
 use Rattle.words.proofs.Stretches.{Writing, turn, put, done}
+use Rattle.reachability.proofs.Stretches.{met-vertex}
 use Rattle.reachability.proofs.Stretches.{some-of, all-some, rises-read, count-more, offsets-next, offsets-last, offsets-room}
 use Rattle.reachability.proofs.write_offsets.Statement.{statement}
 use Rattle.reachability.proofs.write_offsets.Tie as tie
@@ -56,27 +57,13 @@ vertex-at-requires c κs =
 
 targets-from-requires : tie.Need-targets-from-requires Inv-loop μ-loop
 targets-from-requires c κs =
-    let start = c .before .before .before .before .before .before in (
-      start .pre .0 .good,
-      omega (
-        arith,
-        c .vertex-at .ensures,
-        start .pre .0 .inside (c .before .before .loop .i)
-            (c .before .loop-test .taken),
-      ),
-    )
+    let start = c .before .before .before .before .before .before in
+    met-vertex _ _ (start .pre .0) (c .before .loop-test .taken) (c .vertex-at .ensures)
 
 targets-end-requires : tie.Need-targets-end-requires Inv-loop μ-loop
 targets-end-requires c κs =
-    let start = c .before .before .before .before .before .before .before in (
-      start .pre .0 .good,
-      omega (
-        arith,
-        c .before .vertex-at .ensures,
-        start .pre .0 .inside (c .before .before .before .loop .i)
-            (c .before .before .loop-test .taken),
-      ),
-    )
+    let start = c .before .before .before .before .before .before .before in
+    met-vertex _ _ (start .pre .0) (c .before .before .loop-test .taken) (c .before .vertex-at .ensures)
 
 sub-edges : tie.Need-sub-edges Inv-loop μ-loop
 sub-edges c =

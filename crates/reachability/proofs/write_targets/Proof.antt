@@ -11,6 +11,7 @@ use Rattle.rules.specs.Game.{vertexCount}
 use Rattle.rules.specs.Restrict.{keptVertices}
 use Rattle.words.proofs.Stretches.{Writing, turn, called, done}
 use Rattle.reachability.proofs.Edges.{edges-past, edges-end, leads-at}
+use Rattle.reachability.proofs.Stretches.{met-vertex}
 use Rattle.reachability.proofs.Stretches.{some-of, all-some, rises-read, count-more, targets-next, targets-last, targets-room}
 use Rattle.reachability.proofs.write_targets.Statement.{statement}
 use Rattle.reachability.proofs.write_targets.Tie as tie
@@ -39,27 +40,13 @@ vertex-at-requires c κs =
 
 targets-from-requires : tie.Need-targets-from-requires Inv-loop μ-loop
 targets-from-requires c κs =
-    let start = c .before .before .before .before .before .before .before in (
-      start .pre .0 .good,
-      omega (
-        arith,
-        c .vertex-at .ensures,
-        start .pre .0 .inside (c .before .before .loop .i)
-            (c .before .loop-test .taken),
-      ),
-    )
+    let start = c .before .before .before .before .before .before .before in
+    met-vertex _ _ (start .pre .0) (c .before .loop-test .taken) (c .vertex-at .ensures)
 
 targets-end-requires : tie.Need-targets-end-requires Inv-loop μ-loop
 targets-end-requires c κs =
-    let start = c .before .before .before .before .before .before .before .before in (
-      start .pre .0 .good,
-      omega (
-        arith,
-        c .before .vertex-at .ensures,
-        start .pre .0 .inside (c .before .before .before .loop .i)
-            (c .before .before .loop-test .taken),
-      ),
-    )
+    let start = c .before .before .before .before .before .before .before .before in
+    met-vertex _ _ (start .pre .0) (c .before .before .loop-test .taken) (c .before .vertex-at .ensures)
 
 write-numbers-requires : tie.Need-write-numbers-requires Inv-loop μ-loop
 write-numbers-requires c κs =

@@ -8,10 +8,10 @@ use Rattle.restricts.proofs.main.Statement.{statement}
 use Rattle.restricts.proofs.main.Tie as tie
 
 abbrev Inv-loop : tie.InvT-loop
-Inv-loop text end game₀ p₀ game p = (length text ≡ 65536) × (end ≤ 65536) × (length game ≡ 4096) × (p ≤ end)
+Inv-loop text end game₀ place₀ game place = (length text ≡ 65536) × (end ≤ 65536) × (length game ≡ 4096) × (place ≤ end)
 
 abbrev μ-loop : tie.MeasureT-loop
-μ-loop text end game₀ p₀ game p = end - p
+μ-loop text end game₀ place₀ game place = end - place
 
 slice-aggregate-read-full : tie.Need-slice-aggregate-read-full Inv-loop μ-loop
 slice-aggregate-read-full c = search needs
@@ -67,14 +67,14 @@ one-requires c κs =
     let l = length-take-le (c .before .before .before .length-at .result) (at-loop .loop .game) (omega arith) in
     omega (arith, l)
 
-mul-p : tie.Need-mul-p Inv-loop μ-loop
-mul-p c = omega arith
+mul-place : tie.Need-mul-place Inv-loop μ-loop
+mul-place c = omega arith
 
-add-p : tie.Need-add-p Inv-loop μ-loop
-add-p c = omega arith
+add-place : tie.Need-add-place Inv-loop μ-loop
+add-place c = omega arith
 
-add-p-2 : tie.Need-add-p-2 Inv-loop μ-loop
-add-p-2 c = omega arith
+add-place-2 : tie.Need-add-place-2 Inv-loop μ-loop
+add-place-2 c = omega arith
 
 loop-less : tie.Need-loop-less Inv-loop μ-loop
 loop-less c = omega arith
@@ -114,9 +114,9 @@ main-spec =
     array-borrow-prefix-game
     slice-aggregate-one-2
     one-requires
-    mul-p
-    add-p
-    add-p-2
+    mul-place
+    add-place
+    add-place-2
     loop-less
     loop-again
     returns-2)

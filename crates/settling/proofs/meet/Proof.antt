@@ -4,12 +4,7 @@ use Rattle.pairs.proofs.Uses.{full-by}
 use borrow.Author.Needs.{needs}
 use Rattle.settling.proofs.meet.Statement.{statement}
 use Rattle.settling.proofs.meet.Tie as tie
-use Rattle.settling.proofs.meet.Reads as reads
-use Rattle.settling.proofs.meet.Lts as lts
-use Rattle.pairs.proofs.number.Reads as number-reads
-use Rattle.words.proofs.put_word.Reads as put-word-reads
 
--- src/lib.rt:67:11
 number-requires : tie.Need-number-requires
 number-requires c κs =
     let start = c .before .before .before in
@@ -17,21 +12,17 @@ number-requires c κs =
     let f = start .pre .1 .1 in
     (start .pre .0, record { some = r .some; most = r .most; whole = omega (arith, r .whole); state-fits = f .state-fits; item-fits = f .item-fits; table = r .table })
 
--- src/lib.rt:68:28
 enum-known-vertex : tie.Need-enum-known-vertex
 enum-known-vertex c = search needs
 
--- src/lib.rt:70:17
 same-length : tie.Need-same-length
 same-length c = search needs
 
--- src/lib.rt:70:17
 returns : tie.Need-returns
 returns c =
     let at-number = c .before .before .before .before .before .before in
     met-old _ _ _ _ _ _ (at-number .number .ensures) _ _ (c .before .before .vertex .given .1) _ (c .if1 .taken)
 
--- src/lib.rt:76:13
 put-word-requires : tie.Need-put-word-requires
 put-word-requires c κs =
     let at-number = c .before .before .before .before .before .before .before in
@@ -43,19 +34,15 @@ put-word-requires c κs =
       word = omega (arith, start .pre .1 .0 .stack, room);
     }
 
--- src/lib.rt:80:26
-add-t21 : tie.Need-add-t21
-add-t21 c = search needs
+add-t20 : tie.Need-add-t20
+add-t20 c = search needs
 
--- src/lib.rt:83:29
 enum-told : tie.Need-enum-told
 enum-told c = search needs
 
--- src/lib.rt:52:1
 same-length-2 : tie.Need-same-length-2
 same-length-2 c = search needs
 
--- src/lib.rt:52:1
 returns-2 : tie.Need-returns-2
 returns-2 c =
     let at-if1 = c .before .before .before .before in
@@ -66,11 +53,9 @@ returns-2 c =
     met-new _ _ _ _ _ _ (at-number .number .ensures) _ _ (at-vertex .vertex .given .1) _ _ (at-if1 .if1 .left)
     (omega (arith, start .pre .1 .0 .stack, room)) (omega (arith, start .pre .1 .0 .whole, at-number .number .kept .1 .0)) (c .before .before .put-word .ensures)
 
--- src/lib.rt:52:1
 same-length-3 : tie.Need-same-length-3
 same-length-3 c = search needs
 
--- src/lib.rt:52:1
 returns-3 : tie.Need-returns-3
 returns-3 c =
     let at-number = c .before .before .before .before in
@@ -85,7 +70,7 @@ meet-spec =
     same-length
     returns
     put-word-requires
-    add-t21
+    add-t20
     enum-told
     same-length-2
     returns-2

@@ -2,14 +2,10 @@ use Rattle.settling.proofs.Operands.{second}
 use borrow.Author.Needs.{needs}
 use Rattle.settling.proofs.operand.Statement.{statement}
 use Rattle.settling.proofs.operand.Tie as tie
-use Rattle.settling.proofs.operand.Reads as reads
-use Rattle.settling.proofs.operand.Lts as lts
 
--- src/lib.rt:177:9
 returns : tie.Need-returns
 returns c = search needs
 
--- src/lib.rt:172:1
 returns-2 : tie.Need-returns-2
 returns-2 c = second _ _ _ (c .before .pre) (c .if1 .left)
 

@@ -1,6 +1,6 @@
 use mathlib.Core.Path.{sym, subst}
 use mathlib.Core.List.{[], _∷_}
-use Prim.Native.Nat.{_-_, _<_}
+use Prim.Native.Nat.{_-_}
 use native.Mathlib.Omega.{arith}
 use Rattle.pairs.specs.Slot.{keyOf}
 use Rattle.settling.specs.Made.{Fitting, Answer}
@@ -8,11 +8,6 @@ use Rattle.settling.proofs.Operands.{Settling, settling-start, settling
 use borrow.Author.Needs.{needs}
 use Rattle.settling.proofs.settle_operands.Statement.{statement}
 use Rattle.settling.proofs.settle_operands.Tie as tie
-use Rattle.settling.proofs.settle_operands.Reads as reads
-use Rattle.settling.proofs.settle_operands.Lts as lts
-use Rattle.pairs.proofs.product.Reads as product-reads
-use Rattle.settling.proofs.number_target.Reads as number-target-reads
-use Rattle.settling.proofs.operand.Reads as operand-reads
 
 abbrev Inv-loop : tie.InvT-loop
 Inv-loop multiples work₀ room state left right count so-far₀ i₀ work so-far i = Settling work₀ (room .vertices) (room .edges) so-far₀ (keyOf state left ∷ keyOf state right ∷ []) count work so-far i
@@ -20,42 +15,34 @@ Inv-loop multiples work₀ room state left right count so-far₀ i₀ work so-fa
 abbrev μ-loop : tie.MeasureT-loop
 μ-loop multiples work₀ room state left right count so-far₀ i₀ work so-far i = count - i
 
--- src/lib.rt:205:5
 loop-holds : tie.Need-loop-holds Inv-loop μ-loop
 loop-holds c = settling-start _ _ _ _ _ _ (c .before .before .pre .1 .0 .0)
 
--- src/lib.rt:206:13
 operand-requires : tie.Need-operand-requires Inv-loop μ-loop
 operand-requires c κs =
     let start = c .before .before .before .before in
     omega (arith, c .loop-test .taken, start .pre .1 .0 .2)
 
--- src/lib.rt:207:13
 product-requires : tie.Need-product-requires Inv-loop μ-loop
 product-requires c κs =
     let start = c .before .before .before .before .before in
     (start .pre .0, omega (arith, c .operand .ensures, operand-fits (start .args .state) _ _ _ _ (c .before .loop-test .taken) (start .pre .1 .0 .2) (start .pre .1 .0 .1) (start .pre .1 .1) .item-fits))
 
--- src/lib.rt:208:15
 number-target-requires : tie.Need-number-target-requires Inv-loop μ-loop
 number-target-requires c κs =
     let at-loop = c .before .before .before .before in
     let start = at-loop .before .before .before in
     (record { multiples = start .pre .0; product = c .before .product .ensures }, (at-loop .loop .inv .made .ready, subst (Fitting (start .args .state)) (sym (c .before .before .operand .ensures)) (operand-fits _ _ _ _ _ (c .before .before .before .loop-test .taken) (start .pre .1 .0 .2) (start .pre .1 .0 .1) (start .pre .1 .1))))
 
--- src/lib.rt:209:27
 enum-known-next : tie.Need-enum-known-next Inv-loop μ-loop
 enum-known-next c = search needs
 
--- src/lib.rt:213:17
 enum-told : tie.Need-enum-told Inv-loop μ-loop
 enum-told c = search needs
 
--- src/lib.rt:213:17
 same-length : tie.Need-same-length Inv-loop μ-loop
 same-length c = search needs
 
--- src/lib.rt:213:17
 returns : tie.Need-returns Inv-loop μ-loop
 returns c =
     let at-number-target = c .before .before .before .before in
@@ -64,15 +51,12 @@ returns c =
     settling-many _ _ _ _ _ _ _ _ (start .pre .1 .0 .2) _ (at-number-target .number-target .last .1 .1 .0) _ _ (at-loop-test .before .loop .inv) (at-loop-test .loop-test .taken) _ (at-number-target .before .before .before .operand .ensures)
     (subst (Answer _ _ _ _ _ _) (c .enum-told .given .1) (at-number-target .number-target .ensures))
 
--- src/lib.rt:216:9
 add-i : tie.Need-add-i Inv-loop μ-loop
 add-i c = search needs
 
--- src/lib.rt:205:5
 loop-less : tie.Need-loop-less Inv-loop μ-loop
 loop-less c = search needs
 
--- src/lib.rt:205:5
 loop-again : tie.Need-loop-again Inv-loop μ-loop
 loop-again c =
     let at-number-target = c .before .before .before .before .before in
@@ -81,11 +65,9 @@ loop-again c =
     settling-on _ _ _ _ _ _ _ _ (start .pre .1 .0 .2) _ _ _ _ (at-loop-test .before .loop .inv) (at-loop-test .loop-test .taken) _ (at-number-target .before .before .before .operand .ensures) _ (at-number-target .number-target .kept .1 .1 .0)
     (subst (Answer _ _ _ _ _ _) (c .before .next .given .1) (at-number-target .number-target .ensures))
 
--- src/lib.rt:187:1
 same-length-2 : tie.Need-same-length-2 Inv-loop μ-loop
 same-length-2 c = c .before .loop .inv .same
 
--- src/lib.rt:187:1
 returns-2 : tie.Need-returns-2 Inv-loop μ-loop
 returns-2 c =
     let start = c .before .before .before .before in

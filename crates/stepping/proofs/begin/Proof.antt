@@ -10,13 +10,6 @@ use Rattle.stepping.proofs.Starts.{empty-ready, start-full, start-made}
 use borrow.Author.Needs.{needs}
 use Rattle.stepping.proofs.begin.Statement.{statement}
 use Rattle.stepping.proofs.begin.Tie as tie
-use Rattle.stepping.proofs.begin.Reads as reads
-use Rattle.stepping.proofs.begin.Lts as lts
-use Rattle.compiled.proofs.multiples.Reads as multiples-reads
-use Rattle.pairs.proofs.product.Reads as product-reads
-use Rattle.pairs.proofs.start.Reads as start-reads
-use Rattle.settling.proofs.meet.Reads as meet-reads
-use Rattle.stepping.proofs.clear_region.Reads as clear-region-reads
 
 start-requires : tie.Need-start-requires
 start-requires c κs = search needs

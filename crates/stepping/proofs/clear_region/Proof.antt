@@ -4,9 +4,6 @@ use native.Mathlib.Omega.{arith}
 use Rattle.stepping.proofs.Starts.{Clearing, clearing-start, clearing-on, clearing-end}
 use Rattle.stepping.proofs.clear_region.Statement.{statement}
 use Rattle.stepping.proofs.clear_region.Tie as tie
-use Rattle.stepping.proofs.clear_region.Reads as reads
-use Rattle.stepping.proofs.clear_region.Lts as lts
-use Rattle.words.proofs.put_word.Reads as put-word-reads
 
 abbrev Inv-loop : tie.InvT-loop
 Inv-loop work₀ v area i₀ work i = Clearing work₀ v area work i

@@ -4,9 +4,6 @@ use mathlib.Core.Logic.{inl, inr}
 use borrow.Author.Needs.{needs}
 use Rattle.stepping.proofs.walk.Statement.{statement}
 use Rattle.stepping.proofs.walk.Tie as tie
-use Rattle.stepping.proofs.walk.Reads as reads
-use Rattle.stepping.proofs.walk.Lts as lts
-use Rattle.stepping.proofs.run_steps.Reads as run-steps-reads
 
 run-steps-requires : tie.Need-run-steps-requires
 run-steps-requires c κs = search needs
@@ -16,7 +13,7 @@ same-length c = search needs
 
 returns : tie.Need-returns
 returns c =
-    let at-run-steps = c .before .before .before .before .before .before .before in
+    let at-run-steps = c .before .before .before .before .before .before .before .before in
     at-run-steps .run-steps .ensures .many (c .before .before .if1 .taken) (c .if2 .taken)
 
 same-length-2 : tie.Need-same-length-2
@@ -24,7 +21,7 @@ same-length-2 c = search needs
 
 returns-2 : tie.Need-returns-2
 returns-2 c =
-    let at-run-steps = c .before .before .before .before .before .before .before in
+    let at-run-steps = c .before .before .before .before .before .before .before .before in
     at-run-steps .run-steps .ensures .made (inr (c .if2 .left))
 
 same-length-3 : tie.Need-same-length-3
@@ -32,7 +29,7 @@ same-length-3 c = search needs
 
 returns-3 : tie.Need-returns-3
 returns-3 c =
-    let at-run-steps = c .before .before .before .before .before in
+    let at-run-steps = c .before .before .before .before .before .before in
     at-run-steps .run-steps .ensures .made (inl (c .if1 .left))
 
 pub walk-spec : {M : Type 1} → statement M

@@ -1,4 +1,4 @@
--- `count_set` meets its contract: after i turns n of the first i words are not 0. Assumes nothing.
+-- `count_set` meets its contract: after i turns the count is that of the first i words. Assumes nothing.
 use mathlib.Core.Path.{_≡_, refl, ap, _∙_}
 use Prim.Native.Nat.{ℕ, _-_, _≤_}
 use native.Mathlib.Nat.{le-antisymm}
@@ -11,10 +11,10 @@ use Rattle.stored_runs.proofs.count_set.Statement.{statement}
 use Rattle.stored_runs.proofs.count_set.Tie as tie
 
 abbrev Inv-loop : tie.InvT-loop
-Inv-loop ws n₀ i₀ n i = (n ≡ setIn i ws) × (n ≤ i) × (i ≤ length ws)
+Inv-loop ws count₀ i₀ count i = (count ≡ setIn i ws) × (count ≤ i) × (i ≤ length ws)
 
 abbrev μ-loop : tie.MeasureT-loop
-μ-loop ws n₀ i₀ n i = length ws - i
+μ-loop ws count₀ i₀ count i = length ws - i
 
 loop-holds : tie.Need-loop-holds Inv-loop μ-loop
 unfolding setIn
@@ -29,8 +29,8 @@ shared-slice-read-set c = omega arith
 set-requires : tie.Need-set-requires Inv-loop μ-loop
 set-requires c κs = search needs
 
-add-n : tie.Need-add-n Inv-loop μ-loop
-add-n c = omega arith
+add-count : tie.Need-add-count Inv-loop μ-loop
+add-count c = omega arith
 
 add-i : tie.Need-add-i Inv-loop μ-loop
 add-i c = omega arith
@@ -41,7 +41,7 @@ loop-less c = omega arith
 loop-again : tie.Need-loop-again Inv-loop μ-loop
 loop-again c =
     let at-loop = c .before .before .before in (
-      set-more (at-loop .before .before .args .ws .now) (at-loop .loop .n) (at-loop .loop .i) (c .set .result)
+      set-more (at-loop .before .before .args .ws .now) (at-loop .loop .count) (at-loop .loop .i) (c .set .result)
           (c .set .ensures .0) (at-loop .loop .inv .0),
       omega arith,
       omega arith,
@@ -63,7 +63,7 @@ count-set-spec =
     mul-set
     shared-slice-read-set
     set-requires
-    add-n
+    add-count
     add-i
     loop-less
     loop-again

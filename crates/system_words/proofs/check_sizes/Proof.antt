@@ -6,47 +6,36 @@ use borrow.Author.Needs.{needs}
 use Rattle.system_words.proofs.check_sizes.Statement.{statement}
 use Rattle.system_words.proofs.check_sizes.Tie as tie
 
--- src/lib.rt:46:9
 returns : tie.Need-returns
 returns c = sym (first-fault _ (few-words _ (omega arith)))
 
--- src/lib.rt:48:9
 at-requires : tie.Need-at-requires
 at-requires c κs = search needs
 
--- src/lib.rt:49:9
 at-requires-2 : tie.Need-at-requires-2
 at-requires-2 c κs = search needs
 
--- src/lib.rt:50:20
 add-if2 : tie.Need-add-if2
 add-if2 c = search needs
 
--- src/lib.rt:50:33
 mul-if2 : tie.Need-mul-if2
 mul-if2 c = search needs
 
--- src/lib.rt:50:20
 add-if2-2 : tie.Need-add-if2-2
 add-if2-2 c = search needs
 
--- src/lib.rt:51:9
 returns-2 : tie.Need-returns-2
 returns-2 c = sym (first-fault _ (other-length _ (omega arith)))
 
--- src/lib.rt:54:9
 returns-3 : tie.Need-returns-3
 returns-3 c = sym (first-next _ (right-length _ (omega arith) (omega arith)) ∙ first-fault _ (no-state _ (omega arith)))
 
--- src/lib.rt:57:9
 returns-4 : tie.Need-returns-4
 returns-4 c = sym (first-next _ (right-length _ (omega arith) (omega arith)) ∙ first-fault _ (many-states _ (omega arith)))
 
--- src/lib.rt:60:9
 returns-5 : tie.Need-returns-5
 returns-5 c = sym (first-next _ (right-length _ (omega arith) (omega arith)) ∙ first-fault _ (many-transitions _ (omega arith)))
 
--- src/lib.rt:42:1
 returns-6 : tie.Need-returns-6
 returns-6 c = sym (first-next _ (right-length _ (omega arith) (omega arith)) ∙ first-next _ (right-sizes _ (omega arith) (omega arith) (omega arith)) ∙ first-none)
 

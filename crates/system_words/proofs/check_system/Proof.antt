@@ -8,33 +8,27 @@ use Rattle.system_words.proofs.check_system.Statement.{statement}
 use Rattle.system_words.proofs.check_system.Tie as tie
 use Rattle.tables.proofs.Faults.{first-fault-of, first-next-of}
 
--- src/lib.rt:93:9
 check-sizes-requires : tie.Need-check-sizes-requires
 check-sizes-requires c κs = search needs
 
--- src/lib.rt:95:22
 enum-known-sizes : tie.Need-enum-known-sizes
 enum-known-sizes c = search needs
 
--- src/lib.rt:96:26
 enum-told : tie.Need-enum-told
 enum-told c = search needs
 
--- src/lib.rt:96:26
 check-transitions-requires : tie.Need-check-transitions-requires
 check-transitions-requires c κs =
     let start = c .before .before .before .before .before in
     let s = sizes-passed _ (sym (c .before .before .check-sizes .ensures) ∙ c .enum-told .given .1) in
     ((start .pre, s .0), (s .1, s .2))
 
--- src/lib.rt:89:1
 returns : tie.Need-returns
 returns c =
     let start = c .before .before .before .before .before .before in
     let ss = now (start .args .system) in
     sym (first-fault-of (refusal21 ss ∷ refusal22 ss ∷ []) _ (sym (c .before .before .before .check-sizes .ensures) ∙ c .before .sizes .given .1))
 
--- src/lib.rt:89:1
 returns-2 : tie.Need-returns-2
 returns-2 c =
     let start = c .before .before .before .before .before .before in

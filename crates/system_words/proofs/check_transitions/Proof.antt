@@ -6,65 +6,50 @@ use borrow.Author.Needs.{needs}
 use Rattle.system_words.proofs.check_transitions.Statement.{statement}
 use Rattle.system_words.proofs.check_transitions.Tie as tie
 
--- src/lib.rt:71:9
 at-requires : tie.Need-at-requires
 at-requires c κs = search needs
 
--- src/lib.rt:72:9
 at-requires-2 : tie.Need-at-requires-2
 at-requires-2 c κs = search needs
 
--- src/lib.rt:73:18
 at-requires-3 : tie.Need-at-requires-3
 at-requires-3 c κs = search needs
 
--- src/lib.rt:74:9
 returns : tie.Need-returns
 returns c = sym (first-fault _ (wrong-initial _ (omega arith)))
 
--- src/lib.rt:76:8
 sum-words-requires : tie.Need-sum-words-requires
 sum-words-requires c κs = search needs
 
--- src/lib.rt:77:9
 returns-2 : tie.Need-returns-2
 returns-2 c =
     let at-at = c .before .before .before .before .before in
     sym (first-next _ (right-initial _ (omega arith)) ∙ first-fault _ (wrong-degrees _ _ (at-at .at .ensures .0) (omega arith)))
 
--- src/lib.rt:79:17
 add-numbers : tie.Need-add-numbers
 add-numbers c = search needs
 
--- src/lib.rt:80:19
 add-targets : tie.Need-add-targets
 add-targets c = search needs
 
--- src/lib.rt:81:51
 at-requires-4 : tie.Need-at-requires-4
 at-requires-4 c κs = search needs
 
--- src/lib.rt:81:9
 check-below-requires : tie.Need-check-below-requires
 check-below-requires c κs = search needs
 
--- src/lib.rt:83:22
 enum-known-checked : tie.Need-enum-known-checked
 enum-known-checked c = search needs
 
--- src/lib.rt:84:51
 enum-told : tie.Need-enum-told
 enum-told c = search needs
 
--- src/lib.rt:84:51
 add-check-below : tie.Need-add-check-below
 add-check-below c = search needs
 
--- src/lib.rt:84:26
 check-below-requires-2 : tie.Need-check-below-requires-2
 check-below-requires-2 c κs = search needs
 
--- src/lib.rt:66:1
 returns-3 : tie.Need-returns-3
 returns-3 c =
     let at-at4 = c .before .before .before .before in
@@ -73,7 +58,6 @@ returns-3 c =
     sym (first-next _ (right-initial _ (omega arith)) ∙ first-next _ (right-degrees _ _ (at-at .at .ensures .0) (omega arith))
     ∙ first-fault _ (names-at _ _ _ (at-at .at .ensures .0) (at-at2 .at2 .ensures .0) _ _ (at-at4 .at4 .ensures .0) ∙ sym (c .before .before .before .check-below .ensures) ∙ c .before .checked .given .1))
 
--- src/lib.rt:66:1
 returns-4 : tie.Need-returns-4
 returns-4 c =
     let at-at4 = c .before .before .before .before in

@@ -15,38 +15,30 @@ Inv-loop ws p n sum₀ i₀ sum i = (i ≤ n) × (sum ≤ 4294967295 * i) × (su
 abbrev μ-loop : tie.MeasureT-loop
 μ-loop ws p n sum₀ i₀ sum i = n - i
 
--- src/lib.rt:19:5
 loop-holds : tie.Need-loop-holds Inv-loop μ-loop
 loop-holds c = (omega arith, omega arith, sym (sum-none _ _))
 
--- src/lib.rt:20:30
 add-at : tie.Need-add-at Inv-loop μ-loop
 add-at c = search needs
 
--- src/lib.rt:20:16
 at-requires : tie.Need-at-requires Inv-loop μ-loop
 at-requires c κs = search needs
 
--- src/lib.rt:20:9
 add-sum : tie.Need-add-sum Inv-loop μ-loop
 add-sum c = search needs
 
--- src/lib.rt:21:9
 add-i : tie.Need-add-i Inv-loop μ-loop
 add-i c = search needs
 
--- src/lib.rt:19:5
 loop-less : tie.Need-loop-less Inv-loop μ-loop
 loop-less c = search needs
 
--- src/lib.rt:19:5
 loop-again : tie.Need-loop-again Inv-loop μ-loop
 loop-again c =
     let start = c .before .before .before .before in
     let a = start .args in
     omega (arith, sum-more (now (a .ws)) (a .first) (c .before .before .loop .i))
 
--- src/lib.rt:13:1
 returns : tie.Need-returns Inv-loop μ-loop
 returns c =
     let at-loop = c .before in

@@ -2,22 +2,16 @@ use mathlib.Core.Path.{sym}
 use borrow.Author.Tests.{lt-ltb, le-ltb}
 use Rattle.table_words.proofs.bad_number.Statement.{statement}
 use Rattle.table_words.proofs.bad_number.Tie as tie
-use Rattle.table_words.proofs.bad_number.Reads as reads
-use Rattle.table_words.proofs.bad_number.Lts as lts
 
--- src/lib.rt:114:9
 returns : tie.Need-returns
 returns c = sym (rw (lt-ltb _ _ (c .if1 .taken)))
 
--- src/lib.rt:117:9
 returns-2 : tie.Need-returns-2
 returns-2 c = sym (rw (le-ltb _ _ (c .before .if1 .left), lt-ltb _ _ (c .if2 .taken)))
 
--- src/lib.rt:120:9
 returns-3 : tie.Need-returns-3
 returns-3 c = sym (rw (le-ltb _ _ (c .before .before .if1 .left), le-ltb _ _ (c .before .if2 .left), lt-ltb _ _ (c .if3 .taken)))
 
--- src/lib.rt:110:1
 returns-4 : tie.Need-returns-4
 returns-4 c = sym (rw (le-ltb _ _ (c .before .before .if1 .left), le-ltb _ _ (c .before .if2 .left), le-ltb _ _ (c .if3 .left)))
 

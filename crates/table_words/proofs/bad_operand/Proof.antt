@@ -4,54 +4,37 @@ use Rattle.table_words.proofs.Judged.{right-judged, action-number, form
 use borrow.Author.Needs.{needs}
 use Rattle.table_words.proofs.bad_operand.Statement.{statement}
 use Rattle.table_words.proofs.bad_operand.Tie as tie
-use Rattle.table_words.proofs.bad_operand.Reads as reads
-use Rattle.table_words.proofs.bad_operand.Lts as lts
-use Rattle.table_words.proofs.bad_number.Reads as bad-number-reads
-use Rattle.table_words.proofs.children_at.Reads as children-at-reads
-use Rattle.table_words.proofs.not_right_child.Reads as not-right-child-reads
-use Rattle.words.proofs.kind_at.Reads as kind-at-reads
-use Rattle.words.proofs.operand_at.Reads as operand-at-reads
 
--- src/lib.rt:132:9
 operand-at-requires : tie.Need-operand-at-requires
 operand-at-requires c κs = search needs
 
--- src/lib.rt:133:8
 children-at-requires : tie.Need-children-at-requires
 children-at-requires c κs = search needs
 
--- src/lib.rt:134:9
 not-right-child-requires : tie.Need-not-right-child-requires
 not-right-child-requires c κs = search needs
 
--- src/lib.rt:134:9
 returns : tie.Need-returns
 returns c =
     let at-operand-at = c .before .before .before in
     let start = at-operand-at .before .before in
     λ names j. c .not-right-child .ensures (childrenOf (start .args .table) (start .args .ws .now)) (start .pre .2) ∙ right-judged names (start .args .ws .now) (start .args .node) (start .pre .1) (at-operand-at .operand-at .result) (at-operand-at .operand-at .ensures) (start .args .table) (sym (c .before .before .children-at .ensures) ∙ c .before .if1 .taken)
 
--- src/lib.rt:136:9
 kind-at-requires : tie.Need-kind-at-requires
 kind-at-requires c κs = search needs
 
--- src/lib.rt:138:27
 enum-told : tie.Need-enum-told
 enum-told c = search needs
 
--- src/lib.rt:138:27
 bad-number-requires : tie.Need-bad-number-requires
 bad-number-requires c κs = search needs
 
--- src/lib.rt:139:27
 enum-told-2 : tie.Need-enum-told-2
 enum-told-2 c = search needs
 
--- src/lib.rt:139:27
 bad-number-requires-2 : tie.Need-bad-number-requires-2
 bad-number-requires-2 c κs = search needs
 
--- src/lib.rt:127:1
 returns-2 : tie.Need-returns-2
 returns-2 c =
     let at-enum-told = c .before in
@@ -60,7 +43,6 @@ returns-2 c =
     let start = at-operand-at .before .before in
     λ names j. rw (at-enum-told .enum-told .given .1) (c .bad-number .ensures ∙ action-number names (start .args .ws .now) (start .args .node) (start .pre .1) (at-operand-at .operand-at .result) (at-operand-at .operand-at .ensures) (at-kind-at .kind-at .result) (at-kind-at .kind-at .ensures) (start .args .unnamed) j (λ e. at-kind-at .before .if1 .left (at-kind-at .before .before .children-at .ensures ∙ ap (λ t. childrenOf t (start .args .ws .now) (start .args .node)) (at-enum-told .enum-told .given .1) ∙ e)))
 
--- src/lib.rt:127:1
 returns-3 : tie.Need-returns-3
 returns-3 c =
     let at-enum-told2 = c .before in

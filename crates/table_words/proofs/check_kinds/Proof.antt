@@ -17,45 +17,36 @@ Inv-loop ws most number m v₀ v = faultFrom number 0 (size ws) (λ j. ltb most 
 abbrev μ-loop : tie.MeasureT-loop
 μ-loop ws most number m v₀ v = m - v
 
--- src/lib.rt:114:9
 at-requires : tie.Need-at-requires Inv-loop μ-loop
 at-requires c κs = search needs
 
--- src/lib.rt:116:5
 loop-holds : tie.Need-loop-holds Inv-loop μ-loop
 loop-holds c = refl
 
--- src/lib.rt:117:19
 kind-at-requires : tie.Need-kind-at-requires Inv-loop μ-loop
 kind-at-requires c κs = search needs
 
--- src/lib.rt:118:41
 cast-t8 : tie.Need-cast-t8 Inv-loop μ-loop
 cast-t8 c = search needs
 
--- src/lib.rt:118:13
 returns : tie.Need-returns Inv-loop μ-loop
 returns c =
     let at-loop = c .before .before .before in
     let a = at-loop .before .before .before .args in
     sym (at-loop .loop .inv ∙ from-stop _ _ _ _ (omega arith) (lt-ltb (a .most) (kind (now (a .ws)) (at-loop .loop .node)) (omega arith)))
 
--- src/lib.rt:120:9
 add-node : tie.Need-add-node Inv-loop μ-loop
 add-node c = search needs
 
--- src/lib.rt:116:5
 loop-less : tie.Need-loop-less Inv-loop μ-loop
 loop-less c = search needs
 
--- src/lib.rt:116:5
 loop-again : tie.Need-loop-again Inv-loop μ-loop
 loop-again c =
     let at-loop = c .before .before .before in
     let a = at-loop .before .before .before .args in
     at-loop .loop .inv ∙ from-next _ _ _ _ (le-ltb (a .most) (kind (now (a .ws)) (at-loop .loop .node)) (omega arith))
 
--- src/lib.rt:110:1
 returns-2 : tie.Need-returns-2 Inv-loop μ-loop
 returns-2 c = sym (c .before .loop .inv ∙ from-done _ _ _ _ (omega arith))
 

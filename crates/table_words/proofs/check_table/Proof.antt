@@ -4,62 +4,46 @@ use Rattle.table_words.proofs.Checks.{no-words, other-length, few-nodes
 use borrow.Author.Needs.{needs}
 use Rattle.table_words.proofs.check_table.Statement.{statement}
 use Rattle.table_words.proofs.check_table.Tie as tie
-use Rattle.table_words.proofs.check_table.Reads as reads
-use Rattle.table_words.proofs.check_table.Lts as lts
-use Rattle.table_words.proofs.check_kinds.Reads as check-kinds-reads
-use Rattle.words.proofs.at.Reads as at-reads
 
--- src/lib.rt:147:9
 returns : tie.Need-returns
 returns c = sym (no-words _ _ _ (c .before .before .args .ws .now) (omega arith))
 
--- src/lib.rt:149:9
 at-requires : tie.Need-at-requires
 at-requires c κs = search needs
 
--- src/lib.rt:150:24
 mul-if2 : tie.Need-mul-if2
 mul-if2 c = search needs
 
--- src/lib.rt:150:20
 add-if2 : tie.Need-add-if2
 add-if2 c = search needs
 
--- src/lib.rt:151:9
 returns-2 : tie.Need-returns-2
 returns-2 c =
     let start = c .before .before .before .before in
     sym (other-length _ _ _ (start .args .ws .now) (omega arith))
 
--- src/lib.rt:154:29
 add-t10 : tie.Need-add-t10
 add-t10 c = search needs
 
--- src/lib.rt:154:9
 returns-3 : tie.Need-returns-3
 returns-3 c =
     let start = c .before .before .before .before .before in
     sym (few-nodes _ _ _ (start .args .ws .now) (omega arith) (omega arith))
 
--- src/lib.rt:157:29
 add-t11 : tie.Need-add-t11
 add-t11 c = search needs
 
--- src/lib.rt:157:9
 returns-4 : tie.Need-returns-4
 returns-4 c =
     let start = c .before .before .before .before .before .before in
     sym (many-nodes _ _ _ (start .args .ws .now) (omega arith) (omega arith))
 
--- src/lib.rt:159:27
 add-check-kinds : tie.Need-add-check-kinds
 add-check-kinds c = search needs
 
--- src/lib.rt:159:5
 check-kinds-requires : tie.Need-check-kinds-requires
 check-kinds-requires c κs = search needs
 
--- src/lib.rt:142:1
 returns-5 : tie.Need-returns-5
 returns-5 c =
     let start = c .before .before .before .before .before .before .before in

@@ -4,27 +4,21 @@ use borrow.Author.Needs.{needs}
 use Rattle.table_words.proofs.children_at.Statement.{statement}
 use Rattle.table_words.proofs.children_at.Tie as tie
 
--- src/lib.rt:40:9
 kind-at-requires : tie.Need-kind-at-requires
 kind-at-requires c κs = search needs
 
--- src/lib.rt:42:27
 enum-told : tie.Need-enum-told
 enum-told c = search needs
 
--- src/lib.rt:42:27
 children-by-requires : tie.Need-children-by-requires
 children-by-requires c κs = search needs
 
--- src/lib.rt:43:27
 enum-told-2 : tie.Need-enum-told-2
 enum-told-2 c = search needs
 
--- src/lib.rt:43:27
 children-by-requires-2 : tie.Need-children-by-requires-2
 children-by-requires-2 c κs = search needs
 
--- src/lib.rt:36:1
 returns : tie.Need-returns
 returns c =
     let start = c .before .before .before .before .before in
@@ -33,7 +27,6 @@ returns c =
     ∙ action-count _ _ _ (start .pre .1)
     (c .before .before .before .kind-at .ensures))
 
--- src/lib.rt:36:1
 returns-2 : tie.Need-returns-2
 returns-2 c =
     let start = c .before .before .before .before .before in

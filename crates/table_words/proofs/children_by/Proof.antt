@@ -3,20 +3,16 @@ use borrow.Author.Tests.{lt-ltb, le-ltb}
 use Rattle.table_words.proofs.children_by.Statement.{statement}
 use Rattle.table_words.proofs.children_by.Tie as tie
 
--- src/lib.rt:24:9
 returns : tie.Need-returns
 returns c = sym (rw (lt-ltb _ _ (c .if1 .taken)))
 
--- src/lib.rt:27:9
 returns-2 : tie.Need-returns-2
 returns-2 c = sym (rw (le-ltb _ _ (c .before .if1 .left), lt-ltb _ _ (c .if2 .taken)))
 
--- src/lib.rt:30:9
 returns-3 : tie.Need-returns-3
 returns-3 c =
     sym (rw (le-ltb _ _ (c .before .before .if1 .left), le-ltb _ _ (c .before .if2 .left), lt-ltb _ _ (c .if3 .taken)))
 
--- src/lib.rt:20:1
 returns-4 : tie.Need-returns-4
 returns-4 c =
     sym (rw (le-ltb _ _ (c .before .before .if1 .left), le-ltb _ _ (c .before .if2 .left), le-ltb _ _ (c .if3 .left)))

@@ -18,11 +18,9 @@ Inv-loop ws ends firsts₀ m v₀ firsts v =
 abbrev μ-loop : tie.MeasureT-loop
 μ-loop ws ends firsts₀ m v₀ firsts v = size ws + 1 - v
 
--- src/lib.rt:101:9
 at-requires : tie.Need-at-requires Inv-loop μ-loop
 at-requires c κs = search needs
 
--- src/lib.rt:103:5
 loop-holds : tie.Need-loop-holds Inv-loop μ-loop
 loop-holds c =
     let start = c .before .before in (
@@ -32,19 +30,15 @@ loop-holds c =
           (now (start .args .firsts)) (start .pre .1 .1),
     )
 
--- src/lib.rt:104:9
 element-write-firsts : tie.Need-element-write-firsts Inv-loop μ-loop
 element-write-firsts c = search needs
 
--- src/lib.rt:105:13
 mul-node : tie.Need-mul-node Inv-loop μ-loop
 mul-node c = search needs
 
--- src/lib.rt:105:13
 element-copy-out-node : tie.Need-element-copy-out-node Inv-loop μ-loop
 element-copy-out-node c = search needs
 
--- src/lib.rt:103:5
 loop-less : tie.Need-loop-less Inv-loop μ-loop
 loop-less c =
     let start = c .before .before .before .before .before in
@@ -53,7 +47,6 @@ loop-less c =
     let k = start .pre .1 .0 .1 (l .node) (omega arith) in
     omega (arith, end-number-past (start .pre .1 .0 .0) n (l .node) (omega arith))
 
--- src/lib.rt:103:5
 loop-again : tie.Need-loop-again Inv-loop μ-loop
 loop-again c =
     let start = c .before .before .before .before .before in
@@ -67,7 +60,6 @@ loop-again c =
           (l .inv .2 children known),
     )
 
--- src/lib.rt:95:1
 returns : tie.Need-returns Inv-loop μ-loop
 returns c =
     let start = c .before .before .before .before in

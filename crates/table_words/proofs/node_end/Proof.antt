@@ -11,48 +11,29 @@ use borrow.Author.Needs.{needs}
 use Rattle.table_words.proofs.node_end.Statement.{statement}
 use Rattle.table_words.proofs.node_end.Tie as tie
 
--- src/lib.rt:67:9
 children-at-requires : tie.Need-children-at-requires
 children-at-requires c κs = search needs
 
--- src/lib.rt:69:16
 add-result : tie.Need-add-result
 add-result c = search needs
 
--- src/lib.rt:69:9
 returns : tie.Need-returns
 returns c = sym (end-number-leaf _ _ _ (c .before .before .before .pre .0 .1) (cc))
 
--- src/lib.rt:71:20
 add-end : tie.Need-add-end
 add-end c = search needs
 
--- src/lib.rt:71:15
 mul-end : tie.Need-mul-end
 mul-end c = search needs
 
--- src/lib.rt:71:15
 element-copy-out-end : tie.Need-element-copy-out-end
 element-copy-out-end c = search needs
 
--- src/lib.rt:73:9
 returns-2 : tie.Need-returns-2
 returns-2 c =
     let start = c .before .before .before .before .before in
     start .pre .1 (start .args .node + 1) (omega arith) (omega arith) ∙ sym (end-number-one _ _ _ (start .pre .0 .1) (cc))
 
--- src/lib.rt:75:5
-mul-result : tie.Need-mul-result
-mul-result c =
-    let start = c .before .before .before .before .before in
-    let k = start .pre .1 (start .args .node + 1) (omega arith) (omega arith) in
-    omega (
-      arith,
-      end-number-most (childrenOf (start .args .table) (now (start .args .ws))) (size (now (start .args .ws)))
-          (start .args .node + 1),
-    )
-
--- src/lib.rt:75:5
 element-copy-out-result : tie.Need-element-copy-out-result
 element-copy-out-result c =
     let start = c .before .before .before .before .before in
@@ -63,7 +44,9 @@ element-copy-out-result c =
           (start .args .node + 1),
     )
 
--- src/lib.rt:62:1
+mul-result : tie.Need-mul-result
+mul-result c = omega (arith, element-copy-out-result c)
+
 returns-3 : tie.Need-returns-3
 returns-3 c =
     let start = c .before .before .before .before .before .before in

@@ -8,23 +8,18 @@ use borrow.Author.Needs.{needs}
 use Rattle.table_words.proofs.not_right_child.Statement.{statement}
 use Rattle.table_words.proofs.not_right_child.Tie as tie
 
--- src/lib.rt:100:20
 add-end : tie.Need-add-end
 add-end c = search needs
 
--- src/lib.rt:100:15
 mul-end : tie.Need-mul-end
 mul-end c = search needs
 
--- src/lib.rt:100:15
 element-copy-out-end : tie.Need-element-copy-out-end
 element-copy-out-end c = search needs
 
--- src/lib.rt:101:8
 at-requires : tie.Need-at-requires
 at-requires c κs = search needs
 
--- src/lib.rt:102:9
 returns : tie.Need-returns
 returns c =
     let start = c .before .before .before .before in
@@ -32,7 +27,6 @@ returns c =
     let k = known (start .args .node + 1) (omega arith) in
     sym (not-end-unfinished _ _ _ _ (omega arith))
 
--- src/lib.rt:95:1
 returns-2 : tie.Need-returns-2
 returns-2 c =
     let start = c .before .before .before .before in

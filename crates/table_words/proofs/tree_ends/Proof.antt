@@ -19,39 +19,30 @@ Inv-loop ws table ends₀ m v₀ ends v =
 abbrev μ-loop : tie.MeasureT-loop
 μ-loop ws table ends₀ m v₀ ends v = v
 
--- src/lib.rt:83:9
 at-requires : tie.Need-at-requires Inv-loop μ-loop
 at-requires c κs = search needs
 
--- src/lib.rt:84:19
 add-ends : tie.Need-add-ends Inv-loop μ-loop
 add-ends c = search needs
 
--- src/lib.rt:84:10
 add-ends-2 : tie.Need-add-ends-2 Inv-loop μ-loop
 add-ends-2 c = search needs
 
--- src/lib.rt:84:5
 mul-ends : tie.Need-mul-ends Inv-loop μ-loop
 mul-ends c = search needs
 
--- src/lib.rt:84:5
 element-write-ends : tie.Need-element-write-ends Inv-loop μ-loop
 element-write-ends c = search needs
 
--- src/lib.rt:85:15
 add-ends-3 : tie.Need-add-ends-3 Inv-loop μ-loop
 add-ends-3 c = search needs
 
--- src/lib.rt:85:5
 mul-ends-2 : tie.Need-mul-ends-2 Inv-loop μ-loop
 mul-ends-2 c = search needs
 
--- src/lib.rt:85:5
 element-write-ends-2 : tie.Need-element-write-ends-2 Inv-loop μ-loop
 element-write-ends-2 c = search needs
 
--- src/lib.rt:87:5
 loop-holds : tie.Need-loop-holds Inv-loop μ-loop
 loop-holds c =
     let start = c .before .before in
@@ -66,29 +57,23 @@ loop-holds c =
           (set-down f es (m + 1) top (m + 1) (omega arith) (omega (arith, out (m + 1) (omega arith))) (λ j h l. absurd (omega arith))),
     )
 
--- src/lib.rt:88:9
 sub-node : tie.Need-sub-node Inv-loop μ-loop
 sub-node c = search needs
 
--- src/lib.rt:89:13
 node-end-requires : tie.Need-node-end-requires Inv-loop μ-loop
 node-end-requires c κs =
     let start = c .before .before .before .before .before in
     ((start .pre .0, omega arith), λ j h l. c .before .before .loop .inv .2 j (omega arith) l)
 
--- src/lib.rt:90:9
 mul-ends-3 : tie.Need-mul-ends-3 Inv-loop μ-loop
 mul-ends-3 c = search needs
 
--- src/lib.rt:90:9
 element-write-ends-3 : tie.Need-element-write-ends-3 Inv-loop μ-loop
 element-write-ends-3 c = search needs
 
--- src/lib.rt:87:5
 loop-less : tie.Need-loop-less Inv-loop μ-loop
 loop-less c = search needs
 
--- src/lib.rt:87:5
 loop-again : tie.Need-loop-again Inv-loop μ-loop
 loop-again c =
     let start = c .before .before .before .before .before .before in
@@ -100,7 +85,6 @@ loop-again c =
           (λ j h k. l .inv .2 j (omega arith) k),
     )
 
--- src/lib.rt:79:1
 returns : tie.Need-returns Inv-loop μ-loop
 returns c =
     let at-loop = c .before in

@@ -49,7 +49,7 @@ put-decimal-put-byte-requires : (t : ℕ) → put-decimal-lts.Need-put-byte-requ
 ) (put-decimal-at t) put-decimal.Post
 put-decimal-put-byte-requires t c κs =
     let s = c .before .before .before .before in
-    omega (arith, s .pre .1, ap length (decimal-one (s .args .n) (c .before .before .if1 .taken)))
+    omega (arith, s .pre .1, ap length (decimal-one (s .args .number) (c .before .before .if1 .taken)))
 
 put-decimal-same-length : (t : ℕ) → put-decimal-lts.Need-same-length (
   digit-reads.Asked,
@@ -73,7 +73,7 @@ put-decimal-returns t c =
     let s = c .before .before .before .before .before .before .before in
     wrote-as
     (ap (λ (d : ℕ). d ∷ []) (c .before .before .before .digit .ensures)
-    ∙ sym (decimal-one (s .args .n) (c .before .before .before .before .before .if1 .taken)))
+    ∙ sym (decimal-one (s .args .number) (c .before .before .before .before .before .if1 .taken)))
     (c .before .before .put-byte .ensures)
 
 put-decimal-put-decimal-requires : (t : ℕ) → put-decimal-lts.Need-put-decimal-requires (
@@ -86,8 +86,8 @@ put-decimal-put-decimal-requires : (t : ℕ) → put-decimal-lts.Need-put-decima
 ) (put-decimal-at t) put-decimal.Post
 put-decimal-put-decimal-requires t c κs =
     let s = c .before .before .before in
-    let m = decimal-more (s .args .n) (c .before .if1 .left) in
-    let l = length-append (decimal (s .args .n / 10)) ((48 + s .args .n % 10) ∷ []) in
+    let m = decimal-more (s .args .number) (c .before .if1 .left) in
+    let l = length-append (decimal (s .args .number / 10)) ((48 + s .args .number % 10) ∷ []) in
     (omega (arith, s .pre .0, c .before .if1 .left), omega (arith, s .pre .1, ap length m, l))
 
 put-decimal-digit-requires-2 : (t : ℕ) → put-decimal-lts.Need-digit-requires-2 (
@@ -111,8 +111,8 @@ put-decimal-put-byte-requires-2 : (t : ℕ) → put-decimal-lts.Need-put-byte-re
 put-decimal-put-byte-requires-2 t c κs =
     let s = c .before .before .before .before .before .before .before .before in
     let d = c .before .before .before .before .put-decimal in
-    let m = decimal-more (s .args .n) (c .before .before .before .before .before .before .if1 .left) in
-    let l = length-append (decimal (s .args .n / 10)) ((48 + s .args .n % 10) ∷ []) in
+    let m = decimal-more (s .args .number) (c .before .before .before .before .before .before .if1 .left) in
+    let l = length-append (decimal (s .args .number / 10)) ((48 + s .args .number % 10) ∷ []) in
     omega (arith, s .pre .1, ap length m, l, d .ensures .past, d .kept .0)
 
 put-decimal-same-length-2 : (t : ℕ) → put-decimal-lts.Need-same-length-2 (
@@ -138,10 +138,10 @@ put-decimal-returns-2 : (t : ℕ) → put-decimal-lts.Need-returns-2 (
 put-decimal-returns-2 t c =
     let s = c .before .before .before .before .before .before .before .before .before .before .before in
     let m =
-    decimal-more (s .args .n) (c .before .before .before .before .before .before .before .before .before .if1 .left)
+    decimal-more (s .args .number) (c .before .before .before .before .before .before .before .before .before .if1 .left)
     in
     wrote-as
-    (ap (λ (d : ℕ). decimal (s .args .n / 10) ++ (d ∷ [])) (c .before .before .before .digit2 .ensures) ∙ sym m)
+    (ap (λ (d : ℕ). decimal (s .args .number / 10) ++ (d ∷ [])) (c .before .before .before .digit2 .ensures) ∙ sym m)
     (wrote-both (c .before .before .before .before .before .before .before .put-decimal .ensures)
     (c .before .before .put-byte2 .ensures))
 

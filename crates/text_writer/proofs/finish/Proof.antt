@@ -10,10 +10,11 @@ use Rattle.text_writer.proofs.finish.Statement.{statement}
 use Rattle.text_writer.proofs.finish.Tie as tie
 
 abbrev Inv-loop : tie.InvT-loop
-Inv-loop text₀ n p₀ text p = Writing p (replicate (length text₀ - p) 0) text n (replicate (length text₀ - n) 0) text₀
+Inv-loop text₀ size place₀ text place =
+    Writing place (replicate (length text₀ - place) 0) text size (replicate (length text₀ - size) 0) text₀
 
 abbrev μ-loop : tie.MeasureT-loop
-μ-loop text₀ n p₀ text p = length text₀ - p
+μ-loop text₀ size place₀ text place = length text₀ - place
 
 loop-holds : tie.Need-loop-holds Inv-loop μ-loop
 loop-holds c = start
@@ -21,8 +22,8 @@ loop-holds c = start
 slice-write-text : tie.Need-slice-write-text Inv-loop μ-loop
 slice-write-text c = omega arith
 
-add-p : tie.Need-add-p Inv-loop μ-loop
-add-p c = omega arith
+add-place : tie.Need-add-place Inv-loop μ-loop
+add-place c = omega arith
 
 loop-less : tie.Need-loop-less Inv-loop μ-loop
 loop-less c = omega (arith, c .before .loop .inv .long)
@@ -40,7 +41,7 @@ returns : tie.Need-returns Inv-loop μ-loop
 returns c =
     let start = c .before .before .before .before in
     let filled = fill-done 0 (c .before .loop-test .left) (c .before .before .loop .inv) in
-    (ap (λ (n : ℕ). Done n 0 0) (c .word .ensures), padded-to (start .args .text .now) (start .args .n) _ (start .pre .0) filled)
+    (ap (λ (n : ℕ). Done n 0 0) (c .word .ensures), padded-to (start .args .text .now) (start .args .size) _ (start .pre .0) filled)
 
 pub finish-spec : {M : Type 1} → statement M
 finish-spec =
@@ -50,7 +51,7 @@ finish-spec =
     μ-loop
     loop-holds
     slice-write-text
-    add-p
+    add-place
     loop-less
     loop-again
     word-requires

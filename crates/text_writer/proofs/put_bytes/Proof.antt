@@ -10,11 +10,11 @@ use Rattle.text_writer.proofs.put_bytes.Statement.{statement}
 use Rattle.text_writer.proofs.put_bytes.Tie as tie
 
 abbrev Inv-loop : tie.InvT-loop
-Inv-loop text₀ start bytes q₀ p₀ text q p =
-    (q ≤ length bytes) × Writing p (slice q (length bytes) bytes) text start (slice 0 (length bytes) bytes) text₀
+Inv-loop text₀ start bytes i₀ place₀ text i place =
+    (i ≤ length bytes) × Writing place (slice i (length bytes) bytes) text start (slice 0 (length bytes) bytes) text₀
 
 abbrev μ-loop : tie.MeasureT-loop
-μ-loop text₀ start bytes q₀ p₀ text q p = length bytes - q
+μ-loop text₀ start bytes i₀ place₀ text i place = length bytes - i
 
 loop-holds : tie.Need-loop-holds Inv-loop μ-loop
 loop-holds c = (omega arith, Rattle.words.proofs.Stretches.start)
@@ -27,22 +27,22 @@ slice-write-text c =
     let at-loop = c .before .before in
     let start = at-loop .before in
     let b = now (start .args .bytes) in
-    copy-room b 0 (at-loop .loop .q) (length b) (c .before .loop-test .taken)
+    copy-room b 0 (at-loop .loop .i) (length b) (c .before .loop-test .taken)
     (omega arith) (omega (arith, start .pre)) (at-loop .loop .inv .1)
 
-add-p : tie.Need-add-p Inv-loop μ-loop
-add-p c =
+add-place : tie.Need-add-place Inv-loop μ-loop
+add-place c =
     let at-loop = c .before .before in
     let start = at-loop .before in
     let b = now (start .args .bytes) in
     omega (
       arith,
-      copy-room b 0 (at-loop .loop .q) (length b) (c .before .loop-test .taken) (omega arith)
+      copy-room b 0 (at-loop .loop .i) (length b) (c .before .loop-test .taken) (omega arith)
           (omega (arith, start .pre)) (at-loop .loop .inv .1),
     )
 
-add-q : tie.Need-add-q Inv-loop μ-loop
-add-q c = omega arith
+add-i : tie.Need-add-i Inv-loop μ-loop
+add-i c = omega arith
 
 loop-less : tie.Need-loop-less Inv-loop μ-loop
 loop-less c = omega arith
@@ -55,8 +55,8 @@ loop-again c =
     let b = now (start .args .bytes)
     in (
       omega arith,
-      copy-put b (at-loop .loop .q) (length b) (at-loop-test .loop-test .taken) (omega arith)
-          (copy-room b 0 (at-loop .loop .q) (length b) (at-loop-test .loop-test .taken) (omega arith)
+      copy-put b (at-loop .loop .i) (length b) (at-loop-test .loop-test .taken) (omega arith)
+          (copy-room b 0 (at-loop .loop .i) (length b) (at-loop-test .loop-test .taken) (omega arith)
           (omega (arith, start .pre)) (at-loop .loop .inv .1)) (at-loop .loop .inv .1),
     )
 
@@ -68,7 +68,7 @@ returns c =
     let at-loop = c .before in
     let b = now (at-loop .before .args .bytes) in
     wrote-as (take-length b)
-    (copy-done b (at-loop .loop .q) (length b) (c .loop-test .left) (at-loop .loop .inv .1))
+    (copy-done b (at-loop .loop .i) (length b) (c .loop-test .left) (at-loop .loop .inv .1))
 
 pub put-bytes-spec : {M : Type 1} → statement M
 put-bytes-spec =
@@ -79,8 +79,8 @@ put-bytes-spec =
     loop-holds
     shared-slice-read-text
     slice-write-text
-    add-p
-    add-q
+    add-place
+    add-i
     loop-less
     loop-again
     same-length

@@ -11,11 +11,11 @@ use Rattle.text_writer.proofs.put_numbers.Statement.{statement}
 use Rattle.text_writer.proofs.put_numbers.Tie as tie
 
 abbrev Inv-loop : tie.InvT-loop
-Inv-loop text₀ start ws from end q₀ p₀ text q p =
-    (q ≤ end) × Writing p (spaced (slice q end ws)) text start (spaced (slice from end ws)) text₀
+Inv-loop text₀ start ws from end i₀ place₀ text i place =
+    (i ≤ end) × Writing place (spaced (slice i end ws)) text start (spaced (slice from end ws)) text₀
 
 abbrev μ-loop : tie.MeasureT-loop
-μ-loop text₀ start ws from end q₀ p₀ text q p = end - q
+μ-loop text₀ start ws from end i₀ place₀ text i place = end - i
 
 loop-holds : tie.Need-loop-holds Inv-loop μ-loop
 loop-holds c = (omega arith, Rattle.words.proofs.Stretches.start)
@@ -27,11 +27,11 @@ put-number-requires : tie.Need-put-number-requires Inv-loop μ-loop
 put-number-requires c κs =
     let at-loop = c .before .before .before in
     let start = at-loop .before .before .before in
-    numbers-room (now (start .args .ws)) (at-loop .loop .q) (start .args .end) (c .at .result) (c .at .ensures .0)
+    numbers-room (now (start .args .ws)) (at-loop .loop .i) (start .args .end) (c .at .result) (c .at .ensures .0)
     (c .before .before .loop-test .taken) (start .pre .0 .1) (start .pre .1) (at-loop .loop .inv .1)
 
-add-q : tie.Need-add-q Inv-loop μ-loop
-add-q c = omega arith
+add-i : tie.Need-add-i Inv-loop μ-loop
+add-i c = omega arith
 
 loop-less : tie.Need-loop-less Inv-loop μ-loop
 loop-less c = omega arith
@@ -43,7 +43,7 @@ loop-again c =
     let at-loop = at-at .before .before .before in
     let start = at-loop .before .before .before in (
       omega arith,
-      numbers-more (now (start .args .ws)) (at-loop .loop .q) (start .args .end) (at-at .at .result)
+      numbers-more (now (start .args .ws)) (at-loop .loop .i) (start .args .end) (at-at .at .result)
           (at-at .at .ensures .0) (at-at .before .before .loop-test .taken) (start .pre .0 .1)
           (at-put-number .put-number .kept .0) (at-put-number .put-number .ensures) (at-loop .loop .inv .1),
     )
@@ -55,7 +55,7 @@ returns : tie.Need-returns Inv-loop μ-loop
 returns c =
     let at-loop = c .before in
     let start = at-loop .before .before .before in
-    done (turn (spaced-none (now (start .args .ws)) (at-loop .loop .q) (start .args .end) (c .loop-test .left))
+    done (turn (spaced-none (now (start .args .ws)) (at-loop .loop .i) (start .args .end) (c .loop-test .left))
     (at-loop .loop .inv .1))
 
 pub put-numbers-spec : {M : Type 1} → statement M
@@ -67,7 +67,7 @@ put-numbers-spec =
     loop-holds
     at-requires
     put-number-requires
-    add-q
+    add-i
     loop-less
     loop-again
     same-length

@@ -4,13 +4,10 @@ use Prim.Native.Nat.{_-_, _*_, _/_, _≤_}
 use native.Mathlib.Omega.{arith}
 use Rattle.rules.specs.System.{firstTransition}
 use Rattle.transitions.specs.Samples.{stride}
-use Rattle.transitions.proofs.Sums.{first-more, first-most}
+use Rattle.transitions.proofs.Sums.{first-more, sum-small}
 use borrow.Author.Needs.{needs}
 use Rattle.transitions.proofs.first_transition.Statement.{statement}
 use Rattle.transitions.proofs.first_transition.Tie as tie
-use Rattle.transitions.proofs.first_transition.Reads as reads
-use Rattle.transitions.proofs.first_transition.Lts as lts
-use Rattle.words.proofs.at.Reads as at-reads
 
 abbrev Inv-loop : tie.InvT-loop
 Inv-loop system samples state sample first₀ s₀ first s = (s ≤ state) × (first ≡ firstTransition system s)
@@ -28,13 +25,7 @@ cast-first : tie.Need-cast-first Inv-loop μ-loop
 cast-first c =
     let start = c .before .before .before in
     let i = start .args .state / stride in
-    omega (
-      arith,
-      start .pre .1 .0 .entry i (omega (arith, start .pre .1 .1)),
-      first-most (start .pre .0 .0)
-          (start .args .system .now) (start .pre .0 .1) (i * stride) (omega (arith, start .pre .1 .1)),
-      start .pre .0 .1 .moves,
-    )
+    omega (arith, sum-small (start .args .system .now) (start .pre .0) (i * stride) _ (omega (arith, start .pre .1 .1)) (start .pre .1 .0 .entry i (omega (arith, start .pre .1 .1))))
 
 mul-s : tie.Need-mul-s Inv-loop μ-loop
 mul-s c = search needs
@@ -54,14 +45,7 @@ add-first : tie.Need-add-first Inv-loop μ-loop
 add-first c =
     let start = c .before .before .before .before .before .before in
     let l = c .before .before .loop in
-    omega (
-      arith,
-      first-most (start .pre .0 .0) (start .args .system .now) (start .pre .0 .1) (l .s)
-          (omega (arith, l .inv .0, start .pre .1 .1)),
-      l .inv .1,
-      start .pre .0 .1 .moves,
-      c .at .ensures .1,
-    )
+    omega (arith, sum-small (start .args .system .now) (start .pre .0) (l .s) (l .first) (omega (arith, l .inv .0, start .pre .1 .1)) (l .inv .1), c .at .ensures .1)
 
 add-s : tie.Need-add-s Inv-loop μ-loop
 add-s c = search needs

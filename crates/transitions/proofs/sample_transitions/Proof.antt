@@ -9,13 +9,10 @@ use lib.ListN.{length, length-set}
 use Rattle.rules.specs.Lists.{word}
 use Rattle.rules.specs.System.{stateCount, firstTransition}
 use Rattle.transitions.specs.Samples.{stride}
-use Rattle.transitions.proofs.Sums.{first-none, first-more, first-most, sample-more, sample-between}
+use Rattle.transitions.proofs.Sums.{first-none, first-more, sum-small, sample-more, sample-between}
 use borrow.Author.Needs.{needs}
 use Rattle.transitions.proofs.sample_transitions.Statement.{statement}
 use Rattle.transitions.proofs.sample_transitions.Tie as tie
-use Rattle.transitions.proofs.sample_transitions.Reads as reads
-use Rattle.transitions.proofs.sample_transitions.Lts as lts
-use Rattle.words.proofs.at.Reads as at-reads
 
 abbrev Inv-loop : tie.InvT-loop
 Inv-loop system samples₀ states sum₀ s₀ samples sum s =
@@ -42,13 +39,7 @@ cast-samples : tie.Need-cast-samples Inv-loop μ-loop
 cast-samples c =
     let start = c .before .before .before .before .before .before in
     let l = c .before .before .loop in
-    omega (
-      arith,
-      first-most (start .pre .0 .0) (start .args .system .now) (start .pre .0 .1) (l .s)
-          (omega (arith, l .inv .0, l .inv .1)),
-      l .inv .3,
-      start .pre .0 .1 .moves,
-    )
+    omega (arith, sum-small (start .args .system .now) (start .pre .0) (l .s) (l .sum) (omega (arith, l .inv .0, l .inv .1)) (l .inv .3))
 
 mul-samples : tie.Need-mul-samples Inv-loop μ-loop
 mul-samples c = search needs
@@ -66,14 +57,7 @@ add-sum : tie.Need-add-sum Inv-loop μ-loop
 add-sum c =
     let start = c .before .before .before .before .before .before .before in
     let l = c .before .before .before .loop in
-    omega (
-      arith,
-      first-most (start .pre .0 .0) (start .args .system .now) (start .pre .0 .1) (l .s)
-          (omega (arith, l .inv .0, l .inv .1)),
-      l .inv .3,
-      start .pre .0 .1 .moves,
-      c .at2 .ensures .1,
-    )
+    omega (arith, sum-small (start .args .system .now) (start .pre .0) (l .s) (l .sum) (omega (arith, l .inv .0, l .inv .1)) (l .inv .3), c .at2 .ensures .1)
 
 add-s : tie.Need-add-s Inv-loop μ-loop
 add-s c = search needs

@@ -1,47 +1,36 @@
-use native.Mathlib.Omega.{arith}
-use Rattle.stepping.proofs.Walking.{exceeding-later}
+-- `explore` meets its contract: the steps go on from where the walk begins. Assumes nothing.
 use mathlib.Core.Path.{subst}
+use native.Mathlib.Omega.{arith}
 use Rattle.settling.specs.Good.{WalkAnswer}
+use Rattle.stepping.proofs.Walking.{exceeding-later}
 use borrow.Author.Needs.{needs}
 use Rattle.translate.proofs.explore.Statement.{statement}
 use Rattle.translate.proofs.explore.Tie as tie
-use Rattle.translate.proofs.explore.Reads as reads
-use Rattle.translate.proofs.explore.Lts as lts
-use Rattle.stepping.proofs.begin.Reads as begin-reads
-use Rattle.stepping.proofs.walk.Reads as walk-reads
 
--- src/lib.rt:48:11
 begin-requires : tie.Need-begin-requires
 begin-requires c κs = search needs
 
--- src/lib.rt:49:23
-enum-known-c : tie.Need-enum-known-c
-enum-known-c c = search needs
+enum-known-counters : tie.Need-enum-known-counters
+enum-known-counters c = search needs
 
--- src/lib.rt:49:29
 walk-requires : tie.Need-walk-requires
 walk-requires c κs =
     let at-begin = c .before .before .before .before .before .before in
-    let start = at-begin .before .before .before .before .before .before .before in
-    (start .pre .0, subst (WalkAnswer _ _ _ _ _ _) (c .before .before .c .given .1) (at-begin .begin .ensures))
+    let start = at-begin .before .before .before .before .before .before .before .before in
+    (start .pre .0, subst (WalkAnswer _ _ _ _ _ _) (c .before .before .counters .given .1) (at-begin .begin .ensures))
 
--- src/lib.rt:67:26
 enum-told : tie.Need-enum-told
 enum-told c = search needs
 
--- src/lib.rt:26:1
 same-length : tie.Need-same-length
 same-length c = search needs
 
--- src/lib.rt:26:1
 returns : tie.Need-returns
 returns c = search needs
 
--- src/lib.rt:26:1
 same-length-2 : tie.Need-same-length-2
 same-length-2 c = search needs
 
--- src/lib.rt:26:1
 returns-2 : tie.Need-returns-2
 returns-2 c =
     let at-begin = c .before .before .before .before in
@@ -52,7 +41,7 @@ explore-spec =
     tie.close
     (tie.spec
     begin-requires
-    enum-known-c
+    enum-known-counters
     walk-requires
     enum-told
     same-length

@@ -1,49 +1,38 @@
+-- `translate` meets its contract: the input is refused, or its game is built. Assumes nothing.
 use mathlib.Core.Path.{_∙_, sym}
 use Rattle.rules.specs.Depth.{byDepth}
 use Rattle.translate.proofs.Outcomes.{refused-run, whole-run}
 use borrow.Author.Needs.{needs}
 use Rattle.translate.proofs.translate.Statement.{statement}
 use Rattle.translate.proofs.translate.Tie as tie
-use Rattle.translate.proofs.translate.Reads as reads
-use Rattle.translate.proofs.translate.Lts as lts
-use Rattle.inputs.proofs.check.Reads as check-reads
-use Rattle.translate.proofs.build.Reads as build-reads
 
--- src/lib.rt:279:11
 check-requires : tie.Need-check-requires
 check-requires c κs = search needs
 
--- src/lib.rt:289:22
 enum-known-number : tie.Need-enum-known-number
 enum-known-number c = search needs
 
--- src/lib.rt:291:71
 enum-told : tie.Need-enum-told
 enum-told c = search needs
 
--- src/lib.rt:290:26
 build-requires : tie.Need-build-requires
 build-requires c κs =
     let at-check = c .before .before .before .before in
     sym (at-check .check .ensures) ∙ c .before .before .enum-told .given .1
 
--- src/lib.rt:262:1
 returns : tie.Need-returns
-returns c = whole-run byDepth _ _ _ _ _ _ _ _ (refused-run byDepth _ _ _ _ _ _ _ (sym (c .before .before .before .check .ensures) ∙ c .before .number .given .1))
+returns c = whole-run _ _ _ _ _ _ _ _ (refused-run byDepth _ _ _ _ _ _ _ (sym (c .before .before .before .check .ensures) ∙ c .before .number .given .1))
 
--- src/lib.rt:262:1
 same-length : tie.Need-same-length
 same-length c = search needs
 
--- src/lib.rt:262:1
 same-length-2 : tie.Need-same-length-2
 same-length-2 c = search needs
 
--- src/lib.rt:262:1
 returns-2 : tie.Need-returns-2
 returns-2 c =
     let at-build = c .before .before .before .before in
-    whole-run byDepth _ _ _ _ _ _ _ _ (at-build .build .ensures)
+    whole-run _ _ _ _ _ _ _ _ (at-build .build .ensures)
 
 pub translate-spec : {M : Type 1} → statement M
 translate-spec =

@@ -10,10 +10,10 @@ shared-slice-read-result : tie.Need-shared-slice-read-result
 shared-slice-read-result c = search needs
 
 cast-result : tie.Need-cast-result
-cast-result c = omega (arith, c .shared-slice-known .given (c .before .args .p))
+cast-result c = omega (arith, c .shared-slice-known .given (c .before .args .index))
 
 returns : tie.Need-returns
-returns c = (search needs, omega (arith, c .shared-slice-known .given (c .before .args .p)))
+returns c = (search needs, omega (arith, c .shared-slice-known .given (c .before .args .index)))
 
 pub at-spec : {M : Type 1} → statement M
 at-spec = tie.close (tie.spec mul-result shared-slice-read-result cast-result returns)

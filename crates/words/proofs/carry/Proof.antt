@@ -11,10 +11,10 @@ use Rattle.words.proofs.carry.Statement.{statement}
 use Rattle.words.proofs.carry.Tie as tie
 
 abbrev Inv-loop : tie.InvT-loop
-Inv-loop src base numbers count out₀ start i₀ p₀ out i p = (i ≤ count) × Writing p (map (λ v. word src (base + v)) (slice i count numbers)) out start (map (λ v. word src (base + v)) (take count numbers)) out₀
+Inv-loop src base numbers count out₀ start i₀ place₀ out i place = (i ≤ count) × Writing place (map (λ v. word src (base + v)) (slice i count numbers)) out start (map (λ v. word src (base + v)) (take count numbers)) out₀
 
 abbrev μ-loop : tie.MeasureT-loop
-μ-loop src base numbers count out₀ start i₀ p₀ out i p = count - i
+μ-loop src base numbers count out₀ start i₀ place₀ out i place = count - i
 
 loop-holds : tie.Need-loop-holds Inv-loop μ-loop
 loop-holds c = (omega arith, Rattle.words.proofs.Stretches.start)
@@ -40,26 +40,18 @@ shared-slice-read-out c =
     let i = c .before .before .before .loop .i in
     omega (arith, s .pre .1 i (c .before .before .loop-test .taken))
 
-mul-out-2 : tie.Need-mul-out-2 Inv-loop μ-loop
-mul-out-2 c =
-    let s = c .before .before .before .before .before .before .before in
-    let l = c .before .before .before .loop in
-    let f : ℕ → ℕ = λ v. word (now (s .args .src)) (s .args .base + v) in
-    omega (arith, carry-room f (now (s .args .numbers)) (l .i) (s .args .count) (c .before .before .loop-test .taken) (s .pre .0 .0) (s .pre .0 .1) (l .inv .1))
-
 slice-write-out : tie.Need-slice-write-out Inv-loop μ-loop
 slice-write-out c =
     let s = c .before .before .before .before .before .before .before in
     let l = c .before .before .before .loop in
     let f : ℕ → ℕ = λ v. word (now (s .args .src)) (s .args .base + v) in
-    omega (arith, carry-room f (now (s .args .numbers)) (l .i) (s .args .count) (c .before .before .loop-test .taken) (s .pre .0 .0) (s .pre .0 .1) (l .inv .1))
+    carry-room f (now (s .args .numbers)) (l .i) (s .args .count) (c .before .before .loop-test .taken) (s .pre .0 .0) (s .pre .0 .1) (l .inv .1)
 
-add-p : tie.Need-add-p Inv-loop μ-loop
-add-p c =
-    let s = c .before .before .before .before .before .before .before in
-    let l = c .before .before .before .loop in
-    let f : ℕ → ℕ = λ v. word (now (s .args .src)) (s .args .base + v) in
-    omega (arith, carry-room f (now (s .args .numbers)) (l .i) (s .args .count) (c .before .before .loop-test .taken) (s .pre .0 .0) (s .pre .0 .1) (l .inv .1))
+mul-out-2 : tie.Need-mul-out-2 Inv-loop μ-loop
+mul-out-2 c = omega (arith, slice-write-out c)
+
+add-place : tie.Need-add-place Inv-loop μ-loop
+add-place c = omega (arith, slice-write-out c)
 
 add-i : tie.Need-add-i Inv-loop μ-loop
 add-i c = omega arith
@@ -75,7 +67,7 @@ loop-again c =
     let t = c .before .before .loop-test .taken in (
       omega arith,
       carry-put f (now (s .args .numbers)) (l .i) (s .args .count) _ (ap f (c .before .at .ensures .0)) t (s .pre .0 .0)
-          (carry-room f (now (s .args .numbers)) (l .i) (s .args .count) t (s .pre .0 .0) (s .pre .0 .1) (l .inv .1))
+          (slice-write-out c)
           (l .inv .1),
     )
 
@@ -102,7 +94,7 @@ carry-spec =
     shared-slice-read-out
     mul-out-2
     slice-write-out
-    add-p
+    add-place
     add-i
     loop-less
     loop-again
