@@ -3,22 +3,23 @@
  * Link with libhingrezh.a, which `rt staticlib hingrezh` makes; `make install` puts it beside a pkg-config file. The
  * archive has no variables, and of the C library it needs memset (a later one may need memcpy, memmove or memcmp too).
  *
- * How a game is won: the largest priority that is seen for ever decides; if it is even, Even wins. If Even wins vertex 0
- * of a finished game, with reasons that check out, the formula holds in the initial state: proved. If Odd wins, the
+ * How a game is won: the largest priority that is seen for ever decides; if it is even, Even wins. If Even wins vertex
+ * 0 of a finished game, with reasons that check out, the formula holds in the initial state: proved. If Odd wins, the
  * formula may hold all the same, a false alarm of the ranking (docs/VERDICTS.md). A solver that goes by the smallest
  * priority gives false passes. A cut game has no verdict.
  *
- * A slice is passed as a pointer to 32-bit words and its length in words. No function has a precondition on contents
- * or lengths: whatever the slices hold is answered, at worst by a refusal. The pointers must be valid for their
- * lengths; a slice of length 0 may be NULL, `answer` may not. No slice lent for writing may overlap another one.
- * Slices that are only read may overlap each other, and may be shared by calls in several threads at the same time, as
- * long as nobody writes them meanwhile; each call needs slices of its own to write to. Nothing is kept after a call
- * and nothing is allocated.
+ * A slice is passed as a pointer to 32-bit words and its length in words, a text as a pointer to bytes and its length
+ * in bytes. No function has a precondition on contents or lengths: whatever the slices hold is answered, at worst by a
+ * refusal. The pointers must be valid for their lengths; a slice of length 0 may be NULL, `answer` may not. No slice
+ * lent for writing may overlap another one. Slices that are only read may overlap each other, and may be shared by
+ * calls in several threads at the same time, as long as nobody writes them meanwhile; each call needs slices of its own
+ * to write to. Nothing is kept after a call and nothing is allocated.
  *
  * ---------------------------------------------------------------------------------------------------------------
  * The answer, four words
  *
  *   HINGREZH_DONE     steps, vertices, edges          the whole game
+ *                     bytes, 0, 0                     the whole text, of hingrezh_write_pgsolver
  *   HINGREZH_CUT      steps, vertices known, edges    a vertex still waits after `limit` steps
  *   HINGREZH_REFUSED  number, place, 0                see the refusals below
  *
@@ -42,6 +43,23 @@
  * game shows a waiting vertex with owner 2, priority 0 and no edges.
  *
  * ---------------------------------------------------------------------------------------------------------------
+ * A game as PGSolver text
+ *
+ *   parity 2;        the highest vertex number, n - 1
+ *   0 0 0 1;         a line for each vertex: number, priority, owner, successors parted by commas
+ *   1 0 0 2;
+ *   2 0 1 0;
+ *
+ * So a game of three vertices is written. Single spaces part the four, a newline ends each line, the last one too;
+ * numbers are decimal without leading zeros. The vertices are written in order and, of equal edges of a vertex, the
+ * first alone. Where the game begins is not in the text: one that is read begins at vertex 0.
+ *
+ * When it is read, the vertices' lines may stand in any order; a successor may be repeated, and counts once, where it
+ * stands first; and between the successors and the semicolon there may be a space and a name in double quotes, which
+ * is passed over: any bytes but quotes and newlines, or none. Nothing else is of this form: no other line, space or
+ * sign, no text without the header, no byte past the last newline, such as the zeros that writing leaves there.
+ *
+ * ---------------------------------------------------------------------------------------------------------------
  * Refusals: what, where, who can mend it
  *
  * Words and nodes are counted from 0, words in the slice concerned. Where no place is named it is 0.
@@ -49,7 +67,7 @@
  *   number  what                                                                       place
  *   The host program:
  *    1      vertices not 1 to 1,048,576, or edges not 1 to 4,194,304
- *    2      a slice lent for writing has the wrong length
+ *    2      a slice lent for writing has the wrong length, or is too short for a text
  *   60      within the first `limit` steps the game needs more vertices or edges,
  *           added self-loops included, than there is room for
  *   The modeller:
@@ -73,20 +91,30 @@
  *   44      a wrong operand of kinds 0 to 7; nodes left over past the tree;            node of formula; the first
  *           an unfinished tree                                                         left over; n
  *   45      a reference to anything but an enclosing fixpoint                          node of formula
- *   Whoever hands a game to the restriction:
+ *   Whoever hands a game to the restriction or to the writing of texts:
  *   51      words fewer than 3 or not 4 + 3n + m, no vertex, n above 1,048,576
  *           or m above 4,194,304
  *   52      the offsets don't begin at 0, fall, or don't end at m                      word of the game; the later one
  *   53      the initial vertex is n or more; an owner above 1; a target n or more      word of the game
+ *   98      a vertex without successors, in writing a text
+ *   Whoever hands over a text, or too little room for it:
+ *   91      the text is not of the form above
+ *   92      a vertex up to the highest number without a line, or with two; a vertex
+ *           or a successor above the highest number
+ *   93      more vertices or edges, equal ones of a vertex counted once, than there
+ *           is room for, or a priority beyond 32 bits
  *
- * Of several faults hingrezh_translate answers the first in the order 1, 2, 11 to 45, 60, and
- * hingrezh_compute_reachable in the order 51, 52, 53, 2; of faults with one number the one with the smallest place.
+ * Of several faults a call answers the first in its order; of faults with one number the one with the smallest place.
+ *   hingrezh_translate          1, 2, 11 to 45, 60
+ *   hingrezh_compute_reachable  51, 52, 53, 2
+ *   hingrezh_write_pgsolver     51, 52, 53, 98, 2
+ *   hingrezh_read_pgsolver      1, 2, 91, 92, 93
  * In 34 and 44 a right-child operand isn't judged if its left tree is unfinished.
  *
  * hingrezh_refusal_text gives the middle column for a number.
  *
- * Stack: the deepest inputs (1,023 nested negations in an action formula) have run in 184 KB as a whole process; give
- * the calling thread at least 256 KB.
+ * Stack: the deepest inputs (1,023 nested negations in an action formula) have run in 184 KB as a whole process, the
+ * calls on PGSolver text in 156 KB, whatever the text; give the calling thread at least 256 KB.
  */
 #ifndef HINGREZH_H
 #define HINGREZH_H
@@ -100,9 +128,9 @@ extern "C" {
 
 /* The version of header, library and command. */
 #define HINGREZH_VERSION_MAJOR 0
-#define HINGREZH_VERSION_MINOR 1
+#define HINGREZH_VERSION_MINOR 2
 #define HINGREZH_VERSION_PATCH 0
-#define HINGREZH_VERSION "0.1.0"
+#define HINGREZH_VERSION "0.2.0"
 
 enum { HINGREZH_DONE = 0, HINGREZH_CUT = 1, HINGREZH_REFUSED = 2 };
 
@@ -126,6 +154,11 @@ enum { HINGREZH_DONE = 0, HINGREZH_CUT = 1, HINGREZH_REFUSED = 2 };
 #define HINGREZH_GAME_WORDS(vertices, edges) ((size_t)4 + (size_t)3 * (size_t)(vertices) + (size_t)(edges))
 #define HINGREZH_WORK_WORDS(vertices, edges) ((size_t)8 * (size_t)(vertices) + (size_t)2 * (size_t)(edges))
 #define HINGREZH_ANSWER_WORDS 4
+
+/* At most so many bytes has the text of a game, by its vertices and edges: its numbers of vertices have at most seven
+ * digits, its priorities ten. */
+#define HINGREZH_TEXT_BYTES(vertices, edges) \
+    ((size_t)16 + (size_t)22 * (size_t)(vertices) + (size_t)8 * (size_t)(edges))
 
 /* Builds the parity game of a formula on a system, in at most `limit` steps; vertex 0 stands for the initial state
  * and the first equation.
@@ -168,6 +201,41 @@ void hingrezh_compute_reachable(const uint32_t *game, size_t game_len,
                                 uint32_t *work, size_t work_len,
                                 uint32_t answer[4]);
 
+/* Writes a game as PGSolver text: for a solver that reads nothing else.
+ *
+ * `game` is only read, and must be a game without words past its end, as for the restriction; it may begin anywhere.
+ * Each vertex needs a successor; every vertex of a finished run has one. `text` must not be shorter than the text;
+ * HINGREZH_TEXT_BYTES(n, m) bytes are always enough, and a longer slice is fine. What it holds before doesn't matter.
+ *
+ * Afterwards, by the case of `answer`:
+ *   done     answer[1] is the number of bytes of the text; `text` begins with it, and every byte past its end is 0.
+ *            A file, or hingrezh_read_pgsolver, gets the bytes of the text alone
+ *   refused  `text` is as it was
+ * This call is never cut: a cut game is refused (53). `answer` is written in every case. */
+void hingrezh_write_pgsolver(const uint32_t *game, size_t game_len,
+                             uint8_t *text, size_t text_len,
+                             uint32_t answer[4]);
+
+/* Reads a game from PGSolver text.
+ *
+ * V = vertices and E = edges are the room, and `game` must have exactly HINGREZH_GAME_WORDS(V, E) words; what they hold
+ * before doesn't matter. `text` is only read. A line has at least nine bytes, a successor two, so of a text of B bytes
+ * B / 9 vertices and B / 2 edges, at least one of each, are room enough, as far as the largest room goes.
+ *
+ * Afterwards, by the case of `answer`:
+ *   done     steps and vertices are the number of vertices n, edges the number of edges m, equal ones of a vertex
+ *            counted once; `game` begins with the game, which begins at vertex 0 and has the successors of each vertex
+ *            in the order of the text, and every word past its end is 0
+ *   refused  `game` is as it was
+ * This call is never cut. `answer` is written in every case.
+ *
+ * Proved: a game that begins at vertex 0, written and then read into room that holds it, is that game without the
+ * repeated edges; and what was read from any text, written and read again, is the same game. */
+void hingrezh_read_pgsolver(const uint8_t *text, size_t text_len,
+                            uint32_t vertices, uint32_t edges,
+                            uint32_t *game, size_t game_len,
+                            uint32_t answer[4]);
+
 /* What a refusal is about; NULL for a number that is none. */
 static inline const char *hingrezh_refusal_text(uint32_t number)
 {
@@ -196,6 +264,10 @@ static inline const char *hingrezh_refusal_text(uint32_t number)
     case 52: return "the offsets don't begin at 0, fall, or don't end at the number of edges";
     case 53: return "an owner is above 1, or a target or the initial vertex is not below n";
     case 60: return "the game needs more vertices or edges than there is room for";
+    case 91: return "the text is not of the form: a header, then a line for each vertex";
+    case 92: return "a vertex is missing, given twice or, also as a successor, above the highest";
+    case 93: return "more vertices or edges than there is room for, or a priority beyond 32 bits";
+    case 98: return "a vertex has no successors, and cannot be written as PGSolver text";
     default: return NULL;
     }
 }

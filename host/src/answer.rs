@@ -3,7 +3,7 @@ use std::fmt;
 
 #[derive(Clone, Copy, Debug, PartialEq, Eq)]
 pub enum Answer {
-    /// The whole game. A restricted game counts its vertices as steps.
+    /// The whole game. A game that was restricted or read counts its vertices as steps.
     Done {
         steps: u32,
         vertices: u32,
@@ -57,6 +57,7 @@ pub enum Party {
     Modeller,
     FormulaWriter,
     GameSupplier,
+    TextSupplier,
 }
 
 impl fmt::Display for Party {
@@ -66,6 +67,7 @@ impl fmt::Display for Party {
             Party::Modeller => "the modeller",
             Party::FormulaWriter => "the formula's writer",
             Party::GameSupplier => "whoever hands over the game",
+            Party::TextSupplier => "whoever hands over the text",
         })
     }
 }
@@ -103,6 +105,10 @@ impl Refusal {
             52 => "the offsets don't begin at 0, fall, or don't end at the number of edges",
             53 => "an owner is above 1, or a target or the initial vertex is not below n",
             60 => "the game needs more vertices or edges than there is room for",
+            91 => "the text is not of the form: a header, then a line for each vertex",
+            92 => "a vertex is missing, given twice or, also as a successor, above the highest",
+            93 => "more vertices or edges than there is room for, or a priority beyond 32 bits",
+            98 => "a vertex has no successors, and cannot be written as PGSolver text",
             _ => "an unknown refusal",
         }
     }
@@ -124,7 +130,8 @@ impl Refusal {
         match self.number {
             11..=26 => Party::Modeller,
             31..=45 => Party::FormulaWriter,
-            51..=53 => Party::GameSupplier,
+            51..=53 | 98 => Party::GameSupplier,
+            91..=93 => Party::TextSupplier,
             _ => Party::Host,
         }
     }

@@ -1,6 +1,7 @@
 //! The command `hingrezh`: games from files with the proved library, one at a time or a night's worth.
 mod build;
 mod dot;
+mod format;
 mod help;
 mod input;
 mod manifest;
@@ -8,12 +9,13 @@ mod night;
 mod notation;
 mod options;
 mod output;
+mod read;
 mod restrict;
 mod sha256;
 mod show;
 
 use crate::{Answer, NoMemory, ReadError, Refusal};
-use options::{ALL, Choice, EDGES, Given, LIMIT, MAP, OUTPUT, VERTICES};
+use options::{ALL, Choice, EDGES, FORMAT, Given, LIMIT, MAP, OUTPUT, VERTICES};
 use std::ffi::OsString;
 use std::io::{self, Write};
 
@@ -98,10 +100,14 @@ struct Command {
     run: fn(&Given) -> Result<u8, Failure>,
 }
 
-const COMMANDS: [Command; 5] = [
-    Command { name: "build", options: &[VERTICES, EDGES, LIMIT, OUTPUT], help: help::BUILD, run: build::run },
-    Command { name: "restrict", options: &[MAP, OUTPUT], help: help::RESTRICT, run: restrict::run },
-    Command { name: "night", options: &[VERTICES, EDGES, LIMIT, OUTPUT], help: help::NIGHT, run: night::run },
+/// The options of what builds games and writes them.
+const BUILDING: &[Choice] = &[VERTICES, EDGES, LIMIT, FORMAT, OUTPUT];
+
+const COMMANDS: [Command; 6] = [
+    Command { name: "build", options: BUILDING, help: help::BUILD, run: build::run },
+    Command { name: "night", options: BUILDING, help: help::NIGHT, run: night::run },
+    Command { name: "read", options: &[VERTICES, EDGES, FORMAT, OUTPUT], help: help::READ, run: read::run },
+    Command { name: "restrict", options: &[MAP, FORMAT, OUTPUT], help: help::RESTRICT, run: restrict::run },
     Command { name: "show", options: &[ALL], help: help::SHOW, run: show::run },
     Command { name: "dot", options: &[VERTICES, EDGES, LIMIT, OUTPUT], help: help::DOT, run: dot::run },
 ];

@@ -7,7 +7,7 @@ impl Refusal {
     /// What is wrong with the model, the formula or the room of a run that was refused so.
     pub fn in_model(&self, model: &Model, room: Room) -> String {
         match self.number {
-            1 | 60 => self.of_room(room),
+            1 | 60 => self.in_room(room),
             11..=13 => self.of_labels(&model.labels),
             21..=24 => self.of_system(&model.system),
             25 | 26 => self.of_transition(model),
@@ -18,17 +18,19 @@ impl Refusal {
         }
     }
 
-    /// What is wrong with a game that the restriction refused so.
+    /// What is wrong with a game that the restriction, or the writing of its text, refused so.
     pub fn in_game(&self, game: &[u32]) -> String {
         match self.number {
             51 => no_game(game),
             52 => self.of_offset(game),
             53 => self.of_vertex(game),
+            98 => stuck(game),
             _ => self.what().to_string(),
         }
     }
 
-    fn of_room(&self, room: Room) -> String {
+    /// What is wrong with a room.
+    pub(crate) fn in_room(&self, room: Room) -> String {
         let Room { vertices, edges } = room;
         let most = Room::MOST;
         match self.number {
@@ -166,8 +168,8 @@ impl Refusal {
         let vertices = counted(n as u32, "vertex");
         if let Ok(Some(waiting)) = Game::of_words(game).map(|game| game.first_waiting()) {
             return format!(
-                "the game is cut: vertex {waiting} is still waiting (owner 2), and only whole games are restricted; \
-                 build it with a larger step limit"
+                "the game is cut: vertex {waiting} is still waiting (owner 2), and only whole games are restricted or \
+                 written as PGSolver text; build it with a larger step limit"
             );
         }
         match place {
@@ -259,4 +261,11 @@ fn no_game(game: &[u32]) -> String {
         _ if n > most.vertices => format!("the game has {n} vertices, and at most {} are legal", most.vertices),
         _ => format!("the game has {m} edges, and at most {} are legal", most.edges),
     }
+}
+
+fn stuck(game: &[u32]) -> String {
+    let n = at(game, 0) as usize;
+    let begins = |vertex: usize| at(game, 3 + 2 * n + vertex);
+    let vertex = (0..n).find(|&vertex| begins(vertex) == begins(vertex + 1)).unwrap_or(0);
+    format!("vertex {vertex} has no successors, and in PGSolver text every vertex has one")
 }

@@ -1,5 +1,5 @@
-//! Files of words, read within bounds: their size and the lengths at their front are looked at before memory is asked
-//! for, so that a file of any size is refused at once.
+//! Files of words and texts, read within bounds: their size and the lengths at their front are looked at before memory
+//! is asked for, so that a file of any size is refused at once.
 use crate::{FileFault, Group, Model, Room};
 use std::fmt;
 use std::fs::File;
@@ -38,7 +38,13 @@ impl From<FileFault> for ReadError {
 /// The most words that a game has.
 const GAME: u64 = 4 + 3 * Room::MOST.vertices as u64 + Room::MOST.edges as u64;
 
-/// A file or a stream of words.
+/// The most bytes of a text: what no game needs, so that names and repeated successors have room as well.
+const TEXT: u64 = 1 << 28;
+
+/// How PGSolver text begins, as words; no game has so many vertices.
+const HEADER: [u32; 2] = [u32::from_le_bytes(*b"pari"), u32::from_le_bytes(*b"ty \0")];
+
+/// A file or a stream of words, or a text.
 pub struct Source<R> {
     from: R,
     /// Known for files alone.
@@ -91,10 +97,36 @@ impl<R: Read> Source<R> {
     pub fn game(&mut self) -> Result<Vec<u32>, ReadError> {
         self.bounded(GAME)?;
         let most = self.bytes.map_or(GAME, |bytes| bytes.div_ceil(4)).max(1) as usize;
-        let words = self.words(most)?;
+        let mut words = self.words(2)?;
+        if matches!(words[..], [first, second] if [first, second & 0xff_ffff] == HEADER) {
+            return Err(FileFault::Text.into());
+        }
+        self.more_words(&mut words, most)?;
         match self.byte_follows()? {
             true => Err(FileFault::Endless { most: 4 * GAME }.into()),
             false => Ok(words),
+        }
+    }
+
+    /// The bytes of a text; whether it is one is not looked at.
+    pub fn text(&mut self) -> Result<Vec<u8>, ReadError> {
+        if let Some(bytes) = self.bytes.filter(|&bytes| bytes > TEXT) {
+            return Err(FileFault::TooLong { bytes, most: TEXT }.into());
+        }
+        let no_memory = |_| io::Error::from(io::ErrorKind::OutOfMemory);
+        let mut text = Vec::new();
+        text.try_reserve_exact(self.bytes.unwrap_or(0) as usize).map_err(no_memory)?;
+        let mut bytes = [0; 1 << 14];
+        loop {
+            let got = fill(&mut self.from, &mut bytes)?;
+            if (text.len() + got) as u64 > TEXT {
+                return Err(FileFault::Endless { most: TEXT }.into());
+            }
+            text.try_reserve(got).map_err(no_memory)?;
+            text.extend_from_slice(&bytes[..got]);
+            if got < bytes.len() {
+                return Ok(text);
+            }
         }
     }
 
@@ -153,10 +185,17 @@ impl<R: Read> Source<R> {
     /// At most so many words; fewer if the source ends.
     fn words(&mut self, most: usize) -> Result<Vec<u32>, ReadError> {
         let mut words = Vec::new();
-        words.try_reserve_exact(most).map_err(|_| io::Error::from(io::ErrorKind::OutOfMemory))?;
+        self.more_words(&mut words, most)?;
+        Ok(words)
+    }
+
+    /// The same behind words that were read before; `most` counts them too.
+    fn more_words(&mut self, words: &mut Vec<u32>, most: usize) -> Result<(), ReadError> {
+        let lacking = most.saturating_sub(words.len());
+        words.try_reserve_exact(lacking).map_err(|_| io::Error::from(io::ErrorKind::OutOfMemory))?;
         let mut bytes = [0; 1 << 14];
         loop {
-            let wanted = (4 * (most - words.len())).min(bytes.len());
+            let wanted = (4 * most.saturating_sub(words.len())).min(bytes.len());
             let got = fill(&mut self.from, &mut bytes[..wanted])?;
             self.read += got;
             let (whole, rest) = bytes[..got].as_chunks::<4>();
@@ -165,7 +204,7 @@ impl<R: Read> Source<R> {
                 return Err(FileFault::BrokenWord(self.read).into());
             }
             if got < wanted || wanted == 0 {
-                return Ok(words);
+                return Ok(());
             }
         }
     }

@@ -1,4 +1,5 @@
 //! Models and games as words, from files and to the library.
+use crate::pgsolver::{bytes_written, most_bytes};
 use crate::{Answer, Game, Refusal, library};
 use std::alloc::{Layout, alloc_zeroed};
 use std::fmt;
@@ -28,7 +29,7 @@ impl Room {
     }
 
     /// The lengths of the game and work slices, 0 for a room that is refused: it needs no memory.
-    fn lengths(&self) -> (usize, usize) {
+    pub(crate) fn lengths(&self) -> (usize, usize) {
         let (v, e) = (self.vertices as usize, self.edges as usize);
         if self.in_range() { (4 + 3 * v + e, 8 * v + 2 * e) } else { (0, 0) }
     }
@@ -68,13 +69,15 @@ pub struct Slices {
     room: Room,
     game: Vec<u32>,
     work: Vec<u32>,
+    /// How many words the last run's game has.
+    words: usize,
 }
 
 impl Slices {
     pub fn new(room: Room) -> Result<Slices, NoMemory> {
         let (game, work) = room.lengths();
         let refused = |_| NoMemory { bytes: 4 * (game as u64 + work as u64) };
-        Ok(Slices { room, game: zeroed(game).map_err(refused)?, work: zeroed(work).map_err(refused)? })
+        Ok(Slices { room, game: zeroed(game).map_err(refused)?, work: zeroed(work).map_err(refused)?, words: 0 })
     }
 
     /// Builds the game with the proved library. The game's words are without words past its end, and empty after a
@@ -86,13 +89,32 @@ impl Slices {
         let mut answer = [0; 4];
         library::translate(labels, system, actions, formula, vertices, edges, limit, game, work, &mut answer);
         let answer = Answer::of_words(answer);
-        let words = answer.game_words().unwrap_or(0);
-        (answer, &self.game[..words])
+        self.words = answer.game_words().unwrap_or(0);
+        (answer, self.game())
     }
 
-    /// The words that the last run left in the game slice.
-    fn into_game(mut self, words: usize) -> Vec<u32> {
-        self.game.truncate(words);
+    /// The last run's game, without words past its end; empty after a refusal, and before the first run.
+    pub fn game(&self) -> &[u32] {
+        &self.game[..self.words]
+    }
+
+    /// The last run's game as PGSolver text, in the work slice: it is free between runs, and any game of the room has
+    /// a shorter text. So a night that has its slices lacks no memory later.
+    pub fn pgsolver(&mut self) -> Result<&[u8], Refusal> {
+        let Slices { game, work, words, .. } = self;
+        let game = &game[..*words];
+        // SAFETY: every byte of a word is a byte, and any bytes make words.
+        let (_, bytes, _) = unsafe { work.align_to_mut::<u8>() };
+        let most = most_bytes(game).min(bytes.len());
+        let answer = library::write_pgsolver(game, &mut bytes[..most]);
+        match answer {
+            Answer::Refused(refusal) => Err(refusal),
+            _ => Ok(&bytes[..bytes_written(&answer)]),
+        }
+    }
+
+    fn into_game(mut self) -> Vec<u32> {
+        self.game.truncate(self.words);
         self.game
     }
 }
@@ -106,9 +128,8 @@ impl Model {
 
     pub fn try_build(&self, room: Room, limit: u32) -> Result<Built, NoMemory> {
         let mut slices = Slices::new(room)?;
-        let (answer, game) = slices.build(self, limit);
-        let words = game.len();
-        Ok(Built { answer, game: slices.into_game(words) })
+        let (answer, _) = slices.build(self, limit);
+        Ok(Built { answer, game: slices.into_game() })
     }
 
     /// The refusal that the words bring about whatever the room and the step limit are.
@@ -192,7 +213,7 @@ impl std::error::Error for NoMemory {}
 
 /// A vector of zeros, or word that there is no memory for it. The pages of a large one are untouched until they are
 /// written, as those of `vec!` are: a small game in the largest room needs little memory.
-fn zeroed(length: usize) -> Result<Vec<u32>, NoMemory> {
+pub(crate) fn zeroed(length: usize) -> Result<Vec<u32>, NoMemory> {
     let layout = Layout::array::<u32>(length).map_err(|_| NoMemory { bytes: u64::MAX })?;
     if layout.size() == 0 {
         return Ok(Vec::new());
@@ -229,6 +250,8 @@ pub enum FileFault {
     Endless {
         most: u64,
     },
+    /// PGSolver text in place of a game's words.
+    Text,
     /// More words in a group than are ever legal; its sizes, as its first two words say them.
     LongGroup {
         group: Group,
@@ -285,6 +308,7 @@ impl fmt::Display for FileFault {
             FileFault::More { promised } => write!(f, "the lengths promise {promised} words, and more follow"),
             FileFault::TooLong { bytes, most } => write!(f, "{bytes} bytes, and the largest legal file has {most}"),
             FileFault::Endless { most } => write!(f, "more bytes than the {most} of the largest legal file"),
+            FileFault::Text => write!(f, "this is PGSolver text; `hingrezh read` makes a game's words of it"),
             FileFault::LongGroup { group, words, sizes } => f.write_str(&group.tell(*words, *sizes)),
         }
     }

@@ -1,10 +1,11 @@
-//! Both functions of the library in ordinary Rust, written from the rules alone and for speed: a second
+//! The functions of the library in ordinary Rust, written from the rules alone and for speed: a second
 //! opinion in the comparisons and the yardstick of the benchmark. The command does not use it.
 //!
 //! The walk lives in the lent slices as the library's does; the small tables of a run (label classes,
-//! items, sets of matching labels) are vectors.
+//! items, sets of matching labels) and what is read from a text are vectors.
 mod checks;
 mod items;
+mod pgsolver;
 mod walk;
 
 use checks::Fault;
@@ -55,6 +56,22 @@ pub fn compute_reachable(game: &[u32], out: &mut [u32], map: &mut [u32], work: &
             work.fill(0);
             [0, reached as u32, reached as u32, edges as u32]
         }
+    };
+}
+
+/// As the library's `hingrezh_write_pgsolver`.
+pub fn write_pgsolver(game: &[u32], text: &mut [u8], answer: &mut [u32; 4]) {
+    *answer = match pgsolver::write(game, text) {
+        Err(fault) => refused(fault),
+        Ok(bytes) => [0, bytes as u32, 0, 0],
+    };
+}
+
+/// As the library's `hingrezh_read_pgsolver`.
+pub fn read_pgsolver(text: &[u8], vertices: u32, edges: u32, game: &mut [u32], answer: &mut [u32; 4]) {
+    *answer = match pgsolver::read(text, vertices, edges, game) {
+        Err(fault) => refused(fault),
+        Ok((n, m)) => [0, n as u32, n as u32, m as u32],
     };
 }
 

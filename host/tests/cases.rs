@@ -2,7 +2,8 @@
 //! command.
 use hingrezh::check::call::{LIBRARY, PLAIN, perform, unlawful};
 use hingrezh::check::cases;
-use hingrezh::{Answer, FileFault, Model, Party, Refusal, Room, game_lines, restrict};
+use hingrezh::{Answer, FileFault, Model, Party, Refusal, Room};
+use hingrezh::{game_lines, read_pgsolver, restrict, write_pgsolver};
 
 #[test]
 fn worked_cases_and_readings() {
@@ -37,6 +38,15 @@ fn lines_of_case_1() {
     game_lines(&mut text, &built.answer, &built.game).unwrap();
     assert_eq!(String::from_utf8(text).unwrap(), "done 3 3 3\n0 0 0 1\n1 0 0 2\n2 1 0 0\n");
     assert_eq!(restrict(&built.game).game, built.game);
+}
+
+#[test]
+fn text_of_case_1() {
+    let built = case_1().build(Room { vertices: 512, edges: 1_024 }, 512);
+    let written = write_pgsolver(&built.game);
+    assert_eq!(written.answer, Answer::Done { steps: 37, vertices: 0, edges: 0 });
+    assert_eq!(String::from_utf8(written.text.clone()).unwrap(), "parity 2;\n0 0 0 1;\n1 0 0 2;\n2 0 1 0;\n");
+    assert_eq!(read_pgsolver(&written.text, Room { vertices: 3, edges: 3 }), built);
 }
 
 #[test]

@@ -1,5 +1,6 @@
 //! The command as people use it: options, exit statuses, messages, bounds, a night's folder.
-use hingrezh::{Game, Model, Player, Refusal, Room, bytes_of};
+use hingrezh::{Answer, Game, Model, Player, Refusal, Room, Slices};
+use hingrezh::{bytes_of, read_pgsolver, words_of, write_pgsolver};
 use std::fs;
 use std::io::Write;
 use std::path::{Path, PathBuf};
@@ -100,6 +101,14 @@ fn wrong_usage() {
         ("build in.words --limit 4294967296", "--limit wants a 32-bit number"),
         ("restrict in.words --map=3", "--map takes no value"),
         ("restrict", "exactly one file"),
+        ("read a.pg b.pg", "exactly one file"),
+        ("read in.words --edges=-1", "--edges wants a 32-bit number"),
+        ("read in.words --limit 3", "no option --limit"),
+        ("read in.words -o in.words", "the output in.words is the input in.words"),
+        ("build in.words --format dot", "--format wants pgsolver, words or lines, not \"dot\""),
+        ("night in.words f -o out --format PGSolver", "--format wants pgsolver, words or lines"),
+        ("restrict in.words --map -o -", "--map is a line"),
+        ("restrict in.words --map --format pgsolver", "--map is a line"),
         ("build in.words -o in.words", "the output in.words is the input in.words"),
         ("build in.words -o ./in.words", "is the input in.words"),
         ("night in.words -o out", "at least one formula"),
@@ -122,7 +131,7 @@ fn help_and_version() {
     let at = &folder("help");
     let manual = fs::read_to_string(concat!(env!("CARGO_MANIFEST_DIR"), "/man/hingrezh.1")).unwrap();
     let manual = manual.replace("\\-", "-");
-    for command in ["build", "restrict", "night", "show", "dot"] {
+    for command in ["build", "night", "read", "restrict", "show", "dot"] {
         let asked = [format!("{command} --help"), format!("{command} -h x y"), format!("help {command}")];
         let texts = asked.map(|line| {
             let got = hingrezh(at, &line);
@@ -305,7 +314,7 @@ fn bounds() {
         let mut shell = Command::new("sh");
         shell.current_dir(at).args(["-c", &line, env!("CARGO_BIN_EXE_hingrezh")]).output().unwrap()
     };
-    for command in ["build", "show", "dot", "restrict", "build -o large.game"] {
+    for command in ["build", "show", "dot", "restrict", "read", "build -o large.game"] {
         let got = limited(20_000, &format!("{command} large"));
         assert_eq!(status(&got), 65, "{command}: {}", err(&got));
         assert!(err(&got).contains("large: 1073741824 bytes, and the largest legal file has"), "{}", err(&got));
@@ -313,6 +322,7 @@ fn bounds() {
     let endless = limited(20_000, "build /dev/zero");
     assert_eq!((status(&endless), err(&endless).contains("promise 0 words, and more follow")), (65, true));
     assert!(err(&limited(64_000, "restrict /dev/zero")).contains("more bytes than the 29360144"));
+    assert_eq!(status(&limited(64_000, "read /dev/zero")), 71);
     input(at, "in.words");
     let no_memory = limited(20_000, "build in.words");
     assert_eq!((status(&no_memory), err(&no_memory).contains("no memory for slices of 96469008 bytes")), (71, true));
@@ -321,7 +331,9 @@ fn bounds() {
     let got = limited(125_000, "night largest.model largest.formula -o out");
     assert_eq!((status(&got), err(&got)), (0, String::new()));
     assert!(out(&got).contains(" 1048560 "), "{}", out(&got));
-    let got = limited(125_000, "restrict out/largest.game -o restricted.game");
+    let got = limited(125_000, "read out/largest.pg -o largest.game");
+    assert_eq!((status(&got), out(&got)), (0, "done 1048560 1048560 3801086\n".to_string()), "{}", err(&got));
+    let got = limited(125_000, "restrict largest.game -o restricted.game");
     assert_eq!((status(&got), out(&got)), (0, "done 1048560 1048560 3801086\n".to_string()), "{}", err(&got));
     // Large files, which nobody looks at afterwards.
     fs::remove_dir_all(at).unwrap();
@@ -427,6 +439,141 @@ fn graphs() {
     assert_eq!((status(&large), err(&large).contains("in.game: the game has 2 vertices")), (2, true));
 }
 
+/// The game of `input`.
+const TEXT: &str = "parity 5;\n0 0 0 1;\n1 0 1 2,3;\n2 0 1 0;\n3 0 1 4;\n4 0 0 5;\n5 0 1 3;\n";
+
+/// Each format to standard output and into a file; the answer stands where it is in nobody's way.
+#[test]
+fn formats() {
+    let at = &folder("formats");
+    input(at, "in.words");
+    let lines = out(&hingrezh(at, "build in.words"));
+    let words = hingrezh(at, "build in.words -o -").stdout;
+    for (format, whole) in [("pgsolver", TEXT.as_bytes()), ("words", &words), ("lines", lines.as_bytes())] {
+        let answer = if format == "lines" { "" } else { "hingrezh: done 6 6 7\n" };
+        for line in [format!("--format {format}"), format!("--format={format} -o -")] {
+            let got = hingrezh(at, &format!("build in.words {line}"));
+            assert_eq!((status(&got), err(&got)), (0, answer.to_string()), "{line}");
+            assert_eq!(got.stdout, whole, "{line}");
+        }
+        let got = hingrezh(at, &format!("build in.words --format {format} -o out"));
+        assert_eq!((status(&got), out(&got)), (0, "done 6 6 7\n".to_string()), "{format}: {}", err(&got));
+        assert_eq!(fs::read(at.join("out")).unwrap(), whole, "{format}");
+        // What was built is its own reachable part, and is read back as it was.
+        fs::write(at.join("game"), &words).unwrap();
+        fs::write(at.join("text"), TEXT).unwrap();
+        assert_eq!(hingrezh(at, &format!("restrict game --format {format}")).stdout, whole, "{format}");
+        assert_eq!(hingrezh(at, &format!("read text --format {format}")).stdout, whole, "{format}");
+    }
+    assert_eq!(hingrezh(at, "read text").stdout, words);
+    let mapped = hingrezh(at, "restrict game --map --format pgsolver -o out");
+    assert_eq!(out(&mapped), "done 6 6 7\nmap 0 1 2 3 4 5\n", "{}", err(&mapped));
+    assert_eq!(fs::read_to_string(at.join("out")).unwrap(), TEXT);
+}
+
+/// A cut game has no text: nothing is written, and an old output stays. Its words and lines are written as before.
+#[test]
+fn cut_games_as_text() {
+    let at = &folder("cut");
+    input(at, "in.words");
+    fs::write(at.join("out"), "old").unwrap();
+    for line in ["build in.words --limit 3 --format pgsolver", "build in.words --limit 3 --format pgsolver -o out"] {
+        let got = hingrezh(at, line);
+        assert_eq!((status(&got), out(&got)), (3, String::new()), "{line}");
+        let told = "in.words: cut after 3 steps: a cut game has no PGSolver text, and nothing is written";
+        assert!(err(&got).contains(told), "{line}: {}", err(&got));
+    }
+    assert_eq!(fs::read_to_string(at.join("out")).unwrap(), "old");
+    assert_eq!(files_in(at), ["in.words", "out"]);
+    let words = hingrezh(at, "build in.words --limit 3 --format words -o cut.game");
+    assert_eq!((status(&words), out(&words).starts_with("cut 3 ")), (3, true));
+    let got = hingrezh(at, "restrict cut.game --format pgsolver");
+    assert!(err(&got).contains("restricted or written as PGSolver text"), "{}", err(&got));
+}
+
+/// Lines in any order, names, repeated successors; and the room is what the text needs unless it is chosen.
+#[test]
+fn texts_that_are_read() {
+    let at = &folder("read");
+    fs::write(at.join("a.pg"), b"parity 1;\n1 4294967295 1 0,1,0 \"b;, \xff\";\n0 2 0 1 \"\";\n").unwrap();
+    let got = hingrezh(at, "read a.pg --format lines");
+    assert_eq!(out(&got), "done 2 2 3\n0 0 2 1\n1 1 4294967295 0 1\n", "{}", err(&got));
+    assert_eq!(out(&hingrezh(at, "read a.pg --format pgsolver")), "parity 1;\n0 2 0 1;\n1 4294967295 1 0,1;\n");
+    let got = hingrezh(at, "read a.pg --vertices 2 --edges 3 -o a.game");
+    assert_eq!((status(&got), out(&got)), (0, "done 2 2 3\n".to_string()), "{}", err(&got));
+    assert_eq!(fs::read(at.join("a.game")).unwrap(), bytes_of(&words("2 3 0 0 1 2 4294967295 0 1 3 1 0 1")));
+    for command in ["restrict", "dot"] {
+        let got = hingrezh(at, &format!("{command} a.pg"));
+        let told = "a.pg: this is PGSolver text; `hingrezh read` makes a game's words of it";
+        assert_eq!((status(&got), err(&got).contains(told)), (65, true), "{}", err(&got));
+    }
+    assert_eq!(status(&hingrezh(at, "read missing.pg")), 66);
+    assert_eq!(status(&hingrezh(at, "read a.pg -o no/such/out")), 74);
+}
+
+/// Each refusal of a text tells the line and what is wrong there; an old output stays.
+#[test]
+fn refusals_of_texts() {
+    let at = &folder("texts");
+    fs::write(at.join("out"), "old").unwrap();
+    for (text, told) in [
+        ("", "91 0: line 1, column 1: the header `parity`, the highest vertex and a semicolon should stand there, and"),
+        ("0 0 0 0;\n", "91 0: line 1, column 1: the header"),
+        ("parity 0;\nstart 0;\n0 0 0 0;\n", "91 0: line 2, column 1: the number of a vertex should stand there"),
+        ("parity 00;\n0 0 0 0;\n", "91 0: line 1, column 8: a number without leading zeros"),
+        ("parity 0;\r\n0 0 0 0;\n", "91 0: line 1, column 10: the end of the line should stand there, and not '\\r'"),
+        ("parity 1;\n0 0 0 1;\n1 0 2 0;\n", "91 0: line 3, column 5: the owner, 0 or 1, and a space should stand"),
+        ("parity 0;\n0  0 0 0;\n", "91 0: line 2, column 3: a priority should stand there, and not ' '"),
+        ("parity 0;\n0 0 0 ;\n", "91 0: line 2, column 7: a successor should stand there, and not ';'"),
+        ("parity 0;\n0 0 0 0, 0;\n", "91 0: line 2, column 9: a successor should stand there, and not ' '"),
+        ("parity 0;\n0 0 0 0\"\";\n", "91 0: line 2, column 8: a comma, a space and a name, or a semicolon should"),
+        ("parity 0;\n0 0 0 0 \"a\nb\";\n", "91 0: line 2, column 11: the double quote that ends the name should"),
+        ("parity 0;\n0 0 0 0;", "91 0: line 2, column 9: the end of the line should stand there, and not the end of"),
+        ("parity 0;\n0 0 0 0;\n\0", "91 0: line 3, column 1: the number of a vertex should stand there, and not"),
+        ("parity 1;\n0 0 0 0;\n", "92 0: vertex 1 has no line, and the header says that 1 is the highest"),
+        ("parity 1;\n0 0 0 0;\n0 0 0 0;\n", "92 0: line 3: vertex 0 is given a second time"),
+        ("parity 0;\n0 0 0 0;\n1 0 0 0;\n", "92 0: line 3: the vertex is 1, and the header says that 0 is the highest"),
+        (
+            "parity 0;\n0 0 0 0,4294967296;\n",
+            "92 0: line 2: a successor is 4294967296, and the header says that 0 is the",
+        ),
+        ("parity 0;\n0 0 0 99999999999999999999999;\n", "92 0: line 2: a successor is beyond 64 bits, and the"),
+        ("parity 9;\n0 0 0 0;\n", "92 0: vertex 1 has no line, and the header says that 9 is the highest"),
+        ("parity 0;\n0 4294967296 0 0;\n", "93 0: line 2: the priority of vertex 0 is above 4294967295"),
+    ] {
+        fs::write(at.join("wrong.pg"), text).unwrap();
+        let got = hingrezh(at, "read wrong.pg -o out");
+        assert_eq!((status(&got), out(&got)), (2, String::new()), "{text:?}: {}", err(&got));
+        assert!(err(&got).starts_with(&format!("hingrezh: wrong.pg: refused {told}")), "{text:?}: {}", err(&got));
+        assert!(err(&got).ends_with("; to be mended by whoever hands over the text\n"), "{text:?}: {}", err(&got));
+    }
+    assert_eq!(fs::read_to_string(at.join("out")).unwrap(), "old");
+}
+
+#[test]
+fn refusals_of_rooms_of_texts_and_of_stuck_games() {
+    let at = &folder("text-rooms");
+    fs::write(at.join("a.pg"), "parity 1;\n0 0 0 0,1,0;\n1 0 0 1;\n").unwrap();
+    for (options, told) in [
+        ("--vertices 0", "a.pg: refused 1 0: room for 0 vertices is asked for, and 1 to 1048576 are legal"),
+        ("--edges 4194305", "a.pg: refused 1 0: room for 4194305 edges is asked for"),
+        ("--vertices 1", "a.pg: refused 93 0: the game has 2 vertices, and the room is for 1 (--vertices; at most"),
+        ("--edges 2", "a.pg: refused 93 0: the game has more edges than the room's 2, equal ones counted once"),
+    ] {
+        let got = hingrezh(at, &format!("read a.pg {options}"));
+        assert_eq!((status(&got), out(&got)), (2, String::new()), "{options}");
+        assert!(err(&got).contains(told), "{options}: {}", err(&got));
+    }
+    assert_eq!(status(&hingrezh(at, "read a.pg --vertices 2 --edges 3 -o a.game")), 0);
+    fs::write(at.join("stuck.game"), bytes_of(&words("3 1 2 0 0 0 0 0 0 0 0 0 1 1"))).unwrap();
+    let got = hingrezh(at, "restrict stuck.game --format pgsolver -o out");
+    assert_eq!((status(&got), out(&got), at.join("out").exists()), (2, String::new(), false));
+    let told = "stuck.game: refused 98 0: in the restricted game vertex 1 has no successors, and in PGSolver text";
+    assert!(err(&got).contains(told), "{}", err(&got));
+    assert!(err(&got).ends_with("; to be mended by whoever hands over the game\n"), "{}", err(&got));
+    assert_eq!(status(&hingrezh(at, "restrict stuck.game")), 0);
+}
+
 /// A model and formulas: one that is done, one refused, one that needs more steps than 5.
 fn night_files(at: &Path) {
     file(at, "plan.model", &[LABELS, SYSTEM]);
@@ -447,13 +594,13 @@ fn a_night() {
     assert_eq!(cells[0], ["formula", "answer", "steps", "vertices", "edges", "seconds"]);
     assert_eq!(cells[1][..5], ["short", "done", "2", "2", "2"]);
     assert_eq!(cells[2][..5], ["long", "done", "6", "6", "7"]);
-    assert_eq!(status(&hingrezh(at, "build plan.model long.words -o long.game")), 0);
-    assert_eq!(fs::read(at.join("out/long.game")).unwrap(), fs::read(at.join("long.game")).unwrap());
+    assert_eq!(status(&hingrezh(at, "build plan.model long.words --format pgsolver -o long.pg")), 0);
+    assert_eq!(fs::read(at.join("out/long.pg")).unwrap(), fs::read(at.join("long.pg")).unwrap());
 
     // The next night one formula is cut, one refused and one missing: their old games are gone, others stay.
-    fs::copy(at.join("out/long.game"), at.join("out/wrong.game")).unwrap();
-    fs::copy(at.join("out/long.game"), at.join("out/missing.game")).unwrap();
-    fs::copy(at.join("out/long.game"), at.join("out/other.game")).unwrap();
+    for name in ["wrong.pg", "missing.pg", "missing.game", "short.lines", "other.pg"] {
+        fs::copy(at.join("out/long.pg"), at.join("out").join(name)).unwrap();
+    }
     let got = hingrezh(at, "night plan.model short.words long.words wrong.words missing.words -o out --limit=5");
     assert_eq!(status(&got), 66, "the gravest of all");
     assert!(err(&got).contains("long.words: cut after 5 steps"), "{}", err(&got));
@@ -462,12 +609,65 @@ fn a_night() {
     let answers: Vec<String> =
         out(&got).lines().skip(1).map(|row| row.split_whitespace().nth(1).unwrap().into()).collect();
     assert_eq!(answers, ["done", "cut", "refused", "failed"]);
-    let mut left: Vec<String> =
-        fs::read_dir(at.join("out")).unwrap().map(|file| file.unwrap().file_name().into_string().unwrap()).collect();
-    left.sort();
-    assert_eq!(left, ["manifest", "other.game", "short.game"]);
+    assert_eq!(files_in(&at.join("out")), ["manifest", "other.pg", "short.pg"]);
+    let manifest = fs::read_to_string(at.join("out/manifest")).unwrap();
+    assert!(manifest.contains("# cut 5 6 6: no game\n"), "{manifest}");
     let alone = |formula: &str| status(&hingrezh(at, &format!("night plan.model {formula} -o out --limit=5")));
     assert_eq!((alone("long.words"), alone("wrong.words"), alone("short.words")), (3, 2, 0));
+}
+
+fn files_in(folder: &Path) -> Vec<String> {
+    let names = fs::read_dir(folder).unwrap().map(|file| file.unwrap().file_name().into_string().unwrap());
+    let mut names: Vec<String> = names.collect();
+    names.sort();
+    names
+}
+
+/// A game's words with the first of equal edges alone.
+fn without_repeats(words: &[u32]) -> Vec<u32> {
+    let game = Game::of_words(words).unwrap();
+    let n = game.vertices() as usize;
+    let (mut offsets, mut targets) = (vec![0], Vec::new());
+    for vertex in 0..game.vertices() {
+        let successors = game.successors(vertex).iter().enumerate();
+        targets.extend(successors.filter(|(at, to)| !game.successors(vertex)[..*at].contains(to)).map(|(_, &to)| to));
+        offsets.push(targets.len() as u32);
+    }
+    [&[words[0], targets.len() as u32, 0], &words[3..3 + 2 * n], &offsets[..], &targets[..]].concat()
+}
+
+/// Each format has its ending, and old games in another one are gone; what was written is read back.
+#[test]
+fn a_night_in_each_format() {
+    let at = &folder("night-formats");
+    night_files(at);
+    // true and true: two equal edges.
+    file(at, "twice.words", &["0", "3 2 0 0 2 0 0"]);
+    let night = |options: &str| {
+        let got = hingrezh(at, &format!("night plan.model long.words twice.words -o out {options}"));
+        assert_eq!((status(&got), err(&got)), (0, String::new()), "{options}");
+        fs::read_to_string(at.join("out/manifest")).unwrap().lines().nth(2).unwrap().to_string()
+    };
+    assert!(night("--format lines").ends_with("; format lines"));
+    assert_eq!(files_in(&at.join("out")), ["long.lines", "manifest", "twice.lines"]);
+    let lines = fs::read_to_string(at.join("out/long.lines")).unwrap();
+    assert_eq!(lines, out(&hingrezh(at, "build plan.model long.words")));
+    assert!(night("--format=words").ends_with("; format words"));
+    assert_eq!(files_in(&at.join("out")), ["long.game", "manifest", "twice.game"]);
+    let games = ["long", "twice"].map(|name| fs::read(at.join(format!("out/{name}.game"))).unwrap());
+    assert!(night("").ends_with("; format pgsolver"));
+    assert_eq!(files_in(&at.join("out")), ["long.pg", "manifest", "twice.pg"]);
+    for (name, game) in ["long", "twice"].into_iter().zip(games) {
+        let got = hingrezh(at, &format!("read out/{name}.pg"));
+        let words = words_of(&game).unwrap();
+        assert_eq!((status(&got), got.stdout), (0, bytes_of(&without_repeats(&words))), "{name}");
+        assert_eq!(without_repeats(&words) == words, name == "long");
+    }
+    // A formula's own file is not removed, whatever its ending is.
+    fs::copy(at.join("long.words"), at.join("out/other.lines")).unwrap();
+    let got = hingrezh(at, "night plan.model out/other.lines -o out");
+    assert_eq!((status(&got), err(&got).contains("is the input out/other.lines")), (64, true), "{}", err(&got));
+    assert!(at.join("out/other.lines").exists());
 }
 
 #[test]
@@ -494,20 +694,20 @@ fn a_night_loses_nothing() {
     fs::create_dir_all(at.join("other")).unwrap();
     fs::copy(at.join("short.words"), at.join("other/short.formula")).unwrap();
     assert_eq!(status(&hingrezh(at, "night plan.model short.words -o out")), 0);
-    fs::copy(at.join("long.words"), at.join("out/long.game")).unwrap();
+    fs::copy(at.join("long.words"), at.join("out/long.pg")).unwrap();
     fs::copy(at.join("plan.model"), at.join("out/manifest.model")).unwrap();
     let before = |name: &str| fs::read(at.join(name)).unwrap();
-    let kept = [before("out/short.game"), before("out/long.game"), before("out/manifest")];
+    let kept = [before("out/short.pg"), before("out/long.pg"), before("out/manifest")];
     for (line, told) in [
-        ("night plan.model short.words other/short.formula -o out", "would both be written to out/short.game"),
-        ("night plan.model short.words out/long.game -o out", "the output out/long.game is the input out/long.game"),
-        ("night out/short.game short.words -o ./out", "the output ./out/short.game is the input out/short.game"),
+        ("night plan.model short.words other/short.formula -o out", "would both be written to out/short.pg"),
+        ("night plan.model short.words out/long.pg -o out", "the output out/long.pg is the input out/long.pg"),
+        ("night out/short.pg short.words -o ./out", "the output ./out/short.pg is the input out/short.pg"),
         ("night out/manifest short.words -o out", "the output out/manifest is the input out/manifest"),
     ] {
         let got = hingrezh(at, line);
         assert_eq!((status(&got), err(&got).contains(told)), (64, true), "{line}: {}", err(&got));
     }
-    assert_eq!(kept, [before("out/short.game"), before("out/long.game"), before("out/manifest")]);
+    assert_eq!(kept, [before("out/short.pg"), before("out/long.pg"), before("out/manifest")]);
     fs::write(at.join("file"), "no folder").unwrap();
     let got = hingrezh(at, "night plan.model short.words -o file");
     assert_eq!((status(&got), err(&got).starts_with("hingrezh: file: ")), (74, true), "{}", err(&got));
@@ -520,15 +720,15 @@ fn a_night_that_cannot_write() {
     let line = "night plan.model short.words long.words -o out";
     // What an interrupted night left is no obstacle.
     fs::create_dir_all(at.join("out")).unwrap();
-    fs::write(at.join("out/.short.game.hingrezh-part"), "half").unwrap();
+    fs::write(at.join("out/.short.pg.hingrezh-part"), "half").unwrap();
     assert_eq!(status(&hingrezh(at, line)), 0);
-    assert!(!at.join("out/.short.game.hingrezh-part").exists());
+    assert!(!at.join("out/.short.pg.hingrezh-part").exists());
     // The folder belongs to one night at a time.
     let taken = fs::File::open(at.join("out")).unwrap();
     taken.lock().unwrap();
     let got = hingrezh(at, line);
     assert_eq!((status(&got), err(&got).contains("out: another night is at work there")), (74, true), "{}", err(&got));
-    assert!(at.join("out/short.game").exists());
+    assert!(at.join("out/short.pg").exists());
     drop(taken);
     // The table is lost, the games are not.
     fs::remove_dir_all(at.join("out")).unwrap();
@@ -536,13 +736,13 @@ fn a_night_that_cannot_write() {
     let mut command = Command::new(env!("CARGO_BIN_EXE_hingrezh"));
     let got = command.current_dir(at).args(line.split(' ')).stdout(full).output().unwrap();
     assert_eq!((status(&got), err(&got).starts_with("hingrezh: standard output: ")), (74, true), "{}", err(&got));
-    assert!(["short.game", "long.game", "manifest"].iter().all(|file| at.join("out").join(file).exists()));
+    assert!(["short.pg", "long.pg", "manifest"].iter().all(|file| at.join("out").join(file).exists()));
     // An old game that cannot be removed is told, and the others are removed all the same.
-    fs::remove_file(at.join("out/short.game")).unwrap();
-    fs::create_dir(at.join("out/short.game")).unwrap();
+    fs::remove_file(at.join("out/short.pg")).unwrap();
+    fs::create_dir(at.join("out/short.pg")).unwrap();
     let got = hingrezh(at, line);
-    assert_eq!((status(&got), err(&got).contains("removing the old out/short.game: ")), (74, true), "{}", err(&got));
-    assert!(!at.join("out/long.game").exists() && !at.join("out/manifest").exists());
+    assert_eq!((status(&got), err(&got).contains("removing the old out/short.pg: ")), (74, true), "{}", err(&got));
+    assert!(!at.join("out/long.pg").exists() && !at.join("out/manifest").exists());
 }
 
 #[test]
@@ -553,11 +753,11 @@ fn manifests() {
     let manifest = fs::read_to_string(at.join("out/manifest")).unwrap();
     let lines: Vec<&str> = manifest.lines().collect();
     assert!(lines[0].starts_with("# hingrezh 0.") && lines[1].starts_with("# toolchain "), "{manifest}");
-    assert_eq!(lines[2], "# room 1048576 vertices, 4194304 edges; step limit 4294967295");
-    let sums = ["plan.model", "short.words", "out/short.game", "wrong.words"].map(|file| sum_of(at, file));
+    assert_eq!(lines[2], "# room 1048576 vertices, 4194304 edges; step limit 4294967295; format pgsolver");
+    let sums = ["plan.model", "short.words", "out/short.pg", "wrong.words"].map(|file| sum_of(at, file));
     assert_eq!(lines[3], format!("# model {} plan.model", sums[0]));
     assert_eq!(lines[4], format!("# formula {} short.words", sums[1]));
-    assert_eq!(lines[5..7], ["# done 2 2 2".to_string(), format!("{}  short.game", sums[2])]);
+    assert_eq!(lines[5..7], ["# done 2 2 2".to_string(), format!("{}  short.pg", sums[2])]);
     assert_eq!(lines[7..], [format!("# formula {} wrong.words", sums[3]), "# refused 43 0: no game".to_string()]);
 }
 
@@ -567,16 +767,30 @@ fn sum_of(at: &Path, file: &str) -> String {
     out(&got).split_whitespace().next().unwrap().to_string()
 }
 
+/// The same with something on standard input.
+fn fed(folder: &Path, arguments: &str, bytes: &[u8]) -> Output {
+    let mut command = Command::new(env!("CARGO_BIN_EXE_hingrezh"));
+    command.current_dir(folder).args(arguments.split_whitespace());
+    let mut child = command.stdin(Stdio::piped()).stdout(Stdio::piped()).stderr(Stdio::piped()).spawn().unwrap();
+    child.stdin.take().unwrap().write_all(bytes).unwrap();
+    child.wait_with_output().unwrap()
+}
+
 #[test]
 fn standard_input() {
     let at = &folder("stdin");
     input(at, "in.words");
-    let mut command = Command::new(env!("CARGO_BIN_EXE_hingrezh"));
-    command.current_dir(at).args(["build", "-"]).stdin(Stdio::piped()).stdout(Stdio::piped());
-    let mut child = command.spawn().unwrap();
-    child.stdin.take().unwrap().write_all(&fs::read(at.join("in.words")).unwrap()).unwrap();
-    let got = child.wait_with_output().unwrap();
+    let got = fed(at, "build -", &fs::read(at.join("in.words")).unwrap());
     assert_eq!(out(&got), out(&hingrezh(at, "build in.words")));
+    let text = hingrezh(at, "build in.words --format pgsolver -o -");
+    let words = fed(at, "read -", &text.stdout);
+    assert_eq!((status(&words), err(&words)), (0, "hingrezh: done 6 6 7\n".to_string()));
+    assert_eq!(words.stdout, hingrezh(at, "build in.words -o -").stdout);
+    assert_eq!(fed(at, "restrict -", &words.stdout).stdout, hingrezh(at, "build in.words").stdout);
+    assert_eq!(fed(at, "dot -", &words.stdout).stdout, hingrezh(at, "dot in.words").stdout);
+    let got = fed(at, "read -", b"parity");
+    assert_eq!((status(&got), out(&got)), (2, String::new()));
+    assert!(err(&got).starts_with("hingrezh: standard input: refused 91 0: line 1, column 1: "), "{}", err(&got));
 }
 
 /// The example's night does what its text says, and the graph behind the picture is the one that is drawn.
@@ -595,6 +809,39 @@ fn examples() {
     let picture = concat!(env!("CARGO_MANIFEST_DIR"), "/../examples/picture");
     let drawn = out(&hingrezh(at, &format!("dot {picture}/unit.words")));
     assert_eq!(drawn, fs::read_to_string(format!("{picture}/unit.dot")).unwrap());
+    let text = fs::read_to_string(at.join("out/served.pg")).unwrap();
+    let example = concat!(env!("CARGO_MANIFEST_DIR"), "/../examples/rollout.pg");
+    assert_eq!(text, fs::read_to_string(example).unwrap());
+}
+
+/// The wrapper's functions, with slices by need.
+#[test]
+fn texts_by_the_library() {
+    let model = Model { labels: words(LABELS), system: words(SYSTEM), actions: words(ACTIONS), formula: words(ALWAYS) };
+    let room = Room { vertices: 10, edges: 10 };
+    let built = model.build(room, u32::MAX);
+    let text = built.view().unwrap().to_pgsolver().unwrap();
+    assert_eq!(text, TEXT.as_bytes());
+    assert_eq!(write_pgsolver(&built.game).answer, Answer::Done { steps: text.len() as u32, vertices: 0, edges: 0 });
+    assert_eq!(Room::of_text(&text), Room { vertices: 6, edges: 7 });
+    for room in [room, Room::of_text(&text), Room::MOST] {
+        let read = read_pgsolver(&text, room);
+        assert_eq!((read.answer, &read.game), (built.answer, &built.game));
+    }
+    let refused = |number: u32, place: u32| Answer::Refused(Refusal { number, place });
+    assert_eq!(read_pgsolver(&text, Room { vertices: 6, edges: 6 }).answer, refused(93, 0));
+    assert_eq!(read_pgsolver(&text, Room { vertices: u32::MAX, edges: u32::MAX }).answer, refused(1, 0));
+    assert_eq!(read_pgsolver(b"", Room::of_text(b"")).answer, refused(91, 0));
+    assert_eq!(write_pgsolver(&words("1 0 0 0 0 0 0")).answer, refused(98, 0));
+    assert_eq!(write_pgsolver(&words("1 4294967295 0")).answer, refused(51, 0));
+    let cut = model.build(room, 1);
+    assert_eq!(cut.view().unwrap().to_pgsolver(), Err(Refusal { number: 53, place: 4 }));
+    let mut slices = Slices::new(room).unwrap();
+    assert_eq!(slices.pgsolver(), Err(Refusal { number: 51, place: 0 }));
+    for _ in 0..2 {
+        assert_eq!(slices.build(&model, u32::MAX), (built.answer, &built.game[..]));
+        assert_eq!(slices.pgsolver(), Ok(TEXT.as_bytes()));
+    }
 }
 
 #[test]

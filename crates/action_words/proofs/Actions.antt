@@ -10,7 +10,6 @@ use lib.Dec.{eqb, leb}
 use borrow.Author.Tests.{le-ltb, ltb-false}
 use Rattle.rules.specs.declared.Check.the-variants.{Passed, Fault}
 use Rattle.rules.specs.Answers.{faultIf, firstFault}
-use Rattle.rules.specs.Words.{mostNodes}
 use Rattle.rules.specs.Labels.{labelCount}
 use Rattle.rules.specs.Table.{size, actionChildren, onRow}
 use Rattle.rules.specs.Refusal.{outside, badActionOperand, refusal31, refusal32, refusal33, refusal34}
@@ -28,7 +27,7 @@ module _ (acts : List ℕ) where
 
   -- words that passed are those of a table
   pub actions-passed : (ls : List ℕ) → firstFault (refusal31 acts ∷ refusal32 acts ∷ refusal33 acts ∷ refusal34 ls acts ∷ []) ≡ Passed → Sized acts
-  unfolding refusal31 refusal32 mostNodes
+  unfolding refusal31 refusal32
   actions-passed ls e =
       let a = or-false (eqb (length acts) 0) _ (if-passed 31 0 _ (first-passed _ e 0)) in
       (ltb-false 1024 _ (if-passed 32 0 _ (first-passed _ e 1)), differ-false _ _ (a .1))

@@ -6,7 +6,7 @@ ghost use mathlib.Core.Path.{_≡_};
 ghost use Prim.Native.Nat.{_+_, _-_, _≤_, _<_};
 ghost use lib.ListN.{length, set};
 ghost use Rattle.rules.specs.Lists.{seek};
-ghost use Rattle.rules.specs.Words.{Input, inputOf};
+ghost use Rattle.rules.specs.Words.{mostNodes, Input, inputOf};
 ghost use Rattle.rules.specs.Labels.{labelCount};
 ghost use Rattle.rules.specs.Table.{size};
 ghost use Rattle.rules.specs.Actions.{actionTree};
@@ -114,7 +114,7 @@ pub fn formula_shape(
 
 // Is this the shape of a node?
 fn is_shown(shapes: &Shapes, shape: Shape, node: usize) -> bool
-    requires { ⌜ node < 1024 ⌝ }
+    requires { ⌜ node < mostNodes ⌝ }
     ensures { λ r. ⌜ r ≡ shownIn (now (shapes .entry)) shape node ⌝ }
 {
     if shapes[KINDS + node] != shape.kind {
@@ -128,7 +128,7 @@ fn is_shown(shapes: &Shapes, shape: Shape, node: usize) -> bool
 
 // The first node from `from` up to `to` that has the shape, or `to`.
 fn first_shown(shapes: &Shapes, shape: Shape, from: usize, to: usize) -> usize
-    requires { ⌜ (from ≤ to) × (to ≤ 1024) ⌝ }
+    requires { ⌜ (from ≤ to) × (to ≤ mostNodes) ⌝ }
     ensures { λ r. ⌜ r ≡ seek (shownIn (now (shapes .entry)) shape) from (to - from) ⌝ }
 {
     let mut node = from;
@@ -143,7 +143,7 @@ fn first_shown(shapes: &Shapes, shape: Shape, from: usize, to: usize) -> usize
 
 // The number of a node of this shape, where the tables have the later ones of the `count` nodes.
 fn number_of(shapes: &Shapes, numbers: &[u32], count: usize, node: usize, shape: Shape) -> u32
-    requires { ⌜ (node < count) × (count ≤ 1024) × (count ≤ length (now numbers)) ⌝ }
+    requires { ⌜ (node < count) × (count ≤ mostNodes) × (count ≤ length (now numbers)) ⌝ }
     ensures { λ r. ⌜ r ≡ numberIn (now (shapes .entry)) (now (numbers .entry)) count node shape ⌝ }
 {
     let later = first_shown(shapes, shape, node + 1, count);
@@ -155,7 +155,7 @@ fn number_of(shapes: &Shapes, numbers: &[u32], count: usize, node: usize, shape:
 
 // Writes the shape and the number of a node, where the tables have the later ones of the `count` nodes.
 fn place_node(shapes: &mut Shapes, numbers: &mut [u32], count: usize, node: usize, shape: Shape)
-    requires { ⌜ (node < count) × (count ≤ 1024) × (count ≤ length (now numbers)) ⌝ }
+    requires { ⌜ (node < count) × (count ≤ mostNodes) × (count ≤ length (now numbers)) ⌝ }
     ensures { λ _. ⌜ ShapePut (now (shapes .entry)) (now (shapes .exit)) node shape ⌝ }
     ensures { λ _. ⌜ now (numbers .exit) ≡
         set (now (numbers .entry)) node (numberIn (now (shapes .entry)) (now (numbers .entry)) count node shape) ⌝ }
@@ -176,7 +176,7 @@ pub fn number_actions(
     numbers: &mut [u32],
 )
     requires { ⌜ GoodActions (labelCount (now labels)) (now actions) × Classes (now labels) (now classes) ⌝ }
-    requires { ⌜ (length (now shapes) ≡ shapeWords) × (1024 ≤ length (now numbers)) ⌝ }
+    requires { ⌜ (length (now shapes) ≡ shapeWords) × (mostNodes ≤ length (now numbers)) ⌝ }
     ensures { λ _. ⌜ Numbered (actionTree (now (labels .entry)) (now (actions .entry)))
         (size (now (actions .entry))) 0 (now (numbers .exit)) ⌝ }
     ensures { λ _. ⌜ length (now (shapes .exit)) ≡ shapeWords ⌝ }
@@ -205,7 +205,7 @@ pub fn number_formula(
     ghost { Input }
     requires { λ x. ⌜ inputOf (now labels) (now system) (now actions) (now formula) ≡ x ⌝ }
     requires { λ x. ⌜ GoodInput x × ActionNumbers x (now acts) × EquationNumbers (x .formula) (now equations) ⌝ }
-    requires { λ x. ⌜ (length (now shapes) ≡ shapeWords) × (1024 ≤ length (now numbers)) ⌝ }
+    requires { λ x. ⌜ (length (now shapes) ≡ shapeWords) × (mostNodes ≤ length (now numbers)) ⌝ }
     ensures { λ x _. ⌜ FormulaNumbers x (now (numbers .exit)) ⌝ }
 {
     let count = at(formula, 0);

@@ -12,7 +12,7 @@ use borrow.Author.Tests.{ne-eqb, le-ltb, lt-leb}
 use Rattle.rules.specs.declared.Check.the-variants.{Passed}
 use Rattle.rules.specs.Lists.{word}
 use Rattle.rules.specs.declared.Room.{Room}
-use Rattle.rules.specs.Words.{Input, mostLabels, mostActions, mostNodes}
+use Rattle.rules.specs.Words.{Input, mostNodes}
 use Rattle.rules.specs.Answers.{faultIf, firstFault}
 use Rattle.rules.specs.Labels.{labelCount, actionCount, labelAt}
 use Rattle.rules.specs.System.{stateCount, transitionCount}
@@ -41,7 +41,7 @@ module _ (ls : List ℕ) (good : GoodLabels ls) where
       if-false 11 0 (or-none (le-ltb (length ls) 2 (omega arith)) (differ-no s))
 
   passed-12 : refusal12 ls ≡ Passed
-  unfolding refusal12 mostLabels mostActions
+  unfolding refusal12
   passed-12 =
       if-false 12 0 (or-none (le-ltb 4_096 (labelCount ls) (good .few)) (le-ltb 16_384 (actionCount ls) (good .small)))
 

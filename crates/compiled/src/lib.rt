@@ -1,5 +1,6 @@
 // What a run compiles before it walks stands in one lent array of words, which has a stretch for each table. Here is
 // said once where each begins, with a reader for each.
+use player::Priority;
 ghost use mathlib.Core.Path.{_≡_};
 ghost use Prim.Native.Nat.{_-_, _≤_, _<_};
 ghost use Rattle.rules.specs.Lists.{word};
@@ -63,11 +64,11 @@ pub fn right_of(compiled: &Compiled, item: u32) -> u32
 }
 
 // Its priority.
-pub fn priority_of(compiled: &Compiled, item: u32) -> u32
+pub fn priority_of(compiled: &Compiled, item: u32) -> Priority
     requires { ⌜ item < 2048 ⌝ }
-    ensures { λ r. ⌜ r ≡ word (prioritiesIn (now (compiled .entry))) item ⌝ }
+    ensures { λ r. ⌜ r .0 ≡ word (prioritiesIn (now (compiled .entry))) item ⌝ }
 {
-    item_word(compiled, PRIORITIES, item)
+    Priority(item_word(compiled, PRIORITIES, item))
 }
 
 // ---- the other tables, each lent by itself

@@ -84,7 +84,7 @@ fn shown_priority(work: &[u32], compiled: &Compiled, vertices: u32, vertex: Vert
     if first_loops(work, vertices, vertex) {
         return stuck_priority(owner_of(kind_of(compiled, item)));
     }
-    Priority(priority_of(compiled, item))
+    priority_of(compiled, item)
 }
 
 // How many edges a vertex has: none before it is settled.

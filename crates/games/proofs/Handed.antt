@@ -13,7 +13,6 @@ use borrow.Author.Tests.{lt-ltb, le-ltb, lt-leb, ne-eqb}
 use Rattle.rules.specs.declared.Check.{Check}
 use Rattle.rules.specs.declared.Check.the-variants.{Passed, Fault}
 use Rattle.rules.specs.Lists.{word, In}
-use Rattle.rules.specs.Words.{mostVertices, mostEdges}
 use Rattle.rules.specs.Answers.{faultIf, andThen, firstFault}
 use Rattle.rules.specs.Game.{Edge, Vertex, edgeTo, gameWords, edgeCount, allEdges, gameOf, vertexCount, edgesIn}
 use Rattle.rules.specs.Game.{initialIn, vertexColumnAt, offsetsAt, edgeColumnAt, ownerIn, offsetIn, edgeWord}
@@ -65,7 +64,7 @@ module _ (vs : List Vertex) (d : Vertex) (some : 1 ≤ length vs) (few : length 
   owner v h = subst (λ (l : List ℕ). ownerIn l v ≡ getD vs v d .owner) plain (vertex-read 0 vs [] 0 v d (omega arith) h)
 
   passes-51 : refusal51 g ≡ Passed
-  unfolding aboveRoom refusal51 mostVertices mostEdges
+  unfolding aboveRoom refusal51
   passes-51 =
       let long = length-read 0 vs in
       if-false 51 0

@@ -16,7 +16,7 @@ use Rattle.rules.specs.Game.{vertexCount}
 use Rattle.rules.specs.Texts.{digitsTo, decimal, spaced, line}
 use Rattle.rules.specs.Program.{wordsOf, disagree, slicesOf, gateRun, doneText, cutText, refusedText, vertexLines}
 use Rattle.rules.specs.Program.{report, reported, printedWords, printed, gateTextLength}
-use Rattle.text_writer.proofs.Decimals.{line-length}
+use Rattle.game_texts.proofs.Decimals.{line-length}
 use Rattle.gate_text.specs.Shown.{Shown}
 use Rattle.gate_text.proofs.Sizes.{game-length}
 use Rattle.gate_text.proofs.NeverCut.{SmallAnswer, gate-shown, gate-small}

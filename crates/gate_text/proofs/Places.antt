@@ -8,7 +8,7 @@ use native.Mathlib.Omega.{arith}
 use native.Mathlib.Decide.{decLt}
 use Rattle.rules.specs.declared.Check.the-variants.{Fault}
 use Rattle.rules.specs.declared.Room.{Room}
-use Rattle.rules.specs.Words.{Input, mostActions, mostStates, mostTransitions, mostNodes}
+use Rattle.rules.specs.Words.{Input}
 use Rattle.rules.specs.Labels.{labelCount, actionCount}
 use Rattle.rules.specs.System.{stateCount, transitionCount}
 use Rattle.rules.specs.Table.{size}
@@ -95,7 +95,6 @@ module _ (x : Input) (r : Room) (game work n p : ℕ) (refused : refusal x r gam
       go (no l) = omega arith
 
   refusal-small : Faulty x r game work n p → Small n p
-  unfolding mostActions mostStates mostTransitions mostNodes
   refusal-small (faultyRoom f) = room-small r game work f
   refusal-small (faultyLabels f) =
       label-small (x .labels) f (λ h. limited 12 16_384 _ h (λ l. faultyLabels (manyActions l)))

@@ -9,7 +9,7 @@ use lib.ListN.{length, length-append}
 use Rattle.rules.specs.Game.{vertexCount, edgesIn, ownerIn, priorityIn, offsetIn, edgesFrom, targetsIn}
 use Rattle.rules.specs.Texts.{decimal, spaced, line}
 use Rattle.rules.specs.Program.{vertexLine, vertexLines}
-use Rattle.text_writer.proofs.Decimals.{tens, decimal-length, decimal-word, spaced-length}
+use Rattle.game_texts.proofs.Decimals.{tens, decimal-length, decimal-word, spaced-length}
 use Rattle.gate_text.specs.Shown.{Shown}
 use Rattle.games.proofs.Offsets.{offset-within}
 

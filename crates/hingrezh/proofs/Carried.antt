@@ -14,6 +14,10 @@ use Rattle.rules.specs.Run.{Outcome, run}
 use Rattle.rules.specs.Demands.{Demand1, Demand3}
 use Rattle.rules.specs.Restrict.{Restricted, reachedVertices, restriction}
 use Rattle.rules.specs.Restricts.{Restricts, RestrictionDemand1}
+use Rattle.rules.specs.Texts.{Written}
+use Rattle.rules.specs.PgsolverWriting.{writtenGame}
+use Rattle.rules.specs.PgsolverReading.{Readback, readGame}
+use Rattle.rules.specs.PgsolverCalls.{WritingDemand, ReadingDemand}
 use Rattle.satisfaction.specs.Claims.{NoFalsePass}
 
 -- the first word tells the kind of an answer
@@ -59,3 +63,23 @@ module _ (game out mapping work h ns w : List ℕ) where
       × (Says ws (λ b. Accepted b → Restricts game b h ns (reachedVertices game))
       × Says ws (λ b. RestrictionDemand1 game out mapping work b h ns w)))
   restriction-carried ws a e (p, (c, (q, d))) = (e ∙ c, ((a, e, p), ((a, e, q), (a, e, d))))
+
+-- what the writer of PGSolver text promises
+module _ (game text t : List ℕ) where
+  pub writing-carried : (ws : List ℕ) (a : Answer) → ws ≡ said a
+      → (_≡_ {A = Written} (record { answer = a; text = t }) (writtenGame game text))
+      × ((said a ≡ said (writtenGame game text .answer)) × WritingDemand game text a t)
+      → (ws ≡ said (writtenGame game text .answer))
+      × (Says ws (λ b. _≡_ {A = Written} (record { answer = b; text = t }) (writtenGame game text))
+      × Says ws (λ b. WritingDemand game text b t))
+  writing-carried ws a e (p, (c, d)) = (e ∙ c, ((a, e, p), (a, e, d)))
+
+-- what the reader promises
+module _ (r : Room) (text game g : List ℕ) where
+  pub reading-carried : (ws : List ℕ) (a : Answer) → ws ≡ said a
+      → (_≡_ {A = Readback} (record { answer = a; game = g }) (readGame r text game))
+      × ((said a ≡ said (readGame r text game .answer)) × ReadingDemand r text game a g)
+      → (ws ≡ said (readGame r text game .answer))
+      × (Says ws (λ b. _≡_ {A = Readback} (record { answer = b; game = g }) (readGame r text game))
+      × Says ws (λ b. ReadingDemand r text game b g))
+  reading-carried ws a e (p, (c, d)) = (e ∙ c, ((a, e, p), (a, e, d)))

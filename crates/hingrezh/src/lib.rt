@@ -9,6 +9,10 @@ ghost use Rattle.rules.specs.Run.{Outcome, run};
 ghost use Rattle.rules.specs.Demands.{Demand1, Demand3};
 ghost use Rattle.rules.specs.Restrict.{Restricted, reachedVertices, restriction};
 ghost use Rattle.rules.specs.Restricts.{Restricts, RestrictionDemand1};
+ghost use Rattle.rules.specs.Texts.{Written};
+ghost use Rattle.rules.specs.PgsolverWriting.{writtenGame};
+ghost use Rattle.rules.specs.PgsolverReading.{Readback, readGame};
+ghost use Rattle.rules.specs.PgsolverCalls.{WritingDemand, ReadingDemand};
 ghost use Rattle.satisfaction.specs.Claims.{NoFalsePass};
 
 // The four words of an answer.
@@ -92,5 +96,41 @@ pub extern "C" fn hingrezh_compute_reachable(
         (now (out .exit)) (now (map .exit)) (now (work .exit))) ⌝ }
 {
     let result = reachability::compute_reachable(game, out, map, work);
+    put_answer(result, answer);
+}
+
+// A game as PGSolver text: see `write_pgsolver` of the crate pgsolver_writer, whose contract this is of the answer that
+// the lent words say.
+#[no_mangle]
+pub extern "C" fn hingrezh_write_pgsolver(game: &[u32], text: &mut [u8], answer: &mut [u32; 4])
+    ensures coded { λ _. ⌜ now (answer .exit) ≡ said (writtenGame (now (game .entry)) (now (text .entry)) .answer) ⌝ }
+    ensures equals { λ _. ⌜ Says (now (answer .exit)) (λ a. _≡_ {A = Written}
+        (record { answer = a; text = now (text .exit) }) (writtenGame (now (game .entry)) (now (text .entry)))) ⌝ }
+    ensures demand { λ _. ⌜ Says (now (answer .exit)) (λ a.
+        WritingDemand (now (game .entry)) (now (text .entry)) a (now (text .exit))) ⌝ }
+{
+    let result = pgsolver_writer::write_pgsolver(game, text);
+    put_answer(result, answer);
+}
+
+// A game from PGSolver text: see `read_pgsolver` of the crate pgsolver_reader, whose contract this is of the answer that
+// the lent words say.
+#[no_mangle]
+pub extern "C" fn hingrezh_read_pgsolver(
+    text: &[u8],
+    vertices: u32,
+    edges: u32,
+    game: &mut [u32],
+    answer: &mut [u32; 4],
+)
+    ensures coded { λ _. ⌜ now (answer .exit)
+        ≡ said (readGame (roomOf vertices edges) (now (text .entry)) (now (game .entry)) .answer) ⌝ }
+    ensures equals { λ _. ⌜ Says (now (answer .exit)) (λ a. _≡_ {A = Readback}
+        (record { answer = a; game = now (game .exit) })
+        (readGame (roomOf vertices edges) (now (text .entry)) (now (game .entry)))) ⌝ }
+    ensures demand { λ _. ⌜ Says (now (answer .exit)) (λ a.
+        ReadingDemand (roomOf vertices edges) (now (text .entry)) (now (game .entry)) a (now (game .exit))) ⌝ }
+{
+    let result = pgsolver_reader::read_pgsolver(text, vertices, edges, game);
     put_answer(result, answer);
 }

@@ -9,36 +9,25 @@ ghost use Rattle.rules.specs.Answers.{andThen, firstFault};
 ghost use Rattle.rules.specs.Refusal.{refusal1, refusal2, inputRefusal, refusal};
 ghost use Rattle.inputs.specs.Groups.{formulaChecks};
 
-// The most vertices and edges of a run's room.
-const MOST_VERTICES: u32 = 1_048_576;
-
-const MOST_EDGES: u32 = 4_194_304;
-
 // 1: the room is out of range. 2: the game slice or the work slice, of these lengths, is not as long as the room asks.
 fn check_room(room: Room, game_len: usize, work_len: usize) -> Check
     ensures { λ r. ⌜ r ≡ andThen (refusal1 room) (refusal2 room «game_len» «work_len») ⌝ }
 {
-    if room.vertices < 1 {
-        return Check::Fault(1, 0);
+    let ranged = parity_game::check_room(room);
+    match ranged {
+        Check::Fault(number, place) => Check::Fault(number, place),
+        Check::Passed => {
+            let vertices = room.vertices as usize;
+            let edges = room.edges as usize;
+            if game_len != parity_game::game_words(vertices, edges) {
+                return Check::Fault(2, 0);
+            }
+            if work_len != 8 * vertices + 2 * edges {
+                return Check::Fault(2, 0);
+            }
+            Check::Passed
+        }
     }
-    if MOST_VERTICES < room.vertices {
-        return Check::Fault(1, 0);
-    }
-    if room.edges < 1 {
-        return Check::Fault(1, 0);
-    }
-    if MOST_EDGES < room.edges {
-        return Check::Fault(1, 0);
-    }
-    let vertices = room.vertices as usize;
-    let edges = room.edges as usize;
-    if game_len != 4 + 3 * vertices + edges {
-        return Check::Fault(2, 0);
-    }
-    if work_len != 8 * vertices + 2 * edges {
-        return Check::Fault(2, 0);
-    }
-    Check::Passed
 }
 
 // 31 to 45: the action formulas, then the formula.

@@ -17,13 +17,14 @@ use modal_equation_system::fixpoints_at;
 use modal_equation_system::list_equations;
 use modal_equation_system::list_priorities;
 use modal_equation_system::operator_of;
+use words::NODES;
 use words::at;
 use words::clear;
 ghost use mathlib.Core.Path.{_≡_};
 ghost use Prim.Native.Nat.{_≤_, _<_};
 ghost use lib.ListN.{length};
 ghost use Rattle.rules.specs.Lists.{zeros};
-ghost use Rattle.rules.specs.Words.{Input, inputOf};
+ghost use Rattle.rules.specs.Words.{mostNodes, Input, inputOf};
 ghost use Rattle.rules.specs.Formula.{equationCount, firstBodyNode};
 ghost use Rattle.rules.specs.Depth.{byDepth};
 ghost use Rattle.rules.specs.Items.{items};
@@ -34,9 +35,6 @@ ghost use Rattle.modal_equation_system.specs.System.{Good, Listed, RankedBy};
 ghost use Rattle.alike_nodes.specs.Nodes.{ActionNumbers, FormulaNumbers, EquationNumbers};
 ghost use Rattle.item_table.specs.Entries.{ItemTable, Ranks, ItemNumbers, NodeNumbered};
 ghost use Rattle.item_table.specs.Entries.{ShownIn, EntryPut, ItemsOnly, PrioritiesOnly};
-
-// How many nodes the action formulas have at most, and the formula too.
-const NODES: usize = 1024;
 
 // ---- numbers
 
@@ -78,7 +76,7 @@ fn number_items(
     ghost { Input }
     requires { λ x. ⌜ inputOf (now labels) (now system) (now actions) (now formula) ≡ x ⌝ }
     requires { λ x. ⌜ GoodInput x × FormulaNumbers x (now nodes) ⌝ }
-    requires { λ x. ⌜ (count ≡ equationCount (x .formula)) × (1024 ≤ length (now numbers)) ⌝ }
+    requires { λ x. ⌜ (count ≡ equationCount (x .formula)) × (mostNodes ≤ length (now numbers)) ⌝ }
     ensures { λ x r. ⌜ (r ≡ length (items x)) × ItemNumbers x (now (numbers .exit)) ⌝ }
 {
     clear(numbers);
@@ -109,7 +107,7 @@ fn number_all(
     requires { λ x. ⌜ inputOf (now labels) (now system) (now actions) (now formula) ≡ x ⌝ }
     requires { λ x. ⌜ GoodInput x × Classes (x .labels) (classesIn (now compiled)) ⌝ }
     requires { λ x. ⌜ EquationNumbers (x .formula) (now equations) × (count ≡ equationCount (x .formula)) ⌝ }
-    requires { λ x. ⌜ (1024 ≤ length (now acts)) × (1024 ≤ length (now numbers)) ⌝ }
+    requires { λ x. ⌜ (mostNodes ≤ length (now acts)) × (mostNodes ≤ length (now numbers)) ⌝ }
     ensures { λ x r. ⌜ (r ≡ length (items x)) × ItemNumbers x (now (numbers .exit)) ⌝ }
     ensures { λ x _. ⌜ ActionNumbers x (now (acts .exit)) ⌝ }
 {
@@ -229,7 +227,7 @@ fn make_items(
     requires { λ x. ⌜ inputOf (now labels) (now system) (now actions) (now formula) ≡ x ⌝ }
     requires { λ x. ⌜ GoodInput x × Classes (x .labels) (classesIn (now out)) × (length (now out) ≡ wordCount) ⌝ }
     requires { λ x. ⌜ Listed (x .formula) (now table) × (count ≡ equationCount (x .formula)) ⌝ }
-    requires { λ x. ⌜ (1024 ≤ length (now acts)) × (1024 ≤ length (now numbers)) ⌝ }
+    requires { λ x. ⌜ (mostNodes ≤ length (now acts)) × (mostNodes ≤ length (now numbers)) ⌝ }
     ensures { λ x r. ⌜ r ≡ length (items x) ⌝ }
     ensures { λ x _. ⌜ ShownIn x (length (items x)) (now (out .exit)) ⌝ }
     ensures { λ x _. ⌜ ItemsOnly (now (out .entry)) (now (out .exit)) ⌝ }

@@ -8,7 +8,7 @@ use lib.Dec.{ltb}
 use borrow.Author.Tests.{lt-ltb, le-ltb, ltb-false}
 use Rattle.rules.specs.declared.Check.the-variants.{Passed, Fault}
 use Rattle.rules.specs.Answers.{firstFault}
-use Rattle.rules.specs.Words.{mostLabels, mostActions}
+use Rattle.rules.specs.Words.{mostLabels}
 use Rattle.rules.specs.Labels.{labelCount, actionCount}
 use Rattle.rules.specs.Refusal.{refusal11, refusal12, refusal13}
 use Rattle.tables.proofs.Faults.{if-true, if-false, if-passed, first-passed}
@@ -29,15 +29,15 @@ module _ (ls : List ℕ) where
   right-length h e = if-false _ _ (or-none (le-ltb _ _ h) (differ-no e))
 
   pub many-labels : 4096 < labelCount ls → refusal12 ls ≡ Fault 12 0
-  unfolding refusal12 mostLabels
+  unfolding refusal12
   many-labels h = if-true _ _ (or-left _ (lt-ltb 4096 _ h))
 
   pub many-actions : 16384 < actionCount ls → refusal12 ls ≡ Fault 12 0
-  unfolding refusal12 mostActions
+  unfolding refusal12
   many-actions h = if-true _ _ (or-right (ltb mostLabels (labelCount ls)) (lt-ltb 16384 _ h))
 
   pub few-enough : labelCount ls ≤ 4096 → actionCount ls ≤ 16384 → refusal12 ls ≡ Passed
-  unfolding refusal12 mostLabels mostActions
+  unfolding refusal12
   few-enough h l = if-false _ _ (or-none (le-ltb 4096 _ h) (le-ltb 16384 _ l))
 
   -- words that passed have L and A

@@ -4,6 +4,7 @@ ghost use mathlib.Core.Path.{_≡_};
 ghost use mathlib.Core.List.{[], _∷_};
 ghost use Prim.Native.Nat.{_+_, _*_, _<_, _≤_};
 ghost use lib.ListN.{length};
+ghost use Rattle.rules.specs.Words.{mostActions};
 ghost use Rattle.rules.specs.Answers.{firstFault};
 ghost use Rattle.rules.specs.Labels.{actionCount};
 ghost use Rattle.rules.specs.Refusal.{badLabel, refusal11, refusal12, refusal13};
@@ -25,7 +26,7 @@ fn bad_label(labels: &[u32], place: usize) -> bool
 
 // 13: the label numbers, of words with the right length.
 fn check_numbers(labels: &[u32]) -> Check
-    requires { ⌜ (length (now labels) ≡ 2 + 2 * actionCount (now labels)) × (actionCount (now labels) ≤ 16384) ⌝ }
+    requires { ⌜ (length (now labels) ≡ 2 + 2 * actionCount (now labels)) × (actionCount (now labels) ≤ mostActions) ⌝ }
     ensures { λ r. ⌜ r ≡ refusal13 (now (labels .entry)) ⌝ }
 {
     let end = 2 + words::at(labels, 1);

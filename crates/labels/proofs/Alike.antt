@@ -11,7 +11,8 @@ use lib.Dec.{eqb}
 use borrow.Author.Tests.{eq-eqb, eqb-true}
 use Rattle.rules.specs.Lists.{seek}
 use Rattle.rules.specs.Labels.{labelAt, actionAt, actionCount, times, sameLabel, multiset}
-use Rattle.labels.proofs.Counts.{tally-some, every-at, every-all}
+use Rattle.labels.proofs.Counts.{tally-some}
+use Rattle.lists.proofs.Tallies.{every-at, every-all}
 use Rattle.lists.proofs.Places.{seek-within, seek-holds, seek-before}
 use Rattle.lists.proofs.Tests.{and-true}
 

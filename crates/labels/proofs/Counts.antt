@@ -6,8 +6,7 @@ use Prim.Native.Nat.{ℕ, zero, suc, _+_, _-_, _≤_, _<_}
 use native.Mathlib.Omega.{arith}
 use native.Mathlib.Nat.{add-suc, add-assoc, add-zero, eq-or-lt-of-le}
 use Rattle.rules.specs.Lists.{one, tally, every}
-use Rattle.lists.proofs.Tests.{and-true}
-use Rattle.lists.proofs.Tallies.{tally-zero}
+use Rattle.lists.proofs.Tallies.{tally-zero, every-at, every-all}
 
 -- two flags are equal if each follows from the other
 pub flags : (a b : Bool) → (a ≡ true → b ≡ true) → (b ≡ true → a ≡ true) → a ≡ b
@@ -83,22 +82,9 @@ module _ (f : ℕ → Bool) where
       last true e = absurd (omega (arith, h, ap one e))
       last false e = e
 
-  pub every-at : (p n : ℕ) → every f p n ≡ true → (q : ℕ) → p ≤ q → q < p + n → f q ≡ true
-  unfolding every
-  every-at p zero h q a b = absurd (omega arith)
-  every-at p (suc n) h q a b =
-      let s = and-true (every f p n) (f (p + n)) h in
-      let l : q ≤ p + n = omega arith in
-      ⊎-elim (λ e. ap f e ∙ s .1) (λ u. every-at p n (s .0) q a u) (eq-or-lt-of-le l)
-
-  pub every-all : (p n : ℕ) → ((q : ℕ) → p ≤ q → q < p + n → f q ≡ true) → every f p n ≡ true
-  unfolding every
-  every-all p zero h = refl
-  every-all p (suc n) h = rw (every-all p n (λ q a b. h q a (omega arith))) (h (p + n) (omega arith) (omega arith))
-
   pub every-more : (p i : ℕ) → p ≤ i → every f p (i - p) ≡ true → f i ≡ true → every f p (i + 1 - p) ≡ true
   every-more p i h k e =
-      every-all p (i + 1 - p) (λ q a b. ⊎-elim (λ z. ap f z ∙ e) (λ u. every-at p (i - p) k q a (omega arith)) (eq-or-lt-of-le (le-of q b)))
+      every-all f p (i + 1 - p) (λ q a b. ⊎-elim (λ z. ap f z ∙ e) (λ u. every-at f p (i - p) k q a (omega arith)) (eq-or-lt-of-le (le-of q b)))
     where
       le-of : (q : ℕ) → q < p + (i + 1 - p) → q ≤ i
       le-of q b = omega arith
@@ -107,5 +93,5 @@ module _ (f : ℕ → Bool) where
   every-not p n q a b e = go (every f p n) refl
     where
       go : (t : Bool) → every f p n ≡ t → t ≡ false
-      go true h = sym (every-at p n h q a b) ∙ e
+      go true h = sym (every-at f p n h q a b) ∙ e
       go false h = refl

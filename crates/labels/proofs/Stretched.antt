@@ -11,7 +11,8 @@ use Rattle.rules.specs.Lists.{one}
 use Rattle.rules.specs.Labels.{labelAt, actionAt, actionCount, times, sameLabel}
 use Rattle.labels.specs.Stretches.{timesIn, covered, Starts, Stretch}
 use Rattle.lists.proofs.Tallies.{tally-cong}
-use Rattle.labels.proofs.Counts.{flags, tally-start, tally-more, tally-middle, every-start, every-more, every-not, every-at, every-all}
+use Rattle.labels.proofs.Counts.{flags, tally-start, tally-more, tally-middle, every-start, every-more, every-not}
+use Rattle.lists.proofs.Tallies.{every-at, every-all}
 use Rattle.labels.proofs.Alike.{same-times, times-same}
 use Rattle.labels.proofs.Listed.{positions-number, positions-all}
 

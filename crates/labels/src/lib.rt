@@ -12,7 +12,7 @@ ghost use Rattle.labels.specs.Stretches.{timesIn, coveredIn, Within, Sta
 ghost use Rattle.labels.specs.Marks.{weight, weightIn, MarkOf, Marked, MarkedUpTo};
 
 // How many labels there are at most.
-const LABELS: usize = 4096;
+pub const LABELS: usize = 4096;
 
 type LabelStarts = [u32; LABELS];
 

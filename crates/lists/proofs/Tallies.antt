@@ -1,11 +1,14 @@
--- How often a test holds in a range: never, always, and once more when it comes to hold at one position. Assumes
--- nothing.
-use mathlib.Core.Path.{_≡_, refl, sym, ap, ap₂}
+-- How often a test holds in a range: never, always, and once more when it comes to hold at one position; and that it
+-- holds at each. Assumes nothing.
+use mathlib.Core.Path.{_≡_, refl, sym, ap, ap₂, _∙_}
+use mathlib.Core.Logic.{⊎-elim}
 use mathlib.Core.Bool.{Bool, true, false}
 use Prim.Native.Nat.{ℕ, zero, suc, _+_, _≤_, _<_}
 use native.Mathlib.Decide.{ℕ-discrete}
 use native.Mathlib.Omega.{arith}
-use Rattle.rules.specs.Lists.{one, tally}
+use native.Mathlib.Nat.{eq-or-lt-of-le}
+use Rattle.rules.specs.Lists.{one, tally, every}
+use Rattle.lists.proofs.Tests.{and-true}
 
 pub tally-cong : (f g : ℕ → Bool) (p n : ℕ) → ((q : ℕ) → p ≤ q → q < p + n → f q ≡ g q) → tally f p n ≡ tally g p n
 unfolding tally
@@ -22,6 +25,20 @@ module _ (f : ℕ → Bool) where
   unfolding tally
   tally-all p zero h = refl
   tally-all p (suc n) h = rw (h (p + n) (omega arith) (omega arith)) (omega (arith, tally-all p n (λ q a b. h q a (omega arith))))
+
+  -- it holds at each position
+  pub every-at : (p n : ℕ) → every f p n ≡ true → (q : ℕ) → p ≤ q → q < p + n → f q ≡ true
+  unfolding every
+  every-at p zero h q a b = absurd (omega arith)
+  every-at p (suc n) h q a b =
+      let s = and-true (every f p n) (f (p + n)) h in
+      let l : q ≤ p + n = omega arith in
+      ⊎-elim (λ e. ap f e ∙ s .1) (λ u. every-at p n (s .0) q a u) (eq-or-lt-of-le l)
+
+  pub every-all : (p n : ℕ) → ((q : ℕ) → p ≤ q → q < p + n → f q ≡ true) → every f p n ≡ true
+  unfolding every
+  every-all p zero h = refl
+  every-all p (suc n) h = rw (every-all p n (λ q a b. h q a (omega arith))) (h (p + n) (omega arith) (omega arith))
 
 -- g is f, but for the position s, at which g holds and f does not
 module _ (f g : ℕ → Bool) (s : ℕ) (was : f s ≡ false) (is : g s ≡ true) where

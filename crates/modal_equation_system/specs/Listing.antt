@@ -7,7 +7,7 @@ use lib.ListN.{length, getD}
 use Rattle.rules.specs.Table.{size, kind, operand}
 use Rattle.rules.specs.Formula.{least, Equation, equationsBefore, equationNumber}
 use Rattle.rules.specs.Depth.{leastBit}
-use Rattle.modal_equation_system.specs.System.{Good, linkIn, kindIn, bodyIn, leastIn, Linked}
+use Rattle.modal_equation_system.specs.System.{Good, tableWords, linkIn, kindIn, bodyIn, leastIn, Linked}
 
 -- the placeholder, and the entry of an equation that is not there
 abbrev pub missing : Equation
@@ -24,7 +24,7 @@ pub record Listing (f : List ℕ) (v i : ℕ) (table : List ℕ) : Type 0 where
   pub kinds : (u : ℕ) → u < v → kindIn table u ≡ kind f u
   pub body : Shows (λ e. e .body) (equationsBefore f v) (bodyIn table)
   pub operator : Shows (λ e. leastBit (e .operator)) (equationsBefore f v) (leastIn table)
-  pub long : length table ≡ 4_098
+  pub long : length table ≡ tableWords
 
 -- how many equations a node of kind k begins
 pub record Counts (k r : ℕ) : Type 0 where

@@ -22,6 +22,10 @@ pub record Good (f : List ℕ) : Type 0 where
 -- ---- where the table has its words: the links of 1,024 nodes, their kinds, the first body nodes of 1,025 equations,
 -- their operators
 
+-- how many words that is
+abbrev pub tableWords : ℕ
+tableWords = 4_098
+
 abbrev pub linkIn : List ℕ → (node : ℕ) → ℕ
 linkIn t v = word t v
 
@@ -61,7 +65,7 @@ pub record Listed (f table : List ℕ) : Type 0 where
   pub kinds : (v : ℕ) → v < size f → kindIn table v ≡ kind f v
   pub body : (i : ℕ) → i < equationCount f → bodyIn table i ≡ equationOf f i .body
   pub operator : (i : ℕ) → i < equationCount f → leastIn table i ≡ leastBit (equationOf f i .operator)
-  pub long : length table ≡ 4_098
+  pub long : length table ≡ tableWords
 
 -- ---- reading
 

@@ -4,6 +4,7 @@ use formula_reader::moved;
 use formula_reader::new;
 use formula_reader::operand;
 use player::Priority;
+use words::NODES;
 use words::at;
 use words::kind_at;
 ghost use mathlib.Core.Path.{_≡_};
@@ -11,11 +12,12 @@ ghost use mathlib.Core.Bool.{not};
 ghost use Prim.Native.Nat.{_≤_, _<_, max};
 ghost use lib.ListN.{length};
 ghost use lib.Dec.{eqb};
+ghost use Rattle.rules.specs.Words.{mostNodes};
 ghost use Rattle.rules.specs.Lists.{one};
 ghost use Rattle.rules.specs.Table.{size, formulaNode};
 ghost use Rattle.rules.specs.Formula.{isFixpoint, equationCount};
 ghost use Rattle.rules.specs.Depth.{depth, byDepth};
-ghost use Rattle.modal_equation_system.specs.System.{formulaOnly, Good};
+ghost use Rattle.modal_equation_system.specs.System.{formulaOnly, Good, tableWords};
 ghost use Rattle.modal_equation_system.specs.System.{linkIn, kindIn, bodyIn, leastIn, withNode, withEquation};
 ghost use Rattle.modal_equation_system.specs.System.{Listed, ListedNode, ListedEquation};
 ghost use Rattle.modal_equation_system.specs.System.{ReadsBody, ReadsEquation, RankedBy};
@@ -48,13 +50,10 @@ fn fixpoints_of(kind: usize) -> usize
 // pointer to all they read. It has four stretches: the link of each node, its kind, the first node of each equation's
 // body, and 1 for each least equation. The six functions below alone index it.
 
-// The most nodes that a formula has. The links come first.
-const NODES: usize = 1024;
-
 // The most equations: one for each node, and the placeholder.
-const EQUATIONS: usize = 1025;
+const EQUATIONS: usize = NODES + 1;
 
-// Where the kinds begin.
+// Where the kinds begin, behind the links.
 const KINDS: usize = NODES;
 
 // Where the first body nodes of the equations begin.
@@ -70,7 +69,7 @@ pub type EquationTable = [u32; TABLE];
 
 // The link of a node: the right operand of an and or an or, the equation that a fixpoint or a reference stands for.
 fn link_of(table: &EquationTable, node: usize) -> usize
-    requires { ⌜ node < 1024 ⌝ }
+    requires { ⌜ node < mostNodes ⌝ }
     ensures { λ r. ⌜ r ≡ linkIn (now (table .entry)) node ⌝ }
 {
     wide(table[node])
@@ -78,7 +77,7 @@ fn link_of(table: &EquationTable, node: usize) -> usize
 
 // The kind of a node.
 fn kind_of(table: &EquationTable, node: usize) -> u32
-    requires { ⌜ node < 1024 ⌝ }
+    requires { ⌜ node < mostNodes ⌝ }
     ensures { λ r. ⌜ r ≡ kindIn (now (table .entry)) node ⌝ }
 {
     table[KINDS + node]
@@ -102,7 +101,7 @@ pub fn operator_of(table: &EquationTable, equation: usize) -> u32
 
 // Writes the words of a node.
 fn put_node(table: &mut EquationTable, node: usize, link: u32, kind: u32)
-    requires { ⌜ node < 1024 ⌝ }
+    requires { ⌜ node < mostNodes ⌝ }
     ensures { λ _. ⌜ now (table .exit) ≡ withNode (now (table .entry)) node link kind ⌝ }
 {
     table[node] = link;
@@ -184,7 +183,7 @@ fn list_nodes(formula: &[u32], table: &mut EquationTable, count: usize, first: u
 // Lists the equations in the table. Returns how many there are.
 pub fn list_equations(formula: &[u32], table: &mut EquationTable) -> usize
     requires { ⌜ Good (now formula) ⌝ }
-    requires { ⌜ length (now table) ≡ 4098 ⌝ }
+    requires { ⌜ length (now table) ≡ tableWords ⌝ }
     ensures { λ r. ⌜ r ≡ equationCount (now (formula .entry)) ⌝ }
     ensures { λ _. ⌜ Listed (now (formula .entry)) (now (table .exit)) ⌝ }
 {
@@ -229,7 +228,8 @@ fn read_body(table: &EquationTable, node: usize, equation: usize, target: usize)
     ensures { λ r. ⌜ ReadsBody (now (table .entry)) node equation target r ⌝ }
 {
     let kind = kind_of(table, node);
-    // First of all, and with nothing but a sum after the call: compiled, nested fixpoints are then a loop.
+    // A fixpoint or a reference. It is tested before the other kinds, and only a sum comes after the call: so the
+    // compiler turns the calls for nested fixpoints into a loop, and they take no stack.
     if 6 <= kind {
         let referred = link_of(table, node);
         if referred == target {

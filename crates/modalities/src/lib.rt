@@ -1,5 +1,6 @@
 // The step of a box or a diamond: an edge for each transition of the state whose label matches, once per target.
 use compiled::Compiled;
+use labels::LABELS;
 use match_table::MatchBytes;
 use rules::Room;
 use settling::Counters;
@@ -25,8 +26,6 @@ ghost use Rattle.modalities.specs.Matched.{answerCount, HaveBytes, Answe
 ghost use Rattle.modalities.specs.Matched.{answeredKeys, matchedKeys, modalityKeys};
 
 // A byte for each label that a system can have.
-const LABELS: usize = 4096;
-
 type Answers = [u8; LABELS];
 
 // A modality at a state: the state, the node of its action formula, the item number of its operand.

@@ -9,6 +9,7 @@ use Rattle.player.specs.declared.VertexIndex.{VertexIndex}
 use Rattle.rules.specs.Lists.{word, In, position, insert}
 use Rattle.lists.proofs.Inserts.{insert-old, insert-new}
 use Rattle.lists.proofs.Equalities.{number-equality}
+use Rattle.lists.proofs.Members.{position-out}
 use Rattle.words.specs.Regions.{region}
 use Rattle.pairs.specs.declared.Numbered.{Numbered}
 use Rattle.pairs.specs.declared.Numbered.the-variants.{Vertex, NoRoom}
@@ -80,6 +81,12 @@ module _ (w w′ : List ℕ) (v n k i m : ℕ) (p : Numbers w w′ v n k i m) wh
 
   pub more-count : (m ≡ n → ⊥) → ¬ In k (keysOf w v n)
   more-count d h = d (known-old h)
+
+  -- it has the first number that was free
+  pub vertex-new : (¬ In k (keysOf w v n)) → i ≡ n
+  vertex-new h =
+      p .vertex ∙ ap (position eqb k) (insert-new number-equality (keysOf w v n) k h)
+      ∙ position-out number-equality k (keysOf w v n) [] h ∙ length-keys w v n
 
   pub room-new : (¬ In k (keysOf w v n)) → n < v
   room-new h = omega (arith, known-new h, p .table .slots .room)

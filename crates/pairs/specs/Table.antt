@@ -1,6 +1,6 @@
 -- The known pairs, in the first four regions of the work words. The first three hold the slots, two words each: a key,
--- and one more than the number of its vertex, or 0 in an empty slot. There is half as much again of them as of vertices,
--- so that some are always empty and a search is short. The fourth region has the key of each vertex. Assumes nothing:
+-- and one more than the number of its vertex, or 0 in an empty slot. There are half as many slots again as vertices, so
+-- that some are always empty and a search is short. The fourth region has the key of each vertex. Assumes nothing:
 -- these are definitions.
 use mathlib.Core.Path.{_≡_}
 use mathlib.Core.Bool.{Bool}
@@ -9,6 +9,7 @@ use Prim.Native.Nat.{ℕ, zero, suc, _+_, _-_, _*_, _/_, _%_, _≤_, _<_}
 use lib.Dec.{ltb}
 use lib.ListN.{length, drop}
 use Rattle.rules.specs.Lists.{word, tally, Distinct}
+use Rattle.rules.specs.Words.{mostStates, mostVertices}
 use Rattle.words.specs.Regions.{region}
 use Rattle.pairs.specs.Slot.{slotOf}
 
@@ -85,7 +86,7 @@ pub record Slots (slots keys : List ℕ) (v n : ℕ) : Type 0 where
 -- the words hold n known pairs, whose keys are within the limits: a state is below 65,535
 pub record Table (w : List ℕ) (v n : ℕ) : Type 0 where
   pub slots : Slots (slotsOf w v) (keysOf w v n) v n
-  pub small : (i : ℕ) → i < n → keyAt w v i < 65535 * 2048
+  pub small : (i : ℕ) → i < n → keyAt w v i < mostStates * 2048
 
 -- ---- what calls ask and do
 
@@ -97,9 +98,9 @@ pub record InSlots (v i size : ℕ) : Type 0 where
 -- what a call asks that looks a pair up
 pub record Asks (w : List ℕ) (v n state item : ℕ) : Type 0 where
   pub some : 0 < v
-  pub most : v ≤ 1048576
+  pub most : v ≤ mostVertices
   pub whole : 8 * v ≤ length w
-  pub state-fits : state < 65535
+  pub state-fits : state < mostStates
   pub item-fits : item < 2048
   pub table : Table w v n
 

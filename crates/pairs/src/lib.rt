@@ -7,11 +7,15 @@ use words::region_word;
 ghost use mathlib.Core.Path.{_≡_};
 ghost use Prim.Native.Nat.{_+_, _*_, _≤_, _<_, _%_, _^_};
 ghost use lib.ListN.{length};
+ghost use Rattle.rules.specs.Words.{mostStates, mostVertices};
 ghost use Rattle.rules.specs.Lists.{word};
 ghost use Rattle.words.specs.Regions.{putWord};
 ghost use Rattle.pairs.specs.Slot.{keyOf, slotOf, Multiples, Scaled};
 ghost use Rattle.pairs.specs.Table.{slotCount, slotsOf, keyIn, heldIn, stateAt, itemAt, InSlots, Asks, Started};
 ghost use Rattle.pairs.specs.Answers.{Probed, Finding, Numbering};
+
+// The items have numbers below this: a pair's key is its state times it, plus its item.
+const ITEMS: u32 = 2048;
 
 // Each byte times 2,654,435,761, with everything above 32 bits dropped.
 const MULTIPLES: [u32; 256] = [
@@ -314,7 +318,7 @@ pub fn product(multiples: &[u32], factor: u32) -> u32
 // 2,048, and that of the item, which is handed over: it is the same for all targets of a modality.
 fn slot_of(multiples: &[u32], state: u32, item: u32, scaled: u32, slots: u32) -> u32
     requires { ⌜ Scaled (now multiples) item scaled ⌝ }
-    requires { ⌜ (state < 65535) × (item < 2048) ⌝ }
+    requires { ⌜ (state < mostStates) × (item < 2048) ⌝ }
     ensures { λ r. ⌜ r ≡ slotOf (keyOf state item) slots ⌝ }
 {
     let by_state = product(multiples, state) << 11;
@@ -375,7 +379,7 @@ pub fn state_of(work: &[u32], vertices: u32, vertex: VertexIndex) -> u32
     requires { ⌜ (8 * vertices ≤ length (now work)) × (vertex .0 < vertices) ⌝ }
     ensures { λ r. ⌜ r ≡ stateAt (now (work .entry)) vertices (vertex .0) ⌝ }
 {
-    region_word(work, vertices, KEYS, vertex.0) / 2048
+    region_word(work, vertices, KEYS, vertex.0) / ITEMS
 }
 
 // The item of a vertex's pair.
@@ -383,7 +387,7 @@ pub fn item_of(work: &[u32], vertices: u32, vertex: VertexIndex) -> u32
     requires { ⌜ (8 * vertices ≤ length (now work)) × (vertex .0 < vertices) ⌝ }
     ensures { λ r. ⌜ r ≡ itemAt (now (work .entry)) vertices (vertex .0) ⌝ }
 {
-    region_word(work, vertices, KEYS, vertex.0) % 2048
+    region_word(work, vertices, KEYS, vertex.0) % ITEMS
 }
 
 // ---- all slots
@@ -421,7 +425,7 @@ fn find(
     requires { ⌜ Asks (now work) vertices known state item ⌝ }
     ensures { λ r. ⌜ Finding (now (work .entry)) vertices known (keyOf state item) r ⌝ }
 {
-    let key = state * 2048 + item;
+    let key = state * ITEMS + item;
     let slots = vertices + vertices / 2;
     let home = slot_of(multiples, state, item, scaled, slots) as usize;
     match probe(work, vertices, key, home, slots as usize) {
@@ -451,7 +455,7 @@ pub fn number(
             if known == vertices {
                 return Numbered::NoRoom;
             }
-            let key = state * 2048 + item;
+            let key = state * ITEMS + item;
             put_slot_word(work, vertices, 2 * slot, key);
             put_slot_word(work, vertices, 2 * slot + 1, known + 1);
             put_word(work, vertices, KEYS, known, key);
@@ -466,7 +470,7 @@ pub fn number(
 
 // An empty table, whatever the words hold: every word of the slots becomes 0.
 pub fn start(work: &mut [u32], vertices: u32)
-    requires { ⌜ (vertices ≤ 1048576) × (8 * vertices ≤ length (now work)) ⌝ }
+    requires { ⌜ (vertices ≤ mostVertices) × (8 * vertices ≤ length (now work)) ⌝ }
     ensures { λ _. ⌜ Started (now (work .entry)) (now (work .exit)) vertices ⌝ }
 {
     let end = 3 * (vertices as usize);

@@ -7,7 +7,6 @@ use lib.ListN.{length}
 use lib.Dec.{eqb, ltb}
 use borrow.Author.Tests.{ltb-false, eqb-false}
 use Rattle.rules.specs.declared.Check.the-variants.{Passed}
-use Rattle.rules.specs.Words.{mostVertices, mostEdges}
 use Rattle.rules.specs.Game.{vertexCount, edgesIn, gameEnd}
 use Rattle.rules.specs.Refusal.{differ}
 use Rattle.rules.specs.GameRefusal.{aboveRoom, refusal51}
@@ -17,7 +16,7 @@ use Rattle.tables.proofs.Choices.{differ-false}
 use Rattle.parity_game.specs.Sizes.{Sizes}
 
 pub sizes : (g : List ℕ) → refusal51 g ≡ Passed → Sizes g
-unfolding aboveRoom refusal51 mostVertices mostEdges
+unfolding aboveRoom refusal51
 sizes g e =
     let a = or-false (ltb (length g) 3) _ (if-passed 51 0 _ e) in
     let b = or-false (differ (length g) (gameEnd g)) _ (a .1) in

@@ -4,3 +4,4 @@ pub mod Places
 pub mod Pools
 pub mod Refusals
 pub mod Stretches
+pub mod Rooms

@@ -4,10 +4,11 @@ use Prim.Native.Nat.{ℕ, _≤_}
 use mathlib.Core.Path.{_≡_}
 use mathlib.Core.List.{List}
 use lib.ListN.{length}
+use Rattle.rules.specs.Words.{mostVertices, mostEdges}
 use Rattle.rules.specs.Game.{vertexCount, edgesIn, gameEnd}
 
 pub record Sizes (g : List ℕ) : Type 0 where
   pub whole : length g ≡ gameEnd g
   pub some : 1 ≤ vertexCount g
-  pub few : vertexCount g ≤ 1_048_576
-  pub fewEdges : edgesIn g ≤ 4_194_304
+  pub few : vertexCount g ≤ mostVertices
+  pub fewEdges : edgesIn g ≤ mostEdges

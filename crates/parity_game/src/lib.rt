@@ -1,16 +1,22 @@
 // The words of a parity game: where they stand, the check of a game that is handed over, and the first words of a game
 // that is written.
 use rules::Check;
+use rules::Room;
 ghost use mathlib.Core.Path.{_≡_};
 ghost use mathlib.Core.List.{[], _∷_};
 ghost use Prim.Native.Nat.{_+_, _*_, _<_, _≤_};
 ghost use lib.ListN.{length};
 ghost use Rattle.rules.specs.Game.{vertexColumns, edgeColumns, gameWords, vertexCount, gameEnd, vertexWord};
 ghost use Rattle.rules.specs.Game.{edgesFrom};
-ghost use Rattle.rules.specs.Refusal.{faultFrom};
+ghost use Rattle.rules.specs.Refusal.{faultFrom, refusal1};
 ghost use Rattle.rules.specs.GameRefusal.{falls, aboveRoom, refusal51, refusal52, refusal53, gameRefusal};
 ghost use Rattle.words.specs.Stretches.{Wrote};
 ghost use Rattle.parity_game.specs.Sizes.{Sizes};
+
+// The most vertices and edges of a game, and of the room for one.
+const MOST_VERTICES: usize = 1_048_576;
+
+const MOST_EDGES: usize = 4_194_304;
 
 // ---- where the words stand
 
@@ -46,7 +52,7 @@ fn edge_column_at(vertices: usize, edges: usize, column: usize) -> usize
 }
 
 // How many words a game of so many vertices and edges has: it ends behind one column of the edges.
-fn game_words(vertices: usize, edges: usize) -> usize
+pub fn game_words(vertices: usize, edges: usize) -> usize
     requires { ⌜ (vertices < 4294967296) × (edges < 4294967296) ⌝ }
     ensures { λ r. ⌜ r ≡ gameWords vertices edges ⌝ }
 {
@@ -97,10 +103,26 @@ fn check_rising(ws: &[u32], first: usize, end: usize) -> Check
 pub fn above_room(vertices: usize, edges: usize) -> bool
     ensures { λ r. ⌜ r ≡ aboveRoom vertices edges ⌝ }
 {
-    if 1_048_576 < vertices {
+    if MOST_VERTICES < vertices {
         return true;
     }
-    4_194_304 < edges
+    MOST_EDGES < edges
+}
+
+// 1: room for so many vertices and edges is out of range.
+pub fn check_room(room: Room) -> Check
+    ensures { λ r. ⌜ r ≡ refusal1 room ⌝ }
+{
+    if room.vertices < 1 {
+        return Check::Fault(1, 0);
+    }
+    if room.edges < 1 {
+        return Check::Fault(1, 0);
+    }
+    if above_room(room.vertices as usize, room.edges as usize) {
+        return Check::Fault(1, 0);
+    }
+    Check::Passed
 }
 
 // 51: the length and the sizes.

@@ -4,6 +4,7 @@ use mathlib.Core.Path.{_≡_}
 use mathlib.Core.List.{List}
 use lib.ListN.{length, take}
 use Rattle.rules.specs.Lists.{word, In, Distinct}
+use Rattle.rules.specs.Words.{mostVertices}
 use Rattle.rules.specs.Game.{edgeCount, vertexCount, edgesIn}
 use Rattle.rules.specs.Restrict.{newNumber, keptVertices}
 use Rattle.restrictions.specs.GoodGame.{GoodGame}
@@ -12,7 +13,7 @@ use Rattle.restrictions.specs.GoodGame.{GoodGame}
 -- number
 pub record Knows (count : ℕ) (mapping work : List ℕ) : Type 0 where
   pub workLong : length work ≡ length mapping
-  pub few : length mapping ≤ 1_048_576
+  pub few : length mapping ≤ mostVertices
   pub within : count ≤ length mapping
   pub right : (v : ℕ) → v < length mapping → word mapping v ≡ newNumber (take count work) v
   pub distinct : Distinct (take count work)

@@ -24,7 +24,7 @@ use Rattle.games.proofs.Offsets.{offset-within}
 
 module _ (g : List ℕ) (r51 : refusal51 g ≡ Passed) (r52 : refusal52 g ≡ Passed) (r53 : refusal53 g ≡ Passed) where
   sizes : (length g ≡ gameEnd g) × (1 ≤ vertexCount g) × (vertexCount g ≤ 1_048_576) × (edgesIn g ≤ 4_194_304)
-  unfolding aboveRoom refusal51 mostVertices mostEdges
+  unfolding aboveRoom refusal51
   sizes =
       let (short, a) = or-false (ltb (length g) 3) _ (if-passed 51 0 _ r51) in
       let (other, b) = or-false (differ (length g) (gameEnd g)) _ a in

@@ -4,13 +4,14 @@ use mathlib.Core.Path.{_≡_}
 use mathlib.Core.List.{List}
 use Prim.Native.Nat.{ℕ, suc, _≤_, _<_}
 use lib.ListN.{length}
+use Rattle.rules.specs.Words.{mostVertices, mostEdges}
 use Rattle.rules.specs.Game.{vertexCount, edgesIn, initialIn, gameEnd, ownerIn, offsetIn, edgeWord}
 
 pub record GoodGame (g : List ℕ) : Type 0 where
   pub sized : length g ≡ gameEnd g
   pub some : 1 ≤ vertexCount g
-  pub few : vertexCount g ≤ 1_048_576
-  pub light : edgesIn g ≤ 4_194_304
+  pub few : vertexCount g ≤ mostVertices
+  pub light : edgesIn g ≤ mostEdges
   pub begins : offsetIn g 0 ≡ 0
   pub rises : (v : ℕ) → v < vertexCount g → offsetIn g v ≤ offsetIn g (suc v)
   pub ends : offsetIn g (vertexCount g) ≡ edgesIn g

@@ -8,30 +8,28 @@ use native.Mathlib.Omega.{arith}
 use lib.Dec.{lit<, lit≤}
 use borrow.Author.Tests.{eqb-false}
 use Rattle.rules.specs.Lists.{position}
-use Rattle.rules.specs.Words.{mostVertices, mostEdges}
-use Rattle.rules.specs.FaultyGame.{FaultyGame, fewGameWords, wrongGameWords, noVertex, verticesAboveRoom}
+use Rattle.rules.specs.FaultyGame.{FaultyGame, FaultyRestriction, faultyGame, fewGameWords, wrongGameWords, noVertex, verticesAboveRoom}
 use Rattle.rules.specs.FaultyGame.{edgesAboveRoom, offsetsBegin, offsetFalls, offsetsEnd, initialTooLarge}
-use Rattle.rules.specs.FaultyGame.{ownerTooLarge, targetTooLarge, wrongOut, wrongMap, wrongWork, gameTurn}
+use Rattle.rules.specs.FaultyGame.{ownerTooLarge, targetTooLarge, wrongOut, wrongMap, wrongWork, restrictionTurn}
 
-pub game-faults : FaultyGame (1 ∷ 0 ∷ []) 7 1 1 51 0
-    × FaultyGame (1 ∷ 1 ∷ 0 ∷ 0 ∷ 0 ∷ 0 ∷ 1 ∷ 0 ∷ 0 ∷ []) 9 1 1 51 0
-    × FaultyGame (1 ∷ 1 ∷ 0 ∷ 0 ∷ 0 ∷ 0 ∷ 1 ∷ []) 7 1 1 51 0
-    × FaultyGame (0 ∷ 0 ∷ 0 ∷ 0 ∷ []) 4 0 0 51 0
-    × FaultyGame (1048577 ∷ 0 ∷ 0 ∷ []) 3 3 3 51 0
-    × FaultyGame (1 ∷ 4194305 ∷ 0 ∷ []) 3 1 1 51 0
-    × FaultyGame (1 ∷ 1 ∷ 0 ∷ 0 ∷ 0 ∷ 1 ∷ 1 ∷ 0 ∷ []) 8 1 1 52 5
-    × FaultyGame (2 ∷ 2 ∷ 0 ∷ 0 ∷ 0 ∷ 0 ∷ 0 ∷ 0 ∷ 5 ∷ 2 ∷ 0 ∷ 0 ∷ []) 12 2 2 52 9
-    × FaultyGame (1 ∷ 1 ∷ 0 ∷ 0 ∷ 0 ∷ 0 ∷ 0 ∷ 0 ∷ []) 8 1 1 52 6
-    × FaultyGame (1 ∷ 1 ∷ 1 ∷ 0 ∷ 0 ∷ 0 ∷ 1 ∷ 0 ∷ []) 8 1 1 53 2
-    × FaultyGame (1 ∷ 0 ∷ 0 ∷ 2 ∷ 0 ∷ 0 ∷ 0 ∷ []) 7 1 1 53 3
-    × FaultyGame (1 ∷ 1 ∷ 0 ∷ 0 ∷ 0 ∷ 0 ∷ 1 ∷ 1 ∷ []) 8 1 1 53 7
-    × FaultyGame (1 ∷ 0 ∷ 0 ∷ 1 ∷ 0 ∷ 0 ∷ 0 ∷ []) 6 1 1 2 0
-    × FaultyGame (1 ∷ 0 ∷ 0 ∷ 1 ∷ 0 ∷ 0 ∷ 0 ∷ []) 8 1 1 2 0
-    × FaultyGame (1 ∷ 0 ∷ 0 ∷ 1 ∷ 0 ∷ 0 ∷ 0 ∷ []) 7 0 1 2 0
-    × FaultyGame (1 ∷ 0 ∷ 0 ∷ 1 ∷ 0 ∷ 0 ∷ 0 ∷ []) 7 2 1 2 0
-    × FaultyGame (1 ∷ 0 ∷ 0 ∷ 1 ∷ 0 ∷ 0 ∷ 0 ∷ []) 7 1 0 2 0
-    × FaultyGame (1 ∷ 0 ∷ 0 ∷ 1 ∷ 0 ∷ 0 ∷ 0 ∷ []) 7 1 2 2 0
-unfolding mostVertices mostEdges
+pub game-faults : FaultyGame (1 ∷ 0 ∷ []) 51 0
+    × FaultyGame (1 ∷ 1 ∷ 0 ∷ 0 ∷ 0 ∷ 0 ∷ 1 ∷ 0 ∷ 0 ∷ []) 51 0
+    × FaultyGame (1 ∷ 1 ∷ 0 ∷ 0 ∷ 0 ∷ 0 ∷ 1 ∷ []) 51 0
+    × FaultyGame (0 ∷ 0 ∷ 0 ∷ 0 ∷ []) 51 0
+    × FaultyGame (1048577 ∷ 0 ∷ 0 ∷ []) 51 0
+    × FaultyGame (1 ∷ 4194305 ∷ 0 ∷ []) 51 0
+    × FaultyGame (1 ∷ 1 ∷ 0 ∷ 0 ∷ 0 ∷ 1 ∷ 1 ∷ 0 ∷ []) 52 5
+    × FaultyGame (2 ∷ 2 ∷ 0 ∷ 0 ∷ 0 ∷ 0 ∷ 0 ∷ 0 ∷ 5 ∷ 2 ∷ 0 ∷ 0 ∷ []) 52 9
+    × FaultyGame (1 ∷ 1 ∷ 0 ∷ 0 ∷ 0 ∷ 0 ∷ 0 ∷ 0 ∷ []) 52 6
+    × FaultyGame (1 ∷ 1 ∷ 1 ∷ 0 ∷ 0 ∷ 0 ∷ 1 ∷ 0 ∷ []) 53 2
+    × FaultyGame (1 ∷ 0 ∷ 0 ∷ 2 ∷ 0 ∷ 0 ∷ 0 ∷ []) 53 3
+    × FaultyGame (1 ∷ 1 ∷ 0 ∷ 0 ∷ 0 ∷ 0 ∷ 1 ∷ 1 ∷ []) 53 7
+    × FaultyRestriction (1 ∷ 0 ∷ 0 ∷ 1 ∷ 0 ∷ 0 ∷ 0 ∷ []) 6 1 1 2 0
+    × FaultyRestriction (1 ∷ 0 ∷ 0 ∷ 1 ∷ 0 ∷ 0 ∷ 0 ∷ []) 8 1 1 2 0
+    × FaultyRestriction (1 ∷ 0 ∷ 0 ∷ 1 ∷ 0 ∷ 0 ∷ 0 ∷ []) 7 0 1 2 0
+    × FaultyRestriction (1 ∷ 0 ∷ 0 ∷ 1 ∷ 0 ∷ 0 ∷ 0 ∷ []) 7 2 1 2 0
+    × FaultyRestriction (1 ∷ 0 ∷ 0 ∷ 1 ∷ 0 ∷ 0 ∷ 0 ∷ []) 7 1 0 2 0
+    × FaultyRestriction (1 ∷ 0 ∷ 0 ∷ 1 ∷ 0 ∷ 0 ∷ 0 ∷ []) 7 1 2 2 0
 game-faults = (
   fewGameWords (lit< tt),
   wrongGameWords (eqb-false _ _ refl),
@@ -57,8 +55,7 @@ game-faults = (
 abbrev loop : List ℕ
 loop = 1 ∷ 1 ∷ 0 ∷ 1 ∷ 0 ∷ 0 ∷ 1 ∷ 0 ∷ []
 
-pub no-game-fault : (n p : ℕ) → ¬ FaultyGame loop 8 1 1 n p
-unfolding mostVertices mostEdges
+pub no-game-fault : (n p : ℕ) → ¬ FaultyGame loop n p
 no-game-fault n p (fewGameWords l) = let k : 8 < 3 = l in omega arith
 no-game-fault n p (wrongGameWords d) = d refl
 no-game-fault n p (noVertex e) = let k : _≡_ {A = ℕ} 1 0 = e in omega arith
@@ -73,11 +70,14 @@ no-game-fault n p (ownerTooLarge zero h l) = let k : 1 < 1 = l in omega arith
 no-game-fault n p (ownerTooLarge (suc v) h l) = let k : suc v < 1 = h in omega arith
 no-game-fault n p (targetTooLarge zero h l) = let k : 1 ≤ 0 = l in omega arith
 no-game-fault n p (targetTooLarge (suc e) h l) = let k : suc e < 1 = h in omega arith
-no-game-fault n p (wrongOut d) = d refl
-no-game-fault n p (wrongMap d) = d refl
-no-game-fault n p (wrongWork d) = d refl
+
+pub no-restriction-fault : (n p : ℕ) → ¬ FaultyRestriction loop 8 1 1 n p
+no-restriction-fault n p (faultyGame f) = no-game-fault n p f
+no-restriction-fault n p (wrongOut d) = d refl
+no-restriction-fault n p (wrongMap d) = d refl
+no-restriction-fault n p (wrongWork d) = d refl
 
 -- 51, 52, 53, then 2
-pub game-order : (gameTurn 51 < gameTurn 52) × (gameTurn 52 < gameTurn 53) × (gameTurn 53 < gameTurn 2)
-unfolding gameTurn position
+pub game-order : (restrictionTurn 51 < restrictionTurn 52) × (restrictionTurn 52 < restrictionTurn 53) × (restrictionTurn 53 < restrictionTurn 2)
+unfolding restrictionTurn position
 game-order = (lit< tt, lit< tt, lit< tt)

@@ -2,8 +2,7 @@
 -- names. Assumes nothing.
 use Rattle.rules.specs.Lists.{from, sum, largest, zeros, tally, every, seek, sumWords, filter, has, position}
 use Rattle.rules.specs.Lists.{insert, insertAll, once}
-use Rattle.rules.specs.Words.{mostLabels, mostActions, mostStates, mostTransitions, mostNodes, mostVertices}
-use Rattle.rules.specs.Words.{mostEdges, gameLength, workLength}
+use Rattle.rules.specs.Words.{gameLength, workLength}
 use Rattle.rules.specs.Answers.{faultIf, andThen, firstFault}
 use Rattle.rules.specs.Labels.{times, sameLabel, multiset}
 use Rattle.rules.specs.System.{firstTransition, transitions}
@@ -35,11 +34,22 @@ use Rattle.rules.specs.Texts.{digitsTo, decimal, spaced, line, textInto}
 use Rattle.rules.specs.Program.{wordOf, joined, wordsOf, gateWords, disagree, slicesOf, gateRoom, gateSteps}
 use Rattle.rules.specs.Program.{gateRun, doneText, cutText, refusedText, vertexLine, vertexLines, report}
 use Rattle.rules.specs.Program.{reported, printedWords, printed, gateTextLength, programText}
+use Rattle.rules.specs.TextReading.{thenRead, withFirst, readByte, readBytes, isDigit, digitsAt, pastDigits}
+use Rattle.rules.specs.TextReading.{valueOn, noNumeral, readNumber, readField}
+use Rattle.rules.specs.Pgsolver.{parityWord, headerText, commaText, listText, nameText, lineText, linesText}
+use Rattle.rules.specs.Pgsolver.{spelled}
+use Rattle.rules.specs.PgsolverParse.{readCommas, readList, readName, readNamed, readOwner, readLine, withLine}
+use Rattle.rules.specs.PgsolverParse.{readLines, readHeader, parse}
+use Rattle.rules.specs.PgsolverWriting.{lineIn, textIn, gameText, hasSuccessor, refusal98, writingRefusal}
+use Rattle.rules.specs.PgsolverWriting.{writtenOr, writtenGame}
+use Rattle.rules.specs.PgsolverReading.{vertexOf, vertexNamed, readVertices, all, different, withinHighest}
+use Rattle.rules.specs.PgsolverReading.{refusal92, refusal93, textRefusal, readingRefusal, readAs, verticesIn}
+use Rattle.rules.specs.PgsolverReading.{readOr, readGame}
 use Rattle.rules.specs.Run.{walkOf, verticesOf, exceeds, builtAnswer, builtOutcome, outOfRoom, walkOutcome, refusedOr, run}
 
 unfoldable pub everyRule : Unit {0}
-unfolding from sum largest zeros tally every seek sumWords filter has position insert insertAll once mostLabels mostActions
-    mostStates mostTransitions mostNodes mostVertices mostEdges gameLength workLength faultIf andThen firstFault
+unfolding from sum largest zeros tally every seek sumWords filter has position insert insertAll once
+    gameLength workLength faultIf andThen firstFault
     times sameLabel multiset firstTransition transitions decodeAction actionNode actionShape decodeFormula formulaNode
     formulaShape fixpointOf referenceOf endOfTrees treeEnd isEnd isNotEnd isBeforeEnd comesTo onRow actionOf actionTo actionTree matches
     equationAt isFixpoint placeholder equationsBefore equations equationCount equationOf equationNumber formulaOf
@@ -57,3 +67,12 @@ unfolding from sum largest zeros tally every seek sumWords filter has position i
     line textInto wordOf joined wordsOf gateWords disagree slicesOf gateRoom gateSteps gateRun doneText cutText
     refusedText vertexLine vertexLines report reported printedWords printed gateTextLength programText
 everyRule = tt
+
+-- the definitions of PGSolver text, for which the line above is unfolded too
+unfoldable pub everySolverRule : Unit {0}
+unfolding thenRead withFirst readByte readBytes isDigit digitsAt pastDigits valueOn noNumeral readNumber readField
+    parityWord headerText commaText listText nameText lineText linesText spelled readCommas readList readName readNamed
+    readOwner readLine withLine readLines readHeader parse lineIn textIn gameText hasSuccessor refusal98 writingRefusal
+    writtenOr writtenGame vertexOf vertexNamed readVertices all different withinHighest refusal92 refusal93 textRefusal
+    readingRefusal readAs verticesIn readOr readGame
+everySolverRule = tt

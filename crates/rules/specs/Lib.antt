@@ -23,3 +23,10 @@ pub mod Restrict
 pub mod Restricts
 pub mod Texts
 pub mod Program
+pub mod TextReading
+pub mod Pgsolver
+pub mod PgsolverParse
+pub mod PgsolverWriting
+pub mod PgsolverReading
+pub mod FaultyText
+pub mod PgsolverCalls

@@ -11,7 +11,7 @@ use Rattle.rules.specs.Lists.{word, zeros, In, Distinct}
 use Rattle.rules.specs.Answers.{Accepted}
 use Rattle.rules.specs.Reach.{Reachable}
 use Rattle.rules.specs.Game.{vertexCount, edgesIn, initialIn, ownerIn, priorityIn, offsetIn, targetsIn, gameEnd}
-use Rattle.rules.specs.FaultyGame.{FaultyGame, FirstFaultyGame}
+use Rattle.rules.specs.FaultyGame.{FaultyRestriction, FirstFaultyRestriction}
 use Rattle.rules.specs.Demands.{Numbers}
 
 -- "breadth first, targets in order; the first met gets the next number" as a relation: the vertices met once the first
@@ -51,8 +51,8 @@ pub record Restricts (g : List ℕ) (a : Answer) (h ns met : List ℕ) : Type 0 
 -- out′, mapping′, work′: the slices afterwards
 pub record RestrictionDemand1 (g out mapping work : List ℕ) (a : Answer) (out′ mapping′ work′ : List ℕ) : Type 0 where
   -- "Except for 60, a refusal alters nothing"
-  pub refused : (n p : ℕ) → FirstFaultyGame g (length out) (length mapping) (length work) n p
+  pub refused : (n p : ℕ) → FirstFaultyRestriction g (length out) (length mapping) (length work) n p
       → (a ≡ Refused n p) × (out′ ≡ out) × (mapping′ ≡ mapping) × (work′ ≡ work)
   -- "After Done and Cut the work slice is all zero"
-  pub accepted : ((n p : ℕ) → ¬ FaultyGame g (length out) (length mapping) (length work) n p)
+  pub accepted : ((n p : ℕ) → ¬ FaultyRestriction g (length out) (length mapping) (length work) n p)
       → Accepted a × (work′ ≡ zeros work)

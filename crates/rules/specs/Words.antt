@@ -21,28 +21,28 @@ roomOf v e = record { vertices = v; edges = e }
 -- ---- limits
 
 -- "L (0 to 4,096), A (0 to 16,384)"
-unfoldable pub mostLabels : ℕ
+abbrev pub mostLabels : ℕ
 mostLabels = 4_096
 
-unfoldable pub mostActions : ℕ
+abbrev pub mostActions : ℕ
 mostActions = 16_384
 
 -- "S (1 to 65,535), T (0 to 262,144)"
-unfoldable pub mostStates : ℕ
+abbrev pub mostStates : ℕ
 mostStates = 65_535
 
-unfoldable pub mostTransitions : ℕ
+abbrev pub mostTransitions : ℕ
 mostTransitions = 262_144
 
 -- "m (0 to 1,024)", "n (1 to 1,024)"
-unfoldable pub mostNodes : ℕ
+abbrev pub mostNodes : ℕ
 mostNodes = 1_024
 
 -- "Room is V (1 to 1,048,576) vertices and E (1 to 4,194,304) edges"
-unfoldable pub mostVertices : ℕ
+abbrev pub mostVertices : ℕ
 mostVertices = 1_048_576
 
-unfoldable pub mostEdges : ℕ
+abbrev pub mostEdges : ℕ
 mostEdges = 4_194_304
 
 -- "the game slice has exactly 4 + 3V + E words, the work slice exactly 8V + 2E"

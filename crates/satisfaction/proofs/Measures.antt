@@ -36,9 +36,6 @@ raised-first a c b r s h l =
     let e = suc-mul a b in
     omega arith
 
-odd-not : (b : Bool) → b ≡ false → not b ≡ true
-odd-not b e = ap not e
-
 not-odd : (b : Bool) → not b ≡ true → b ≡ false
 not-odd true e = sym e
 not-odd false e = refl

@@ -14,7 +14,7 @@ use Rattle.pairs.specs.declared.Numbered.{Numbered}
 use Rattle.pairs.specs.declared.Numbered.the-variants.{Vertex}
 use Rattle.pairs.specs.Table.{keysOf}
 use Rattle.pairs.specs.Answers.{Numbers, Numbering}
-use Rattle.pairs.proofs.Uses.{keys-kept, table-kept, numbers-by, vertex-place, more-count, room-new, known-new}
+use Rattle.pairs.proofs.Uses.{keys-kept, table-kept, numbers-by, vertex-place, more-count, room-new, known-new, vertex-new}
 use Rattle.settling.specs.Stand.{waitingIn, waitingOf}
 use Rattle.settling.specs.Made.{Meeting}
 use Rattle.settling.proofs.Buffer.{waiting-more}
@@ -52,10 +52,12 @@ module _ (w w′ : List ℕ) (v n t : ℕ) (r : Numbered) (p : Numbering w w′ 
   met-room d = room-new w w′ v n t (i .0) n′ numbers (more-count w w′ v n t (i .0) n′ numbers d)
 
   -- the count grows: the pair is new, and its number is pushed
-  pub met-new : (m : ℕ) (w″ : List ℕ) → (n′ ≡ n → ⊥) → m < v → 8 * v ≤ length w′ → w″ ≡ putWord 4 v m n w′ → Meeting w w″ v n m t (i .0) n′ (m + 1)
-  met-new m w″ d h long g =
+  pub met-new : (m : ℕ) (w″ : List ℕ) → (n′ ≡ n → ⊥) → m < v → 8 * v ≤ length w′ → w″ ≡ putWord 4 v m (i .0) w′ → Meeting w w″ v n m t (i .0) n′ (m + 1)
+  met-new m w″ d h long put =
       let a = numbers in
-      let more : n′ ≡ n + 1 = known-new w w′ v n t (i .0) n′ a (more-count w w′ v n t (i .0) n′ a d) in
+      let new = more-count w w′ v n t (i .0) n′ a d in
+      let more : n′ ≡ n + 1 = known-new w w′ v n t (i .0) n′ a new in
+      let g : w″ ≡ putWord 4 v m n w′ = put ∙ ap (λ (k : ℕ). putWord 4 v m k w′) (vertex-new w w′ v n t (i .0) n′ a new) in
       let kept : (b : ℕ) → b < 4 → region b v w″ ≡ region b v w′ = λ b l. ap (region b v) g ∙ region-other b 4 v m n w′ h (omega arith) in
       let ks : keysOf w″ v n′ ≡ keysOf w′ v n′ = keys-kept w′ w″ v n′ kept in
       record {

@@ -8,6 +8,7 @@ use lib.Dec.{eqb}
 use lib.ListN.{length, set, drop}
 use Rattle.rules.specs.Lists.{word, In, position, insert, insertAll}
 use Rattle.rules.specs.Walk.{pushNew}
+use Rattle.rules.specs.Words.{mostStates, mostVertices, mostEdges}
 use Rattle.lists.specs.Shapes.{added, positions}
 use Rattle.words.specs.Regions.{region}
 use Rattle.pairs.specs.Table.{Table, keysOf}
@@ -25,8 +26,8 @@ Marks w v b = (i : ℕ) → i < v → word (region 7 v w) i ≤ b
 -- what every part of a step asks of the words and counters
 pub record Ready (w : List ℕ) (v e : ℕ) (c : Counters) : Type 0 where
   pub some : 0 < v
-  pub most : v ≤ 1048576
-  pub most-edges : e ≤ 4194304
+  pub most : v ≤ mostVertices
+  pub most-edges : e ≤ mostEdges
   pub whole : 8 * v + 2 * e ≤ length w
   pub table : Table w v (c .known)
   pub stack : c .settled + c .waiting ≤ c .known
@@ -34,7 +35,7 @@ pub record Ready (w : List ℕ) (v e : ℕ) (c : Counters) : Type 0 where
 
 -- a pair that is to be numbered fits its key
 pub record Fitting (s q : ℕ) : Type 0 where
-  pub state-fits : s < 65535
+  pub state-fits : s < mostStates
   pub item-fits : q < 2048
 
 -- the key t was met: it is vertex u, numbered and pushed if it was new
@@ -114,6 +115,6 @@ pub record Cleared (w w′ : List ℕ) (v area : ℕ) : Type 0 where
 -- the lent work slice is as large as the room asks
 pub record Sized (w : List ℕ) (v e : ℕ) : Type 0 where
   pub some : 0 < v
-  pub most : v ≤ 1048576
-  pub most-edges : e ≤ 4194304
+  pub most : v ≤ mostVertices
+  pub most-edges : e ≤ mostEdges
   pub whole : 8 * v + 2 * e ≤ length w

@@ -11,6 +11,7 @@ ghost use mathlib.Core.Path.{_≡_};
 ghost use mathlib.Core.List.{List, [], _∷_};
 ghost use Prim.Native.Nat.{ℕ, _+_, _*_, _≤_, _<_};
 ghost use lib.ListN.{length, take};
+ghost use Rattle.rules.specs.Words.{mostVertices};
 ghost use Rattle.rules.specs.Lists.{word};
 ghost use Rattle.pairs.specs.Slot.{keyOf, Multiples, Scaled};
 ghost use Rattle.settling.specs.Stand.{putEdge};
@@ -42,7 +43,7 @@ pub enum Met {
 
 // An edge is put at a place of the edge buffer.
 fn put_edge(work: &mut [u32], vertices: u32, place: u32, target: VertexIndex)
-    requires { ⌜ (vertices ≤ 1048576) × (8 * vertices + place < length (now work)) ⌝ }
+    requires { ⌜ (vertices ≤ mostVertices) × (8 * vertices + place < length (now work)) ⌝ }
     ensures { λ _. ⌜ now (work .exit) ≡ putEdge vertices place (target .0) (now (work .entry)) ⌝ }
 {
     work[REGIONS * (vertices as usize) + (place as usize)] = target.0;
@@ -74,7 +75,7 @@ pub fn meet(
                     waiting,
                 };
             }
-            words::put_word(work, room.vertices, STACK, waiting, before);
+            words::put_word(work, room.vertices, STACK, waiting, vertex.0);
             Met::Meets {
                 vertex,
                 known,
@@ -122,8 +123,8 @@ fn number_target(
     }
 }
 
-// One target is met and gets an edge, if it has none from this step. The step's number marks its targets, so that each
-// target is told in constant time.
+// One target is met and gets an edge, if it has none from this step. A target that gets one is marked with the step's
+// number, so that reading one word shows whether it has its edge, and the edges of the step are not searched.
 pub fn target_once(
     counters: Counters,
     multiples: &[u32],

@@ -3,7 +3,8 @@
 -- whole.
 --     Six, rows               the values but for the room, and their types, before others
 --     Lent, lent-rows         with the room
---     values, flat-values     the machine values before others, apart and one after another. lent-values: with the room's
+--     values, flat-values     the machine values before others, apart and one after another
+--     lent-values             with the room's
 --     Owned, tokens           what is owned of it, and the tokens of its lifetimes
 --     twice                   it can be had twice
 --     ends-in                 what stands behind it among the parameters is exchanged for something else

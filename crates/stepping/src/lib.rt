@@ -17,7 +17,7 @@ ghost use mathlib.Core.Path.{_≡_};
 ghost use mathlib.Core.List.{map};
 ghost use Prim.Native.Nat.{_*_, _≤_, _<_};
 ghost use lib.ListN.{length};
-ghost use Rattle.rules.specs.Words.{Input, inputOf};
+ghost use Rattle.rules.specs.Words.{mostVertices, Input, inputOf};
 ghost use Rattle.rules.specs.Pairs.{targets};
 ghost use Rattle.tables.specs.Good.{GoodInput};
 ghost use Rattle.arena.specs.Arena.{Inside};
@@ -392,7 +392,7 @@ pub fn walk(
 
 // Every word of a region becomes 0.
 fn clear_region(work: &mut [u32], vertices: u32, area: u32)
-    requires { ⌜ (vertices ≤ 1048576) × (8 * vertices ≤ length (now work)) × (area < 8) ⌝ }
+    requires { ⌜ (vertices ≤ mostVertices) × (8 * vertices ≤ length (now work)) × (area < 8) ⌝ }
     ensures { λ _. ⌜ Cleared (now (work .entry)) (now (work .exit)) vertices area ⌝ }
 {
     let mut i = 0;

@@ -10,7 +10,7 @@ use borrow.Author.Tests.{lt-ltb, le-ltb, le-leb, lt-leb, ltb-false}
 use Rattle.rules.specs.declared.Check.the-variants.{Passed, Fault}
 use Rattle.rules.specs.Lists.{sumWords}
 use Rattle.rules.specs.Answers.{firstFault}
-use Rattle.rules.specs.Words.{mostStates, mostTransitions}
+use Rattle.rules.specs.Words.{mostStates}
 use Rattle.rules.specs.Labels.{labelCount}
 use Rattle.rules.specs.System.{stateCount, transitionCount, initialState}
 use Rattle.rules.specs.Refusal.{outside, tooLarge, refusal21, refusal22, refusal23, refusal24, refusal25, refusal26, faultFrom}
@@ -36,15 +36,15 @@ module _ (ss : List ℕ) where
   no-state h = if-true _ _ (or-left _ (below-outside _ h))
 
   pub many-states : 65535 < stateCount ss → refusal22 ss ≡ Fault 22 0
-  unfolding refusal22 mostStates
+  unfolding refusal22
   many-states h = if-true _ _ (or-left _ (above-outside 1 h))
 
   pub many-transitions : 262144 < transitionCount ss → refusal22 ss ≡ Fault 22 0
-  unfolding refusal22 mostTransitions
+  unfolding refusal22
   many-transitions h = if-true _ _ (or-right (outside 1 mostStates (stateCount ss)) (lt-ltb 262144 _ h))
 
   pub right-sizes : 1 ≤ stateCount ss → stateCount ss ≤ 65535 → transitionCount ss ≤ 262144 → refusal22 ss ≡ Passed
-  unfolding refusal22 mostStates mostTransitions
+  unfolding refusal22
   right-sizes h l t = if-false _ _ (or-none (inside h l) (le-ltb 262144 _ t))
 
   pub wrong-initial : stateCount ss ≤ initialState ss → refusal23 ss ≡ Fault 23 2
@@ -67,7 +67,7 @@ module _ (ss : List ℕ) where
   -- what words with the right sizes have
   pub sizes-passed : firstFault (refusal21 ss ∷ refusal22 ss ∷ []) ≡ Passed
       → (length ss ≡ 3 + stateCount ss + 2 * transitionCount ss) × (stateCount ss ≤ 65535) × (transitionCount ss ≤ 262144)
-  unfolding refusal21 refusal22 mostStates mostTransitions
+  unfolding refusal21 refusal22
   sizes-passed e =
       let b = or-false (ltb (length ss) 3) _ (if-passed 21 0 _ (first-passed _ e 0)) in
       let d = or-false (outside 1 65535 (stateCount ss)) _ (if-passed 22 0 _ (first-passed _ e 1)) in

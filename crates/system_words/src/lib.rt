@@ -4,6 +4,7 @@ ghost use mathlib.Core.Path.{_≡_};
 ghost use mathlib.Core.List.{[], _∷_};
 ghost use Prim.Native.Nat.{_+_, _*_, _<_, _≤_};
 ghost use lib.ListN.{length};
+ghost use Rattle.rules.specs.Words.{mostStates, mostTransitions};
 ghost use Rattle.rules.specs.Lists.{sumWords};
 ghost use Rattle.rules.specs.Answers.{firstFault};
 ghost use Rattle.rules.specs.System.{stateCount, transitionCount};
@@ -11,7 +12,7 @@ ghost use Rattle.rules.specs.Refusal.{refusal21, refusal22, refusal23, refusal2
 
 // The sum of `count` words from `first` on: at most 65,535 words, so it does not wrap.
 fn sum_words(ws: &[u32], first: usize, count: usize) -> usize
-    requires { ⌜ (first + count ≤ length (now ws)) × (count ≤ 65535) × (first ≤ 3) ⌝ }
+    requires { ⌜ (first + count ≤ length (now ws)) × (count ≤ mostStates) × (first ≤ 3) ⌝ }
     ensures { λ r. ⌜ r ≡ sumWords (now (ws .entry)) first count ⌝ }
 {
     let mut sum = 0;
@@ -56,7 +57,7 @@ fn check_sizes(system: &[u32]) -> Check
 fn check_transitions(labels: &[u32], system: &[u32]) -> Check
     requires { ⌜ (0 < length (now labels))
         × (length (now system) ≡ 3 + stateCount (now system) + 2 * transitionCount (now system)) ⌝ }
-    requires { ⌜ (stateCount (now system) ≤ 65535) × (transitionCount (now system) ≤ 262144) ⌝ }
+    requires { ⌜ (stateCount (now system) ≤ mostStates) × (transitionCount (now system) ≤ mostTransitions) ⌝ }
     ensures { λ r. ⌜ r ≡ firstFault (refusal23 (now (system .entry)) ∷ refusal24 (now (system .entry))
         ∷ refusal25 (now (labels .entry)) (now (system .entry)) ∷ refusal26 (now (system .entry)) ∷ []) ⌝ }
 {

@@ -1,8 +1,8 @@
--- The checks that both tables begin with, one law for each answer of the code, and what a table that passed has. The
--- code's limit of nodes is that of the rules. Assumes nothing.
+-- The checks that both tables begin with, one law for each answer of the code, and what a table that passed has.
+-- Assumes nothing.
 use Prim.Native.Nat.{ℕ, _+_, _*_, _<_, _≤_}
 use native.Mathlib.Omega.{arith}
-use mathlib.Core.Path.{_≡_, refl, sym, ap, _∙_}
+use mathlib.Core.Path.{_≡_, sym, ap, _∙_}
 use mathlib.Core.List.{List, _++_}
 use lib.ListN.{length}
 use lib.Dec.{eqb, ltb}
@@ -18,10 +18,6 @@ use Rattle.tables.proofs.Faults.{if-true, if-false, if-passed, first-fault, fir
 use Rattle.tables.proofs.Faults.{first-fault-of, first-next-of}
 use Rattle.tables.proofs.Choices.{differ-yes, differ-no, differ-false, below-outside, above-outside, inside, outside-false}
 use Rattle.table_words.specs.Tables.{Sized, tableChecks}
-
-pub most-nodes : 1_024 ≡ mostNodes
-unfolding mostNodes
-most-nodes = refl
 
 module _ (number fewest most : ℕ) (ws : List ℕ) where
   pub no-words : length ws < 1 → firstFault (tableChecks number fewest most ws) ≡ Fault number 0
@@ -39,14 +35,14 @@ module _ (number fewest most : ℕ) (ws : List ℕ) where
     pub many-nodes : 1_024 < size ws → firstFault (tableChecks number fewest most ws) ≡ Fault (number + 1) 0
     many-nodes h =
         first-next _ (if-false _ _ (or-none (ne-eqb (length ws) 0 (omega arith)) (differ-no e)))
-        ∙ first-fault _ (if-true _ _ (above-outside fewest (omega (arith, h, most-nodes))))
+        ∙ first-fault _ (if-true _ _ (above-outside fewest h))
 
     pub by-kinds : fewest ≤ size ws → size ws ≤ 1_024
         → faultFrom (number + 2) 0 (size ws) (λ v. ltb most (kind ws v)) ≡ firstFault (tableChecks number fewest most ws)
     by-kinds h l =
         sym
         (first-next _ (if-false _ _ (or-none (ne-eqb (length ws) 0 (omega arith)) (differ-no e)))
-        ∙ first-next _ (if-false _ _ (inside h (omega (arith, l, most-nodes)))) ∙ first-one _)
+        ∙ first-next _ (if-false _ _ (inside h l)) ∙ first-one _)
 
   -- what the code answers, where the rules' first checks are these and others follow
   module _ {first : List Check} (e : tableChecks number fewest most ws ≡ first) (rest : List Check) {c : Check}
@@ -62,4 +58,4 @@ module _ (number fewest most : ℕ) (ws : List ℕ) where
   table-passed e =
       let a = or-false (eqb (length ws) 0) _ (if-passed number 0 _ (first-passed _ e 0)) in
       let b = outside-false fewest mostNodes (size ws) (if-passed (number + 1) 0 _ (first-passed _ e 1)) in
-      (omega (arith, b .1, most-nodes), differ-false _ _ (a .1))
+      (b .1, differ-false _ _ (a .1))

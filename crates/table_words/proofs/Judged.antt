@@ -20,17 +20,17 @@ use Rattle.table_words.specs.declared.Table.{Table}
 use Rattle.table_words.specs.declared.Table.the-variants.{Actions, Formula}
 use Rattle.table_words.specs.Tables.{childrenOf, badNumber, badIn}
 
-module _ (names : ℕ → Bool) (ws : List ℕ) (v : ℕ) (h : v < size ws) where
+module _ (unnamedAt : ℕ → Bool) (ws : List ℕ) (v : ℕ) (h : v < size ws) where
   action-rule : (s : Shape) → actionShape (actionNode ws v) ≡ s
-      → wrongOperand names (operand ws v) (treeEnd (actionChildren ws) (size ws) (suc v)) (s .rule) ≡ badIn Actions names ws v
+      → wrongOperand unnamedAt (operand ws v) (treeEnd (actionChildren ws) (size ws) (suc v)) (s .rule) ≡ badIn Actions unnamedAt ws v
   action-rule s e =
-      sym (ap (λ t. wrongOperand names (operand ws v) (treeEnd (actionChildren ws) (size ws) (suc v)) (t .rule)) e)
+      sym (ap (λ t. wrongOperand unnamedAt (operand ws v) (treeEnd (actionChildren ws) (size ws) (suc v)) (t .rule)) e)
 
   formula-rule : (s : Shape) → formulaShape (formulaNode ws v) ≡ s
-      → wrongOperand names (operand ws v) (treeEnd (formulaChildren ws) (size ws) (suc v)) (s .rule)
-      ≡ badIn Formula names ws v
+      → wrongOperand unnamedAt (operand ws v) (treeEnd (formulaChildren ws) (size ws) (suc v)) (s .rule)
+      ≡ badIn Formula unnamedAt ws v
   formula-rule s e =
-      sym (ap (λ t. wrongOperand names (operand ws v) (treeEnd (formulaChildren ws) (size ws) (suc v)) (t .rule)) e)
+      sym (ap (λ t. wrongOperand unnamedAt (operand ws v) (treeEnd (formulaChildren ws) (size ws) (suc v)) (t .rule)) e)
 
   -- two children: the kinds are those of the rule
   action-pair : actionChildren ws v ≡ 2 → (3 ≤ kind ws v) × (kind ws v ≤ 4)
@@ -53,7 +53,7 @@ module _ (names : ℕ → Bool) (ws : List ℕ) (v : ℕ) (h : v < size ws) wher
 
   module _ (o : ℕ) (q : o ≡ operand ws v) where
     pub right-judged : (t : Table) → childrenOf t ws v ≡ 2
-        → isNotEnd o (treeEnd (childrenOf t ws) (size ws) (v + 1)) ≡ badIn t names ws v
+        → isNotEnd o (treeEnd (childrenOf t ws) (size ws) (v + 1)) ≡ badIn t unnamedAt ws v
     unfolding wrongOperand
     right-judged Actions e =
         let (a, b) = action-pair e in rw (q, add-one) (action-rule _ (action-two ws v h a b))
@@ -61,12 +61,12 @@ module _ (names : ℕ → Bool) (ws : List ℕ) (v : ℕ) (h : v < size ws) wher
         let (a, b) = formula-pair e in rw (q, add-one) (formula-rule _ (formula-two ws v h a b))
 
     -- not two children, at the kind k and the test u that the code has
-    module _ (k : ℕ) (i : k ≡ kind ws v) (u : Bool) (j : u ≡ names (operand ws v)) where
-      pub action-number : (actionChildren ws v ≡ 2 → ⊥) → badNumber k 2 3 6 o u ≡ badIn Actions names ws v
+    module _ (k : ℕ) (i : k ≡ kind ws v) (u : Bool) (j : u ≡ unnamedAt (operand ws v)) where
+      pub action-number : (actionChildren ws v ≡ 2 → ⊥) → badNumber k 2 3 6 o u ≡ badIn Actions unnamedAt ws v
       unfolding wrongOperand differ
       action-number d = go (decLt k 2) (decLt k 3) (decLt k 5) (decLt k 6)
         where
-          go : Dec (k < 2) → Dec (k < 3) → Dec (k < 5) → Dec (k < 6) → badNumber k 2 3 6 o u ≡ badIn Actions names ws v
+          go : Dec (k < 2) → Dec (k < 3) → Dec (k < 5) → Dec (k < 6) → badNumber k 2 3 6 o u ≡ badIn Actions unnamedAt ws v
           go (yes a) b c e = rw (lt-ltb k 2 a, q) (action-rule _ (action-constant ws v h (omega arith)))
           go (no a) (yes b) c e = rw (le-ltb k 2 (omega arith), lt-ltb k 3 b, j) (action-rule _ (action-multi ws v h (omega arith)))
           go (no a) (no b) (yes c) e = absurd (d (action-children-two ws v h (omega arith) (omega arith)))
@@ -77,11 +77,11 @@ module _ (names : ℕ → Bool) (ws : List ℕ) (v : ℕ) (h : v < size ws) wher
               rw (le-ltb k 2 (omega arith), le-ltb k 3 (omega arith), le-ltb k 6 (omega arith))
               (action-rule _ (action-unknown ws v h (omega arith)))
 
-      pub formula-number : (formulaChildren ws v ≡ 2 → ⊥) → badNumber k 4 6 8 o u ≡ badIn Formula names ws v
+      pub formula-number : (formulaChildren ws v ≡ 2 → ⊥) → badNumber k 4 6 8 o u ≡ badIn Formula unnamedAt ws v
       unfolding wrongOperand differ
       formula-number d = go (decLt k 2) (decLt k 4) (decLt k 6) (decLt k 8)
         where
-          go : Dec (k < 2) → Dec (k < 4) → Dec (k < 6) → Dec (k < 8) → badNumber k 4 6 8 o u ≡ badIn Formula names ws v
+          go : Dec (k < 2) → Dec (k < 4) → Dec (k < 6) → Dec (k < 8) → badNumber k 4 6 8 o u ≡ badIn Formula unnamedAt ws v
           go (yes a) b c e = rw (lt-ltb k 4 (omega arith), q) (formula-rule _ (formula-constant ws v h (omega arith)))
           go (no a) (yes b) c e = absurd (d (formula-children-two ws v h (omega arith) (omega arith)))
           go (no a) (no b) (yes c) e =

@@ -18,7 +18,7 @@ use Rattle.tables.specs.Ends.{endOf}
 
 -- the words have the length of their table, which is not too large
 abbrev pub Sized : List ℕ → Type 0
-Sized ws = (size ws ≤ 1024) × (length ws ≡ 1 + 2 * size ws)
+Sized ws = (size ws ≤ mostNodes) × (length ws ≡ 1 + 2 * size ws)
 
 abbrev pub childrenOf : Table → List ℕ → ℕ → ℕ
 childrenOf Actions = actionChildren
@@ -43,16 +43,17 @@ Firsts children n fs = (v : ℕ) → v ≤ n → getD fs v false ≡ onRow child
 
 -- the operand o of a node of kind k that has not two children is wrong, by bounds of the kinds; `unnamed` says that it
 -- names nothing
-abbrev pub badNumber : (k names others known o : ℕ) (unnamed : Bool) → Bool
-badNumber k names others known o unnamed =
-    cond (ltb k names) (not (eqb o 0)) (cond (ltb k others) unnamed (cond (ltb k known) (not (eqb o 0)) false))
+abbrev pub badNumber : (k naming others known o : ℕ) (unnamed : Bool) → Bool
+badNumber k naming others known o unnamed =
+    cond (ltb k naming) (not (eqb o 0)) (cond (ltb k others) unnamed (cond (ltb k known) (not (eqb o 0)) false))
 
--- the operand of node v is wrong, for any test of what an operand names
-abbrev pub badIn : Table → (namesNothing : ℕ → Bool) → List ℕ → ℕ → Bool
-badIn Actions names ws v =
-    wrongOperand names (operand ws v) (treeEnd (actionChildren ws) (size ws) (suc v)) (actionShape (actionNode ws v) .rule)
-badIn Formula names ws v =
-    wrongOperand names (operand ws v) (treeEnd (formulaChildren ws) (size ws) (suc v))
+-- the operand of node v is wrong, for any test that an operand names nothing
+abbrev pub badIn : Table → (unnamedAt : ℕ → Bool) → List ℕ → ℕ → Bool
+badIn Actions unnamedAt ws v =
+    wrongOperand unnamedAt (operand ws v) (treeEnd (actionChildren ws) (size ws) (suc v))
+    (actionShape (actionNode ws v) .rule)
+badIn Formula unnamedAt ws v =
+    wrongOperand unnamedAt (operand ws v) (treeEnd (formulaChildren ws) (size ws) (suc v))
     (formulaShape (formulaNode ws v) .rule)
 
 -- the length, the number of nodes (`fewest` at least) and the kinds (`most` at most), with faults from `number` on

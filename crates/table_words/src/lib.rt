@@ -1,5 +1,6 @@
 // Tables of trees as words: m, m kinds, m operands. All tables of a run are read here.
 use rules::Check;
+use words::NODES;
 ghost use mathlib.Core.Path.{_≡_};
 ghost use mathlib.Core.Bool.{Bool, false};
 ghost use Prim.Native.Nat.{ℕ, _+_, _<_, _≤_};
@@ -17,9 +18,6 @@ pub enum Table {
     Actions,
     Formula,
 }
-
-// The most nodes of either table.
-pub const NODES: usize = 1024;
 
 // Where the tree of each node ends, and of the two places past the nodes.
 pub type TreeEnds = [usize; NODES + 2];
@@ -107,18 +105,18 @@ fn not_right_child(ws: &[u32], ends: &TreeEnds, node: usize, right: usize) -> bo
 }
 
 // The operand of a node that has not two children is wrong: it has to be a name of something outside the table if the
-// kind is from `names` up to `others` (`unnamed` says that it names nothing), and else 0 if the kind is below `known`.
+// kind is from `naming` up to `others` (`unnamed` says that it names nothing), and else 0 if the kind is below `known`.
 fn bad_number(
     kind: usize,
-    names: usize,
+    naming: usize,
     others: usize,
     known: usize,
     operand: usize,
     unnamed: bool,
 ) -> bool
-    ensures { λ r. ⌜ r ≡ badNumber kind names others known operand unnamed ⌝ }
+    ensures { λ r. ⌜ r ≡ badNumber kind naming others known operand unnamed ⌝ }
 {
-    if kind < names {
+    if kind < naming {
         return operand != 0;
     }
     if kind < others {
@@ -135,8 +133,8 @@ fn bad_number(
 pub fn bad_operand(ws: &[u32], table: Table, ends: &TreeEnds, node: usize, unnamed: bool) -> bool
     requires { ⌜ Sized (now ws) × (node < size (now ws))
         × Ends (childrenOf table (now ws)) (size (now ws)) (now ends) ⌝ }
-    ensures { λ r. ⌜ ((names : ℕ → Bool) → unnamed ≡ names (operand (now (ws .entry)) node)
-        → r ≡ badIn table names (now (ws .entry)) node) ⌝ }
+    ensures { λ r. ⌜ ((unnamedAt : ℕ → Bool) → unnamed ≡ unnamedAt (operand (now (ws .entry)) node)
+        → r ≡ badIn table unnamedAt (now (ws .entry)) node) ⌝ }
 {
     let operand = words::operand_at(ws, node);
     if children_at(ws, table, node) == 2 {

@@ -12,7 +12,7 @@ use borrow.Author.Tests.{ltb-true, ltb-false, leb-false, eqb-true, not-false, lt
 use Rattle.rules.specs.declared.Check.the-variants.{Passed}
 use Rattle.rules.specs.Lists.{word, sumWords}
 use Rattle.rules.specs.declared.Room.{Room}
-use Rattle.rules.specs.Words.{Input, mostLabels, mostActions, mostStates, mostTransitions, mostNodes, mostVertices, mostEdges, gameLength, workLength}
+use Rattle.rules.specs.Words.{Input, mostLabels, mostActions, gameLength, workLength}
 use Rattle.rules.specs.Answers.{faultIf}
 use Rattle.rules.specs.Labels.{labelCount, actionCount, labelAt}
 use Rattle.rules.specs.System.{stateCount, transitionCount, initialState, transitionLabel, transitionTarget}
@@ -39,7 +39,7 @@ module _ (ls : List ℕ) (r11 : refusal11 ls ≡ Passed) (r12 : refusal12 ls ≡
   label-sized = differ-false (length ls) (2 + 2 * actionCount ls) (or-false (ltb (length ls) 2) (differ (length ls) (2 + 2 * actionCount ls)) (if-passed 11 0 _ r11) .1)
 
   label-limits : (labelCount ls ≤ 4_096) × (actionCount ls ≤ 16_384)
-  unfolding refusal12 mostLabels mostActions
+  unfolding refusal12
   label-limits =
       let (a, b) = or-false (ltb mostLabels (labelCount ls)) (ltb mostActions (actionCount ls)) (if-passed 12 0 _ r12) in
       (ltb-false 4_096 (labelCount ls) a, ltb-false 16_384 (actionCount ls) b)
@@ -81,7 +81,7 @@ module _ (ls : List ℕ) (r11 : refusal11 ls ≡ Passed) (r12 : refusal12 ls ≡
 
 pub good-system : (ls ss : List ℕ) → refusal21 ss ≡ Passed → refusal22 ss ≡ Passed → refusal23 ss ≡ Passed → refusal24 ss ≡ Passed → refusal25 ls ss ≡ Passed → refusal26 ss ≡ Passed
     → GoodSystem (labelCount ls) ss
-unfolding refusal21 refusal22 refusal23 refusal24 refusal25 refusal26 mostStates mostTransitions tooLarge
+unfolding refusal21 refusal22 refusal23 refusal24 refusal25 refusal26 tooLarge
 good-system ls ss r21 r22 r23 r24 r25 r26 =
     let (a, b) = or-false (outside 1 65_535 (stateCount ss)) (ltb 262_144 (transitionCount ss)) (if-passed 22 0 _ r22) in
     let (c, d) = outside-false 1 65_535 (stateCount ss) a in
@@ -162,7 +162,7 @@ module _ (ls acts : List ℕ) (r33 : refusal33 acts ≡ Passed) (r34 : refusal34
       }
 
   pub good-actions : refusal31 acts ≡ Passed → refusal32 acts ≡ Passed → GoodActions (labelCount ls) acts
-  unfolding refusal31 refusal32 mostNodes
+  unfolding refusal31 refusal32
   good-actions r31 r32 =
       record {
         sized = differ-false (length acts) (1 + 2 * size acts) (or-false (eqb (length acts) 0) (differ (length acts) (1 + 2 * size acts)) (if-passed 31 0 _ r31) .1);
@@ -260,7 +260,7 @@ module _ (acts f : List ℕ) (r43 : refusal43 f ≡ Passed) (r44 : refusal44 (na
         }
 
     pub good-formula : refusal41 f ≡ Passed → refusal42 f ≡ Passed → GoodFormula (size acts) f
-    unfolding refusal41 refusal42 mostNodes
+    unfolding refusal41 refusal42
     good-formula r41 r42 =
         let (a, b) = outside-false 1 1_024 (size f) (if-passed 42 0 _ r42) in
         record {
@@ -291,7 +291,7 @@ module _ (x : Input) (r : Room) (game work : ℕ) (h : refusal x r game work ≡
   accepted-words = accepted x accepted-input
 
   pub accepted-room : (1 ≤ r .vertices) × (r .vertices ≤ 1_048_576) × (1 ≤ r .edges) × (r .edges ≤ 4_194_304)
-  unfolding refusal refusal1 mostVertices mostEdges
+  unfolding refusal refusal1
   accepted-room =
       let (a, b) = or-false (outside 1 1_048_576 (r .vertices)) (outside 1 4_194_304 (r .edges)) (if-passed 1 0 _ (first-passed _ h 0)) in
       let (p, q) = outside-false 1 1_048_576 (r .vertices) a in

@@ -5,7 +5,7 @@ use Prim.Native.Nat.{ℕ, suc, _+_, _-_, _≤_, _<_}
 use native.Mathlib.Omega.{arith}
 use mathlib.Core.Path.{_≡_, sym, ap, _∙_, subst}
 use mathlib.Core.Bool.{true, _||_}
-use mathlib.Core.List.{List, [], _∷_}
+use mathlib.Core.List.{List, [], _∷_, _++_}
 use mathlib.Core.Logic.{_⊎_, inl, inr, ⊎-elim, _↔_}
 use lib.ListN.{length}
 use lib.Dec.{eqb, ltb, leb}
@@ -18,7 +18,8 @@ use Rattle.rules.specs.Answers.{faultIf, andThen, firstFault}
 use Rattle.rules.specs.Game.{gameWords, vertexCount, edgesIn, initialIn, vertexColumnAt, offsetsAt, edgeColumnAt}
 use Rattle.rules.specs.Game.{offsetIn}
 use Rattle.rules.specs.Refusal.{differ, tooLarge, faultFrom, lowerFault}
-use Rattle.rules.specs.FaultyGame.{ownerPlace, offsetPlace, targetPlace, FaultyGame, gameTurn, FirstFaultyGame}
+use Rattle.rules.specs.FaultyGame.{ownerPlace, offsetPlace, targetPlace, FaultyGame, FaultyRestriction}
+use Rattle.rules.specs.FaultyGame.{restrictionTurn, FirstFaultyRestriction, faultyGame}
 use Rattle.rules.specs.FaultyGame.{fewGameWords, wrongGameWords, noVertex, verticesAboveRoom, edgesAboveRoom}
 use Rattle.rules.specs.FaultyGame.{offsetsBegin, offsetFalls, offsetsEnd, initialTooLarge, ownerTooLarge}
 use Rattle.rules.specs.FaultyGame.{targetTooLarge, wrongOut, wrongMap, wrongWork}
@@ -30,11 +31,14 @@ use Rattle.tables.proofs.Faults.{then-last, then-assoc}
 use Rattle.tables.proofs.Order.{Numbered, Finds, Sound, Each, Some, Rising}
 use Rattle.tables.proofs.Order.{if-numbered, from-numbered, lower-numbered, if-sound, from-sound, lower-sound}
 use Rattle.tables.proofs.Order.{if-finds, from-finds, lower-finds-left, lower-finds-right}
+use Rattle.tables.proofs.Order.{each-map, each-append, some-left, some-right}
 use Rattle.tables.proofs.Order.{first-exact, passed-exact, none-or-first}
 
-module _ (g : List ℕ) (out map work : ℕ) where
+-- ---- a game that is handed over: 51, 52, 53
+
+module _ (g : List ℕ) where
   abbrev F : ℕ → ℕ → Type 0
-  F = FaultyGame g out map work
+  F = FaultyGame g
 
   abbrev n : ℕ
   n = vertexCount g
@@ -204,23 +208,61 @@ module _ (g : List ℕ) (out map work : ℕ) where
       (from-finds 53 (edgeColumnAt g 0) (edgeColumnAt g 1) (tooLarge g n) (targetPlace g e) (omega arith) (omega arith)
       (large g n (targetPlace g e) l)))
 
-  -- ---- 2: the lent slices
+  -- ---- the three checks
+
+  abbrev pub gameChecks : List Check
+  gameChecks = refusal51 g ∷ refusal52 g ∷ refusal53 g ∷ []
+
+  pub game-sound : Each (Sound (FaultyGame g)) gameChecks
+  game-sound = (sizes-sound, (offsets-sound, (vertices-sound, tt)))
+
+  pub game-finds : (k q : ℕ) → FaultyGame g k q → Some (Finds k q) gameChecks
+  game-finds k q (fewGameWords l) = inl (sizes-few l)
+  game-finds k q (wrongGameWords d) = inl (sizes-finds (or-left (eqb n 0 || aboveRoom n m) (differ-yes d)))
+  game-finds k q (noVertex e) =
+      inl (sizes-finds (or-right (differ (length g) (gameWords n m)) (or-left (aboveRoom n m) (eq-eqb n 0 e))))
+  game-finds k q (verticesAboveRoom l) = inl (sizes-above (many-vertices l))
+  game-finds k q (edgesAboveRoom l) = inl (sizes-above (many-edges l))
+  game-finds k q (offsetsBegin d) = inr (inl (begins-found d))
+  game-finds k q (offsetFalls v h l) = inr (inl (falls-found v h l))
+  game-finds k q (offsetsEnd d) = inr (inl (ends-found d))
+  game-finds k q (initialTooLarge l) = inr (inr (inl (initial-found l)))
+  game-finds k q (ownerTooLarge v h l) = inr (inr (inl (owner-found v h l)))
+  game-finds k q (targetTooLarge e h l) = inr (inr (inl (target-found e h l)))
+
+  pub numbered-51 : Numbered 51 (refusal51 g)
+  unfolding refusal51
+  numbered-51 = if-numbered 51 0 _
+
+  pub numbered-52 : Numbered 52 (refusal52 g)
+  unfolding refusal52
+  numbered-52 = lower-numbered 52 begins (lowerFault falling ends) (if-numbered 52 _ _) later-numbered
+
+  pub numbered-53 : Numbered 53 (refusal53 g)
+  unfolding refusal53
+  numbered-53 =
+      lower-numbered 53 initial (lowerFault owners targets) (if-numbered 53 _ _)
+      (lower-numbered 53 owners targets (from-numbered 53 _ _ _) (from-numbered 53 _ _ _))
+
+-- ---- the restriction: then 2
+
+module _ (g : List ℕ) (out map work : ℕ) where
+  abbrev R : ℕ → ℕ → Type 0
+  R = FaultyRestriction g out map work
 
   abbrev slices : Check
-  slices = faultIf 2 0 (differ out (length g) || (differ map n || differ work n))
+  slices = faultIf 2 0 (differ out (length g) || (differ map (vertexCount g) || differ work (vertexCount g)))
 
-  slices-sound : Sound F slices
+  slices-sound : Sound R slices
   slices-sound =
-      if-sound F 2 0 _
+      if-sound R 2 0 _
       (λ e. ⊎-elim (λ i. wrongOut (differ-true out (length g) i))
-      (λ e. ⊎-elim (λ i. wrongMap (differ-true map n i)) (λ i. wrongWork (differ-true work n i))
-      (or-true (differ map n) (differ work n) e))
-      (or-true (differ out (length g)) (differ map n || differ work n) e))
-
-  -- ---- the checks in order
+      (λ e. ⊎-elim (λ i. wrongMap (differ-true map (vertexCount g) i)) (λ i. wrongWork (differ-true work (vertexCount g) i))
+      (or-true (differ map (vertexCount g)) (differ work (vertexCount g)) e))
+      (or-true (differ out (length g)) (differ map (vertexCount g) || differ work (vertexCount g)) e))
 
   abbrev checks : List Check
-  checks = refusal51 g ∷ refusal52 g ∷ refusal53 g ∷ slices ∷ []
+  checks = gameChecks g ++ (slices ∷ [])
 
   whole : restrictionRefusal g out map work ≡ firstFault checks
   unfolding restrictionRefusal gameRefusal firstFault andThen
@@ -232,61 +274,45 @@ module _ (g : List ℕ) (out map work : ℕ) where
       at-last : (c : Check) → andThen (andThen c Passed) slices ≡ andThen c (andThen slices Passed)
       at-last c = then-assoc c Passed slices ∙ ap (andThen c) (sym (then-last slices))
 
-  sound : Each (Sound F) checks
-  sound = (sizes-sound, (offsets-sound, (vertices-sound, (slices-sound, tt))))
+  sound : Each (Sound R) checks
+  sound =
+      each-append (Sound R) (gameChecks g) (slices ∷ [])
+      (each-map (Sound (FaultyGame g)) (Sound R) (λ c h n p e. faultyGame (h n p e)) (gameChecks g) (game-sound g))
+      (slices-sound, tt)
 
-  finds : (k q : ℕ) → FaultyGame g out map work k q → Some (Finds k q) checks
-  finds k q (fewGameWords l) = inl (sizes-few l)
-  finds k q (wrongGameWords d) = inl (sizes-finds (or-left (eqb n 0 || aboveRoom n m) (differ-yes d)))
-  finds k q (noVertex e) =
-      inl (sizes-finds (or-right (differ (length g) (gameWords n m)) (or-left (aboveRoom n m) (eq-eqb n 0 e))))
-  finds k q (verticesAboveRoom l) = inl (sizes-above (many-vertices l))
-  finds k q (edgesAboveRoom l) = inl (sizes-above (many-edges l))
-  finds k q (offsetsBegin d) = inr (inl (begins-found d))
-  finds k q (offsetFalls v h l) = inr (inl (falls-found v h l))
-  finds k q (offsetsEnd d) = inr (inl (ends-found d))
-  finds k q (initialTooLarge l) = inr (inr (inl (initial-found l)))
-  finds k q (ownerTooLarge v h l) = inr (inr (inl (owner-found v h l)))
-  finds k q (targetTooLarge e h l) = inr (inr (inl (target-found e h l)))
+  -- a fault of the slices is found by the last check
+  slices-finds : (k q : ℕ) → Finds k q slices → Some (Finds k q) checks
+  slices-finds k q h = some-right (Finds k q) (gameChecks g) (slices ∷ []) (inl h)
+
+  finds : (k q : ℕ) → FaultyRestriction g out map work k q → Some (Finds k q) checks
+  finds k q (faultyGame f) = some-left (Finds k q) (gameChecks g) (slices ∷ []) (game-finds g k q f)
   finds k q (wrongOut d) =
-      inr (inr (inr (inl (if-finds 2 0 _ (or-left (differ map n || differ work n) (differ-yes d))))))
+      slices-finds 2 0 (if-finds 2 0 _ (or-left (differ map (vertexCount g) || differ work (vertexCount g)) (differ-yes d)))
   finds k q (wrongMap d) =
-      inr (inr (inr (inl (if-finds 2 0 _ (or-right (differ out (length g)) (or-left (differ work n) (differ-yes d)))))))
+      slices-finds 2 0
+      (if-finds 2 0 _ (or-right (differ out (length g)) (or-left (differ work (vertexCount g)) (differ-yes d))))
   finds k q (wrongWork d) =
-      inr (inr (inr (inl (if-finds 2 0 _ (or-right (differ out (length g)) (or-right (differ map n) (differ-yes d)))))))
+      slices-finds 2 0
+      (if-finds 2 0 _ (or-right (differ out (length g)) (or-right (differ map (vertexCount g)) (differ-yes d))))
 
-  numbered-51 : Numbered 51 (refusal51 g)
-  unfolding refusal51
-  numbered-51 = if-numbered 51 0 _
-
-  numbered-52 : Numbered 52 (refusal52 g)
-  unfolding refusal52
-  numbered-52 = lower-numbered 52 begins (lowerFault falling ends) (if-numbered 52 _ _) later-numbered
-
-  numbered-53 : Numbered 53 (refusal53 g)
-  unfolding refusal53
-  numbered-53 =
-      lower-numbered 53 initial (lowerFault owners targets) (if-numbered 53 _ _)
-      (lower-numbered 53 owners targets (from-numbered 53 _ _ _) (from-numbered 53 _ _ _))
-
-  rising : Rising gameTurn 0 checks
-  unfolding gameTurn position
+  rising : Rising restrictionTurn 0 checks
+  unfolding restrictionTurn position
   rising = (
     51,
     omega arith,
-    numbered-51,
-    (52, omega arith, numbered-52, (53, omega arith, numbered-53, (2, omega arith, if-numbered 2 0 _, tt))),
+    numbered-51 g,
+    (52, omega arith, numbered-52 g, (53, omega arith, numbered-53 g, (2, omega arith, if-numbered 2 0 _, tt))),
   )
 
   -- ---- the theorems
 
-  pub game-exact : (k p : ℕ) → restrictionRefusal g out map work ≡ Fault k p ↔ FirstFaultyGame g out map work k p
-  game-exact k p = rw whole (first-exact gameTurn F checks sound finds rising k p)
+  pub game-exact : (k p : ℕ) → restrictionRefusal g out map work ≡ Fault k p ↔ FirstFaultyRestriction g out map work k p
+  game-exact k p = rw whole (first-exact restrictionTurn R checks sound finds rising k p)
 
-  pub game-passed : restrictionRefusal g out map work ≡ Passed ↔ ((k p : ℕ) → ¬ FaultyGame g out map work k p)
-  game-passed = rw whole (passed-exact gameTurn F checks sound finds rising)
+  pub game-passed : restrictionRefusal g out map work ≡ Passed ↔ ((k p : ℕ) → ¬ FaultyRestriction g out map work k p)
+  game-passed = rw whole (passed-exact restrictionTurn R checks sound finds rising)
 
   -- there is no fault or a first one
-  pub game-none-or-first : ((k p : ℕ) → ¬ FaultyGame g out map work k p)
-      ⊎ ((k : ℕ) × (p : ℕ) × FirstFaultyGame g out map work k p)
-  game-none-or-first = none-or-first gameTurn F checks sound finds rising
+  pub game-none-or-first : ((k p : ℕ) → ¬ FaultyRestriction g out map work k p)
+      ⊎ ((k : ℕ) × (p : ℕ) × FirstFaultyRestriction g out map work k p)
+  game-none-or-first = none-or-first restrictionTurn R checks sound finds rising

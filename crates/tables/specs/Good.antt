@@ -6,7 +6,7 @@ use mathlib.Core.List.{List}
 use Prim.Native.Nat.{ℕ, suc, _+_, _*_, _≤_, _<_}
 use lib.ListN.{length}
 use Rattle.rules.specs.Lists.{sumWords}
-use Rattle.rules.specs.Words.{Input}
+use Rattle.rules.specs.Words.{Input, mostLabels, mostActions, mostStates, mostTransitions, mostNodes}
 use Rattle.rules.specs.Labels.{labelCount, actionCount, labelAt}
 use Rattle.rules.specs.System.{stateCount, transitionCount, initialState, transitionLabel, transitionTarget}
 use Rattle.rules.specs.Table.{size, kind, operand, formulaNode}
@@ -14,8 +14,8 @@ use Rattle.rules.specs.Formula.{isFixpoint}
 
 pub record GoodLabels (ls : List ℕ) : Type 0 where
   pub sized : length ls ≡ 2 + 2 * actionCount ls
-  pub few : labelCount ls ≤ 4_096
-  pub small : actionCount ls ≤ 16_384
+  pub few : labelCount ls ≤ mostLabels
+  pub small : actionCount ls ≤ mostActions
   pub below : (p : ℕ) → p < actionCount ls → labelAt ls p < labelCount ls
   pub order : (p q : ℕ) → p ≤ q → q < actionCount ls → labelAt ls p ≤ labelAt ls q
 
@@ -23,8 +23,8 @@ pub record GoodLabels (ls : List ℕ) : Type 0 where
 pub record GoodSystem (l : ℕ) (ss : List ℕ) : Type 0 where
   pub sized : length ss ≡ 3 + stateCount ss + 2 * transitionCount ss
   pub some : 1 ≤ stateCount ss
-  pub states : stateCount ss ≤ 65_535
-  pub moves : transitionCount ss ≤ 262_144
+  pub states : stateCount ss ≤ mostStates
+  pub moves : transitionCount ss ≤ mostTransitions
   pub initial : initialState ss < stateCount ss
   pub total : sumWords ss 3 (stateCount ss) ≡ transitionCount ss
   pub labels : (t : ℕ) → t < transitionCount ss → transitionLabel ss t < l
@@ -39,7 +39,7 @@ pub record GoodActionNode (l : ℕ) (acts : List ℕ) (v : ℕ) : Type 0 where
 
 pub record GoodActions (l : ℕ) (acts : List ℕ) : Type 0 where
   pub sized : length acts ≡ 1 + 2 * size acts
-  pub few : size acts ≤ 1_024
+  pub few : size acts ≤ mostNodes
   pub nodes : (v : ℕ) → v < size acts → GoodActionNode l acts v
 
 -- node v of the formula, for m nodes of action formulas
@@ -53,7 +53,7 @@ pub record GoodFormulaNode (m : ℕ) (f : List ℕ) (v : ℕ) : Type 0 where
 pub record GoodFormula (m : ℕ) (f : List ℕ) : Type 0 where
   pub sized : length f ≡ 1 + 2 * size f
   pub some : 1 ≤ size f
-  pub few : size f ≤ 1_024
+  pub few : size f ≤ mostNodes
   pub nodes : (v : ℕ) → v < size f → GoodFormulaNode m f v
 
 pub record GoodInput (x : Input) : Type 0 where

@@ -1,3 +1,3 @@
-pub mod Decimals
+pub mod Digits
 pub mod Lines
 pub mod Endings

@@ -1,6 +1,6 @@
 -- Lines are written from left to right: what is left to write, after each call. Assumes nothing.
-use mathlib.Core.Path.{_≡_, sym, ap, _∙_, subst}
-use mathlib.Core.List.{List, [], _∷_, _++_, append-assoc}
+use mathlib.Core.Path.{_≡_, refl, sym, ap, _∙_, subst}
+use mathlib.Core.List.{List, [], _∷_, _++_, append-assoc, append-nil}
 use Prim.Native.Nat.{ℕ, _+_, _-_, _≤_, _<_}
 use native.Mathlib.Numerals.{add-one}
 use native.Mathlib.Omega.{arith}
@@ -13,7 +13,15 @@ use Rattle.words.specs.Stretches.{Wrote}
 use Rattle.words.proofs.Regions.{same-later}
 use Rattle.words.proofs.Stretches.{Writing, start, turn, called}
 
--- ---- what two calls wrote
+-- ---- what no call, one call and two calls wrote
+
+pub wrote-none : {at : ℕ} {stretch text : List ℕ} → stretch ≡ [] → Wrote at stretch text text at
+wrote-none {at} {text = text} e =
+    record {
+      past = omega (arith, ap length e);
+      words = sym (append-nil (take at text)) ∙ ap (λ (l : List ℕ). take at text ++ l) (sym e);
+      rest = refl;
+    }
 
 pub wrote-as : {at r : ℕ} {s stretch text text′ : List ℕ} → s ≡ stretch → Wrote at s text text′ r
     → Wrote at stretch text text′ r

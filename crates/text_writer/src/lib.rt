@@ -42,16 +42,34 @@ fn digit(value: usize) -> u8
     48 + value as u8
 }
 
-// The digits of a number: those in front of the last one, then the last one.
+// How many digits a number has.
+pub fn digit_count(number: usize) -> usize
+    ensures { λ r. ⌜ (r ≡ length (decimal number)) × (r ≤ 20) ⌝ }
+{
+    let mut rest = number;
+    let mut count = 1;
+    while 9 < rest {
+        rest = rest / 10;
+        count += 1;
+    }
+    count
+}
+
+// The digits of a number, from the last one back.
 pub fn put_decimal(text: &mut [u8], start: usize, number: usize) -> usize
     requires { ⌜ start + length (decimal number) ≤ length (now text) ⌝ }
     ensures { λ r. ⌜ Wrote start (decimal number) (now (text .entry)) (now (text .exit)) r ⌝ }
 {
-    if number < 10 {
-        return put_byte(text, start, digit(number));
+    let end = start + digit_count(number);
+    let mut rest = number;
+    let mut place = end - 1;
+    while 9 < rest {
+        text[place] = digit(rest % 10);
+        rest = rest / 10;
+        place -= 1;
     }
-    let past_front = put_decimal(text, start, number / 10);
-    put_byte(text, past_front, digit(number % 10))
+    text[place] = digit(rest);
+    end
 }
 
 // A space and a number.

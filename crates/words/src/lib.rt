@@ -21,6 +21,9 @@ pub fn at(ws: &[u32], index: usize) -> usize
 
 // ---- nodes of a table of trees: m, m kinds, m operands. Both tables of a run are read by these two functions
 
+// The most nodes of either table.
+pub const NODES: usize = 1024;
+
 // The kind of a node.
 pub fn kind_at(table: &[u32], node: usize) -> usize
     requires { ⌜ hasKind (now table) node ⌝ }

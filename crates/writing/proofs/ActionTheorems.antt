@@ -109,7 +109,7 @@ module _ (row : List ActionSyntax) where
 
 -- accepted words are the words of a row within the limits
 pub accepted-words-are-a-row : (ls acts : List ℕ) → ActionsAccepted ls acts → (row : List ActionSyntax) × RowFits (labelCount ls) row × (acts ≡ rowWords row)
-unfolding rowWords mostNodes
+unfolding rowWords
 accepted-words-are-a-row ls acts a =
     let good = good-actions ls acts (a .kinds) (a .operands) (a .long) (a .few) in
     let r = row-from ls acts (a .kinds) (a .operands) (size acts) 0 (omega arith)

@@ -149,7 +149,7 @@ module _ (row : List ActionSyntax) (t : FormulaSyntax) where
 -- accepted words are the words of a closed formula within the limits
 pub accepted-words-are-a-formula : (row : List ActionSyntax) (f : List ℕ) → FormulaAccepted (rowWords row) f
     → (t : FormulaSyntax) × FormulaFits (length row) t × (f ≡ formulaWords row t)
-unfolding formulaWords mostNodes
+unfolding formulaWords
 accepted-words-are-a-formula row f a =
     let good = good-formula (rowWords row) f (a .kinds) (a .operands) (a .references) (a .long) (a .few) in
     let r = formula-from row f (a .kinds) (a .operands) (a .references) (size f) [] 0 (size f) (omega arith)

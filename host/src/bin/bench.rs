@@ -3,6 +3,8 @@
 use hingrezh::check::call::{Implementation, LIBRARY, PLAIN};
 use hingrezh::check::options::{self, Options};
 use hingrezh::check::oracle::program_at;
+use hingrezh::check::pgsolver::call as pgsolver;
+use hingrezh::check::pgsolver::large::{TEXT_SHAPES, TextInput, TextShape};
 use hingrezh::check::shapes::{SHAPES, Shape, WORST};
 use hingrezh::check::spread::Spread;
 use hingrezh::{Answer, Model, Room, bytes_of};
@@ -20,7 +22,8 @@ slices. How it is measured is told in docs/PERFORMANCE.md.
 --oracle PROGRAM  measures the Rust original, too: PROGRAM is the oracle's own `bench`
 --runs N          how many runs (5)
 --seconds N       how much processor time the original may take on one input, all of its runs together (20)
---sizes LIST      quarters of the shapes' full size, as 1,2,4; usual are 1,2,4, and 4 for the worst cases
+--sizes LIST      quarters of the shapes' full size, as 1,2,4; usual are 1,2,4, and 4 for the worst cases and the
+                  largest texts
 SHAPE..           only these; usual are all:
                   ";
 
@@ -77,10 +80,10 @@ fn processor_time_of(process: u32) -> Option<f64> {
 
 /// The median times of library and plain over at least three turns of `work`, and more while they take less than half
 /// a second in all. They take turns on the same slices, so that neither has the better memory or the quieter moment.
-fn in_turn(mut work: impl FnMut(Implementation)) -> [f64; 2] {
+fn in_turn<T: Copy>(both: [T; 2], mut work: impl FnMut(T)) -> [f64; 2] {
     let (mut times, mut sum) = ([Vec::new(), Vec::new()], 0.0);
     while times[0].len() < 3 || (sum < 0.5 && times[0].len() < 99) {
-        for (by, times) in [LIBRARY, PLAIN].into_iter().zip(&mut times) {
+        for (by, times) in both.into_iter().zip(&mut times) {
             let start = processor_time();
             work(by);
             let time = processor_time() - start;
@@ -108,13 +111,14 @@ fn measure(model: &Model, room: Room) -> [Measured; 2] {
         build(by);
         peak()
     });
-    let seconds = in_turn(build);
+    let seconds = in_turn([LIBRARY, PLAIN], build);
     let [_, _, n, m] = answer;
     game.truncate(4 + 3 * n as usize + m as usize);
     drop(work);
     let (mut out, mut map) = (vec![7; game.len()], vec![7; n as usize]);
     let mut queue = map.clone();
-    let restrict = in_turn(|by| (by.compute_reachable)(&game, &mut out, &mut map, &mut queue, &mut answer));
+    let restrict = |by: Implementation| (by.compute_reachable)(&game, &mut out, &mut map, &mut queue, &mut answer);
+    let restrict = in_turn([LIBRARY, PLAIN], restrict);
     assert_eq!(answer, [0, n, n, m], "a finished game loses no vertex");
     let (vertices, edges) = (n as f64, m as f64);
     let of = |i: usize| Measured { vertices, edges, seconds: seconds[i], restrict: restrict[i], peak: peaks[i] };
@@ -129,20 +133,24 @@ fn exact_room(model: &Model) -> Result<Room, String> {
     }
 }
 
-/// Measures in a process of its own, so that each run has its own memory and its own peak.
-fn in_process(shape: &str, quarters: u32, room: Room) -> Result<[Measured; 2], String> {
+/// Measures in a process of its own, so that each run has its own memory and its own peak. Gives the numbers that it
+/// prints.
+fn in_process(shape: &str, numbers: &[u32]) -> Result<Vec<f64>, String> {
     let program = std::env::current_exe().map_err(|error| format!("this program: {error}"))?;
-    let numbers = [quarters, room.vertices, room.edges].map(|number| number.to_string());
+    let numbers = numbers.iter().map(|number| number.to_string());
     let output = Command::new(program).args(["--one", shape]).args(numbers).stderr(Stdio::inherit()).output();
     let output = output.map_err(|error| format!("a process for {shape}: {error}"))?;
     let text = String::from_utf8_lossy(&output.stdout).to_string();
-    let numbers: Vec<f64> = text.split_whitespace().filter_map(|word| word.parse().ok()).collect();
-    let (measured, _) = numbers.as_chunks::<5>();
+    Ok(text.split_whitespace().filter_map(|word| word.parse().ok()).collect())
+}
+
+fn measure_in_process(shape: &str, quarters: u32, room: Room) -> Result<[Measured; 2], String> {
+    let numbers = in_process(shape, &[quarters, room.vertices, room.edges])?;
     let of =
         |&[vertices, edges, seconds, restrict, peak]: &[f64; 5]| Measured { vertices, edges, seconds, restrict, peak };
-    match measured {
+    match numbers.as_chunks::<5>().0 {
         [library, plain] => Ok([of(library), of(plain)]),
-        _ => Err(format!("no measurement of {shape}: {text}")),
+        _ => Err(format!("no measurement of {shape}: {numbers:?}")),
     }
 }
 
@@ -158,12 +166,170 @@ fn find(name: &str) -> Result<&'static Shape, String> {
 fn one(arguments: &[String]) -> Result<(), String> {
     let [shape, numbers @ ..] = arguments else { return Err("--one needs a shape".to_string()) };
     let numbers: Vec<u32> = numbers.iter().filter_map(|text| text.parse().ok()).collect();
+    if let (Some(shape), &[quarters]) = (find_text(shape), &numbers[..]) {
+        return one_text(shape, quarters);
+    }
     let [quarters, vertices, edges] = numbers[..] else { return Err("--one needs three numbers".to_string()) };
     for m in measure(&(find(shape)?.make)(quarters), Room { vertices, edges }) {
         println!("{} {} {} {} {}", m.vertices, m.edges, m.seconds, m.restrict, m.peak);
     }
     Ok(())
 }
+
+// ---- texts
+
+fn find_text(name: &str) -> Option<&'static TextShape> {
+    TEXT_SHAPES.iter().find(|shape| shape.name == name)
+}
+
+/// Of one run, library and plain. Seconds are 0 where nothing is written.
+#[derive(Clone, Copy)]
+struct TextMeasured {
+    vertices: f64,
+    edges: f64,
+    bytes: f64,
+    written_bytes: f64,
+    write: [f64; 2],
+    read: [f64; 2],
+}
+
+fn measure_text(TextInput { game, text }: &TextInput) -> TextMeasured {
+    let both = [pgsolver::LIBRARY, pgsolver::PLAIN];
+    let mut answer = [0; 4];
+    let (mut written_bytes, mut write) = (0.0, [0.0; 2]);
+    if let Some(game) = game {
+        // Repeats are not written. Filled, so that no page is touched for the first time by a call.
+        let mut out = vec![7; text.len()];
+        write = in_turn(both, |by| (by.write)(game, &mut out, &mut answer));
+        assert_eq!(answer[0], 0, "a game that can be written: {answer:?}");
+        written_bytes = answer[1] as f64;
+    }
+    let Room { vertices, edges } = Room::MOST;
+    let mut game = vec![7; 4 + 3 * vertices as usize + edges as usize];
+    (pgsolver::PLAIN.read)(text, vertices, edges, &mut game, &mut answer);
+    let [0, _, n, m] = answer else { panic!("a text that can be read: {answer:?}") };
+    game.truncate(4 + 3 * n as usize + m as usize);
+    let read = in_turn(both, |by| (by.read)(text, n, m, &mut game, &mut answer));
+    assert_eq!(answer, [0, n, n, m], "a room that just holds the game");
+    let (vertices, edges, bytes) = (n as f64, m as f64, text.len() as f64);
+    TextMeasured { vertices, edges, bytes, written_bytes, write, read }
+}
+
+fn one_text(shape: &TextShape, quarters: u32) -> Result<(), String> {
+    let measured = measure_text(&(shape.make)(quarters));
+    let TextMeasured { vertices, edges, bytes, written_bytes, write, read } = measured;
+    println!("{vertices} {edges} {bytes} {written_bytes} {} {} {} {}", write[0], write[1], read[0], read[1]);
+    Ok(())
+}
+
+/// The times of library and plain.
+type Times = fn(&TextMeasured) -> [f64; 2];
+
+struct TextRow {
+    name: &'static str,
+    quarters: u32,
+    runs: Vec<TextMeasured>,
+}
+
+impl TextRow {
+    fn measure(shape: &TextShape, quarters: u32, runs: usize) -> Result<TextRow, String> {
+        let one = |_| match in_process(shape.name, &[quarters])?[..] {
+            [vertices, edges, bytes, written_bytes, w, x, r, s] => {
+                Ok(TextMeasured { vertices, edges, bytes, written_bytes, write: [w, x], read: [r, s] })
+            }
+            _ => Err(format!("no measurement of {}", shape.name)),
+        };
+        let row = TextRow { name: shape.name, quarters, runs: (0..runs).map(one).collect::<Result<_, _>>()? };
+        eprintln!("{}, {quarters} of 4 quarters: read in {} s", row.name, row.spread(|run| run.read[0]).cell(4));
+        Ok(row)
+    }
+
+    fn spread(&self, of: impl Fn(&TextMeasured) -> f64) -> Spread {
+        // There is at least one run.
+        Spread::of(self.runs.iter().map(of)).unwrap_or(Spread { count: 0, least: 0.0, median: 0.0, most: 0.0 })
+    }
+
+    /// Library beside plain, run by run; `None` where nothing is written.
+    fn beside_plain(&self, of: Times) -> Option<Spread> {
+        let measured = of(&self.runs[0])[1] > 0.0;
+        measured.then(|| self.spread(|run| of(run)[0] / of(run)[1]))
+    }
+
+    /// Times of both, their ratio, and megabytes in a second of the library's median.
+    fn print(&self, bytes: f64, of: Times) {
+        let Some(ratio) = self.beside_plain(of) else { return };
+        let TextMeasured { vertices, edges, .. } = self.runs[0];
+        let [library, plain] = [0, 1].map(|i| self.spread(|run| 1000.0 * of(run)[i]));
+        println!(
+            "| {} | {}x | {vertices} | {edges} | {:.1} | {} | {} | {} | {:.0} | {:.0} |",
+            self.name,
+            self.quarters,
+            bytes / 1e6,
+            library.cell(1),
+            plain.cell(1),
+            ratio.cell(2),
+            bytes / 1e3 / library.median,
+            bytes / 1e3 / plain.median,
+        );
+    }
+}
+
+const TEXTS: [&str; 10] = [
+    "text",
+    "size",
+    "vertices",
+    "edges",
+    "MB",
+    "library ms",
+    "plain ms",
+    "library / plain",
+    "library MB/s",
+    "plain MB/s",
+];
+
+fn print_texts(settings: &Settings) -> Result<(), String> {
+    let wanted = |shape: &&TextShape| settings.names.is_empty() || settings.names.iter().any(|name| name == shape.name);
+    let chosen: Vec<&TextShape> = TEXT_SHAPES.iter().filter(wanted).collect();
+    let mut rows = Vec::new();
+    for shape in &chosen {
+        for &quarters in settings.sizes.as_deref().unwrap_or(shape.sizes) {
+            rows.push(TextRow::measure(shape, quarters, settings.runs)?);
+        }
+    }
+    if rows.is_empty() {
+        return Ok(());
+    }
+    println!("### Texts\n");
+    chosen.iter().for_each(|shape| println!("- `{}`: {}", shape.name, shape.what));
+    println!("\nWriting:\n");
+    print_head(&TEXTS);
+    rows.iter().for_each(|row| row.print(row.runs[0].written_bytes, |run| run.write));
+    println!("\nReading:\n");
+    print_head(&TEXTS);
+    rows.iter().for_each(|row| row.print(row.runs[0].bytes, |run| run.read));
+    println!();
+    print_asked_of_texts(&rows);
+    Ok(())
+}
+
+/// What the rows say of the speed that is asked of both calls.
+fn print_asked_of_texts(rows: &[TextRow]) {
+    let calls: [(&str, Times); 2] = [("write", |run| run.write), ("read", |run| run.read)];
+    for (name, of) in calls {
+        let ratios = rows.iter().filter_map(|row| Some((row, row.beside_plain(of)?.median)));
+        let Some(spread) = Spread::of(ratios.clone().map(|(_, ratio)| ratio)) else { continue };
+        println!(
+            "- {name}, library / plain: {:.2} to {:.2}; asked at most {ASKED_OF_PLAIN}",
+            spread.least, spread.most
+        );
+        let above = ratios.filter(|(_, ratio)| *ratio > ASKED_OF_PLAIN + 0.005);
+        let above: Vec<String> = above.map(|(row, _)| format!("{} {}x", row.name, row.quarters)).collect();
+        println!("- above that: {}", if above.is_empty() { "none".to_string() } else { above.join(", ") });
+    }
+    println!();
+}
+
+// ---- the original
 
 struct Original {
     program: PathBuf,
@@ -270,7 +436,7 @@ impl Row {
         let room = exact_room(&model)?;
         let (mut library, mut plain) = (Vec::new(), Vec::new());
         for _ in 0..settings.runs {
-            let [one, other] = in_process(shape.name, quarters, room)?;
+            let [one, other] = measure_in_process(shape.name, quarters, room)?;
             library.push(one);
             plain.push(other);
         }
@@ -364,9 +530,13 @@ fn print_table(columns: &[&str], rows: &[Row], print: fn(&Row)) {
     if rows.is_empty() {
         return;
     }
-    println!("| {} |\n|{}", columns.join(" | "), "---|".repeat(columns.len()));
+    print_head(columns);
     rows.iter().for_each(print);
     println!();
+}
+
+fn print_head(columns: &[&str]) {
+    println!("| {} |\n|{}", columns.join(" | "), "---|".repeat(columns.len()));
 }
 
 /// The machine in general terms, and how busy it was: with a load of 1 or more something else was running.
@@ -427,12 +597,12 @@ fn print_all(settings: &Settings) -> Result<(), String> {
         rows.retain(|row| row.quarters == 4);
         print_table(&MEMORY_AND_RESTRICTION, &rows, Row::print_memory_and_restriction);
     }
-    Ok(())
+    print_texts(settings)
 }
 
 fn settings(arguments: Vec<String>) -> Result<Settings, String> {
     let options = Options::read(arguments, &["--oracle", "--runs", "--seconds", "--sizes"])?;
-    for name in &options.names {
+    for name in options.names.iter().filter(|name| find_text(name).is_none()) {
         find(name)?;
     }
     let size = |text: &str| match text.parse() {
@@ -460,7 +630,8 @@ fn run(arguments: Vec<String>) -> Result<(), String> {
 fn main() -> ExitCode {
     let arguments: Vec<String> = std::env::args().skip(1).collect();
     if options::wants_help(&arguments) {
-        println!("{USAGE}{}", all_shapes().map(|shape| shape.name).collect::<Vec<_>>().join(" "));
+        let names = all_shapes().map(|shape| shape.name).chain(TEXT_SHAPES.iter().map(|shape| shape.name));
+        println!("{USAGE}{}", names.collect::<Vec<_>>().join(" "));
         return ExitCode::SUCCESS;
     }
     match run(arguments) {

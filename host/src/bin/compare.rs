@@ -1,5 +1,5 @@
-//! Compares the library with the plain implementation and the oracle: every word of game, map and work, and the
-//! words around all slices; and the verdicts of small games with what their formulas mean.
+//! Compares the library with the plain implementation and the oracle: every word of game, map and work, every byte of
+//! text, and what is around all slices; and the verdicts of small games with what their formulas mean.
 use hingrezh::check::call::{Call, LIBRARY, Outcome, PLAIN, perform, show, unlawful};
 use hingrezh::check::cases::{self, Case};
 use hingrezh::check::damage::damage;
@@ -7,6 +7,8 @@ use hingrezh::check::finished::{Expected, expected};
 use hingrezh::check::generate::{Random, Sizes, all_formulas, random_game, random_model, table};
 use hingrezh::check::options::{self, Options};
 use hingrezh::check::oracle::{Oracle, Reply, Request};
+use hingrezh::check::pgsolver::{call as pgsolver, cases as text_cases, damage as text_damage};
+use hingrezh::check::pgsolver::{generate as drafts, large};
 use hingrezh::check::places;
 use hingrezh::check::shapes::{SHAPES, WORST};
 use hingrezh::check::verdicts::{self, Tally, Verdict};
@@ -18,11 +20,11 @@ use std::time::Instant;
 const USAGE: &str = "\
 usage: compare [--oracle PROGRAM] [--seed N] [--times N] [--only TEXT]
 
-Runs the library and the plain Rust implementation on the same inputs and compares every word that they leave, those
-around the lent slices included. Then solves small games of the library's (Even wins if the largest priority seen for
-ever is even) and compares who wins with the formula itself, read directly on the model. The ranking of fixpoints is
-the Rust original's: it gives false alarms (the formula holds, but Even does not win), which are counted. A false pass
-(Even wins, but the formula does not hold) is a difference.
+Runs the library and the plain Rust implementation on the same inputs and compares every word and byte that they leave,
+those around the lent slices included. Then solves small games of the library's (Even wins if the largest priority seen
+for ever is even) and compares who wins with the formula itself, read directly on the model. The ranking of fixpoints
+is the Rust original's: it gives false alarms (the formula holds, but Even does not win), which are counted. A false
+pass (Even wins, but the formula does not hold) is a difference.
 
 --oracle PROGRAM  asks PROGRAM, which runs the Rust original, too; without it there is no third opinion
 --seed N          other random inputs (1)
@@ -41,8 +43,8 @@ struct Comparison {
     random: Random,
     inputs: u64,
     calls: u64,
-    /// How often each answer came: 0 for done, -1 for cut, else the refusal's number.
-    answers: BTreeMap<(bool, i64), u64>,
+    /// How often each answer of each call came: 0 for done, -1 for cut, else the refusal's number.
+    answers: BTreeMap<(&'static str, i64), u64>,
     verdicts: Tally,
     differences: u64,
     smallest: Option<(usize, String)>,
@@ -55,10 +57,27 @@ impl Comparison {
     }
 
     fn differs(&mut self, call: &Call, what: &str) {
+        self.note(call.size(), || format!("{what}\n{}", call.describe()));
+    }
+
+    fn text_differs(&mut self, call: &pgsolver::Call, what: &str) {
+        self.note(call.size(), || format!("{what}\n{}", call.describe()));
+    }
+
+    fn note(&mut self, new: usize, text: impl FnOnce() -> String) {
         self.differences += 1;
-        if self.smallest.as_ref().is_none_or(|(size, _)| call.size() < *size) {
-            self.smallest = Some((call.size(), format!("{what}\n{}", call.describe())));
+        if self.smallest.as_ref().is_none_or(|(size, _)| new < *size) {
+            self.smallest = Some((new, text()));
         }
+    }
+
+    fn count(&mut self, call: &'static str, answer: [u32; 4]) {
+        let number = match Answer::of_words(answer) {
+            Answer::Done { .. } => 0,
+            Answer::Cut { .. } => -1,
+            Answer::Refused(refusal) => refusal.number as i64,
+        };
+        *self.answers.entry((call, number)).or_default() += 1;
     }
 
     /// Calls both implementations and compares all that they leave; gives the plain one's outcome.
@@ -74,13 +93,74 @@ impl Comparison {
         if library != plain {
             self.differs(call, &contrast("library", &library, "plain", &plain));
         }
-        let number = match Answer::of_words(plain.answer) {
-            Answer::Done { .. } => 0,
-            Answer::Cut { .. } => -1,
-            Answer::Refused(refusal) => refusal.number as i64,
-        };
-        *self.answers.entry((matches!(call, Call::Build { .. }), number)).or_default() += 1;
+        self.count(if matches!(call, Call::Build { .. }) { "build" } else { "restrict" }, plain.answer);
         plain
+    }
+
+    /// Writes or reads a text by both implementations and compares all that they leave; gives the plain one's outcome.
+    fn text(&mut self, call: &pgsolver::Call) -> pgsolver::Outcome {
+        let fill = FILLS[self.calls as usize % FILLS.len()] as u8;
+        self.calls += 1;
+        let by = [pgsolver::LIBRARY, pgsolver::PLAIN];
+        let [library, plain] = by.map(|by| pgsolver::perform(call, by, fill));
+        for (outcome, by) in [&library, &plain].into_iter().zip(by) {
+            if let Some(what) = pgsolver::unlawful(outcome, fill) {
+                self.text_differs(call, &format!("{}: {what}; answer {:?}", by.name, outcome.answer));
+            }
+        }
+        if library != plain {
+            self.text_differs(call, &format!("library: {}\nplain: {}", library.show(), plain.show()));
+        }
+        self.count(call.name(), plain.answer);
+        plain
+    }
+
+    /// The same of several calls.
+    fn texts(&mut self, calls: impl IntoIterator<Item = pgsolver::Call>) {
+        for call in calls {
+            self.inputs += 1;
+            self.text(&call);
+        }
+    }
+
+    /// The same, and the answer is known, and the words of the game that is read.
+    fn known_text(&mut self, call: &pgsolver::Call, answer: [u32; 4], game: &[u32]) {
+        let got = self.text(call);
+        if got.answer != answer || !got.game.starts_with(game) {
+            let what = format!("expected answer {answer:?}; game {}\nplain {}", show(game), got.show());
+            self.text_differs(call, &what);
+        }
+    }
+
+    fn text_cases(&mut self, cases: Vec<text_cases::Case>) {
+        for text_cases::Case { name, call, answer, text, game } in cases {
+            self.inputs += 1;
+            let before = self.differences;
+            let got = self.text(&call);
+            let same = got.answer == answer
+                && text.is_none_or(|text| got.text.starts_with(&text))
+                && game.is_none_or(|game| got.game.starts_with(&game));
+            if !same {
+                self.text_differs(&call, &format!("expected answer {answer:?}\nplain {}", got.show()));
+            }
+            if self.differences > before {
+                println!("case {name} differs");
+            }
+        }
+    }
+
+    /// Writes a game into slices of several lengths, then reads its text back into a room that just holds it, and a
+    /// text with names and in another order into several rooms.
+    fn round_trip(&mut self, game: &[u32]) {
+        for call in drafts::lengths(&mut self.random, game) {
+            let written = self.text(&call);
+            self.inputs += 1;
+            if let [0, bytes, ..] = written.answer {
+                let new = large::without_repeats(game);
+                let call = pgsolver::Call::read(&written.text[..bytes as usize], new[0], new[1]);
+                self.known_text(&call, [0, new[0], new[0], new[1]], &new);
+            }
+        }
     }
 
     /// The same, and the answer and the game's words are known.
@@ -394,10 +474,97 @@ fn large_shapes(c: &mut Comparison, _: usize) -> Result<(), String> {
     Ok(())
 }
 
+/// Small texts with every small change, and all small parts of a text.
+fn small_texts(c: &mut Comparison, _: usize) -> Result<(), String> {
+    let read = |text: Vec<u8>| pgsolver::Call::read(text, 4, 5);
+    for text in text_damage::SMALL {
+        c.texts(text_damage::truncated(text).map(read));
+        c.texts(text_damage::changed(text).map(read));
+    }
+    c.texts(text_damage::SMALL[..2].iter().flat_map(|text| text_damage::changed_twice(text)).map(read));
+    c.texts(text_damage::every_part().map(read));
+    Ok(())
+}
+
+fn written_games(c: &mut Comparison, times: usize) -> Result<(), String> {
+    for (count, most) in [(20_000, 5), (2_000, 60), (30, 5_000)] {
+        for _ in 0..count * times {
+            let game = drafts::game(&mut c.random, most);
+            c.round_trip(&game);
+        }
+    }
+    for mut call in damaged_restrictions(&mut c.random, 20_000 * times) {
+        if let Call::Restrict { game, .. } = &mut call {
+            let text = c.random.pick(&[0, 30, 200]);
+            c.texts([pgsolver::Call::Write { game: std::mem::take(game), text }]);
+        }
+    }
+    Ok(())
+}
+
+/// Texts of the form: names, any order, repeats, wrong vertices, large numbers.
+fn random_texts(c: &mut Comparison, times: usize) -> Result<(), String> {
+    for (count, most) in [(40_000, 5), (4_000, 40), (40, 2_000)] {
+        for _ in 0..count * times {
+            let game = drafts::game(&mut c.random, most);
+            let mut draft = drafts::draft(&mut c.random, &game);
+            for _ in 0..c.random.pick(&[0, 0, 1, 1, 2]) {
+                drafts::alter(&mut c.random, &mut draft);
+            }
+            let calls = drafts::rooms(&mut c.random, &draft.spell());
+            c.texts(calls);
+        }
+    }
+    Ok(())
+}
+
+/// Texts that were of the form: a part spelled wrongly, or bytes changed, once or several times.
+fn damaged_texts(c: &mut Comparison, times: usize) -> Result<(), String> {
+    for _ in 0..60_000 * times {
+        let game = drafts::game(&mut c.random, 4);
+        let mut draft = drafts::draft(&mut c.random, &game);
+        if c.random.chance(40) {
+            text_damage::damage_form(&mut c.random, &mut draft);
+        }
+        let mut text = draft.spell();
+        for _ in 0..c.random.pick(&[0, 1, 1, 2]) {
+            text_damage::damage(&mut c.random, &mut text);
+        }
+        let calls = drafts::rooms(&mut c.random, &text);
+        c.texts(calls);
+    }
+    Ok(())
+}
+
+/// Round trips of the largest games, lines in order and shuffled, and as many vertices as there is room for, or more.
+fn large_texts(c: &mut Comparison, _: usize) -> Result<(), String> {
+    for (n, degree) in [(1_000_000, 4), (1 << 20, 4), (1_000, 4_000)] {
+        let game = large::game(n, degree);
+        c.round_trip(&game);
+        let new = large::without_repeats(&game);
+        for (shuffled, name) in [(true, 0), (true, 9), (false, 60)] {
+            c.inputs += 1;
+            let text = large::rearranged(&large::text(&game), shuffled, name);
+            c.known_text(&pgsolver::Call::read(text, new[0], new[1]), [0, new[0], new[0], new[1]], &new);
+        }
+    }
+    for (call, answer) in large::at_the_largest_room() {
+        c.inputs += 1;
+        c.known_text(&call, answer, &[]);
+    }
+    // What the restriction takes for a game, or doesn't, by its size.
+    for case in cases::at_limits() {
+        if let Call::Restrict { game, .. } = case.call {
+            c.texts([pgsolver::Call::Write { game, text: 0 }]);
+        }
+    }
+    Ok(())
+}
+
 type Stage = (&'static str, fn(&mut Comparison, usize) -> Result<(), String>);
 
 /// The number says how many times the usual count of random inputs is wanted.
-const STAGES: [Stage; 16] = [
+const STAGES: [Stage; 22] = [
     ("worked cases and readings", |c, _| c.cases(cases::all())),
     ("all formulas up to 5 nodes", |c, _| {
         c.accepted((1..=5).flat_map(|nodes| exhaustive(nodes, &SYSTEMS)).collect(), 4)
@@ -435,6 +602,14 @@ const STAGES: [Stage; 16] = [
     }),
     ("refusals at every kind of place", |c, _| c.cases(places::all())),
     ("sizes at their limits", |c, _| c.cases(cases::at_limits())),
+    ("texts: cases and readings", |c, _| {
+        c.text_cases(text_cases::all());
+        Ok(())
+    }),
+    ("texts: every small change of small ones", small_texts),
+    ("texts: games written and read back", written_games),
+    ("texts: random ones", random_texts),
+    ("texts: damaged ones", damaged_texts),
     ("verdicts of all formulas up to 5 nodes", |c, _| {
         c.verdicts((1..=5).flat_map(|nodes| exhaustive(nodes, &SYSTEMS)));
         Ok(())
@@ -445,17 +620,18 @@ const STAGES: [Stage; 16] = [
     }),
     ("verdict of the known false alarm", known_false_alarm),
     ("verdicts of random games", random_games),
+    ("texts: large ones", large_texts),
     ("large shapes", large_shapes),
 ];
 
 fn report(comparison: &Comparison) {
-    for (build, name) in [(true, "build"), (false, "restrict")] {
-        let text = |(&(_, number), count): (&(bool, i64), &u64)| match number {
+    for name in ["build", "restrict", "write", "read"] {
+        let text = |(&(_, number), count): (&(&str, i64), &u64)| match number {
             0 => format!("done {count}"),
             -1 => format!("cut {count}"),
             _ => format!("{number}: {count}"),
         };
-        let of_call: Vec<String> = comparison.answers.iter().filter(|entry| entry.0.0 == build).map(text).collect();
+        let of_call: Vec<String> = comparison.answers.iter().filter(|entry| entry.0.0 == name).map(text).collect();
         if !of_call.is_empty() {
             println!("{name}: {}", of_call.join(", "));
         }

@@ -1,8 +1,10 @@
-//! Writes stored runs into the folder of the crates: `stdin` and `stdout` of the programs `replay` and `texts`,
-//! `stdout` of `restricts`. These are calls as records and the lines that they must print (the formats are in
-//! check/record.rs), and inputs of the thin program and their texts (check/texts.rs). The answers of accepted words are
-//! the oracle's, cut and given their room by check/finished.rs; those of refused words follow the rules' refusals as
-//! the plain implementation states them. The library is not asked.
+//! Writes stored runs into the folder of the crates: `stdin` and `stdout` of the programs `replay`, `texts` and
+//! `pgsolver_runs`, `stdout` of `restricts`. These are calls as records and the lines that they must print (the formats
+//! are in check/record.rs), inputs of the thin program and their texts (check/texts.rs), and PGSolver texts written and
+//! read (check/pgsolver/stored.rs). The answers of accepted words are the oracle's, cut and given their room by
+//! check/finished.rs; those of refused words follow the rules' refusals as the plain implementation states them. Of
+//! PGSolver text the oracle knows nothing: there the outcomes are the plain implementation's, and those of the cases
+//! are written down by hand, too. The library is not asked.
 use hingrezh::check::call::{Call, LIBRARY, Outcome, PLAIN, perform, show, unlawful};
 use hingrezh::check::cases;
 use hingrezh::check::damage::damage;
@@ -11,6 +13,7 @@ use hingrezh::check::generate::{Random, Sizes, all_formulas, random_game, random
 use hingrezh::check::kinds::{self, KINDS, NOT_IN_RECORDS};
 use hingrezh::check::options;
 use hingrezh::check::oracle::{Oracle, Reply, Request};
+use hingrezh::check::pgsolver::{call as pgsolver, stored};
 use hingrezh::check::places;
 use hingrezh::check::record::{self, RECORD, line, record};
 use hingrezh::check::texts;
@@ -23,8 +26,9 @@ usage: store ORACLE CRATES [COUNT]
        store --check CRATES
        store --table CRATES
 
-CRATES is the folder of the crates. The first writes the stored runs of the programs replay, restricts and texts anew:
-their answers come from ORACLE, the program that runs the Rust original. COUNT says how many random models there are
+CRATES is the folder of the crates. The first writes the stored runs of the programs replay, restricts, texts and
+pgsolver_runs anew: their answers come from ORACLE, the program that runs the Rust original; of pgsolver_runs, which it
+knows nothing of, from the plain Rust implementation. COUNT says how many random models there are
 (200). --check performs what is stored with the library and with the plain Rust implementation, and compares. --table
 prints which refusals are stored at which kinds of place, for docs/STORED-RUNS.md.
 
@@ -219,6 +223,66 @@ fn read(path: String) -> Result<Vec<u8>, String> {
     std::fs::read(&path).map_err(|error| format!("{path}: {error}"))
 }
 
+/// PGSolver texts written and read: small records only, each once.
+fn store_pgsolver(folder: &str) -> Result<(), String> {
+    if let Some(what) = stored::not_as_written_down() {
+        return Err(what);
+    }
+    let (mut seen, mut input, mut output, mut answers) = (HashSet::new(), Vec::new(), String::new(), BTreeMap::new());
+    for call in stored::all() {
+        let Some(bytes) = stored::coded(&call).filter(|bytes| seen.insert(bytes.clone())) else { continue };
+        let outcome = pgsolver::perform(&call, pgsolver::PLAIN, stored::FILL);
+        *answers.entry((call.name(), stored::cause(&call, outcome.answer))).or_insert(0) += 1;
+        input.extend(bytes);
+        output += &stored::line(&outcome);
+    }
+    for (number, kind) in all_kinds().filter(|kind| (51..=53).contains(&kind.0) && !NOT_IN_RECORDS.contains(kind)) {
+        if !answers.contains_key(&("write", (number, kind.to_string()))) {
+            return Err(format!("refusal {number} of writing is not stored at: {kind}"));
+        }
+    }
+    write(format!("{folder}/stdin"), &input)?;
+    write(format!("{folder}/stdout"), output.as_bytes())?;
+    println!("{} records of PGSolver text, {:?} bytes", seen.len(), (input.len(), output.len()));
+    Ok(())
+}
+
+fn stored_pgsolver(folder: &str) -> Result<Vec<pgsolver::Call>, String> {
+    stored::calls(&read(format!("{folder}/stdin"))?).ok_or("half a record of PGSolver text".to_string())
+}
+
+/// The table of PGSolver texts in docs/STORED-RUNS.md.
+fn print_pgsolver_table(folder: &str) -> Result<(), String> {
+    let mut counts = BTreeMap::new();
+    for call in stored_pgsolver(folder)? {
+        let answer = pgsolver::perform(&call, pgsolver::PLAIN, stored::FILL).answer;
+        *counts.entry((call.name(), stored::cause(&call, answer))).or_insert(0) += 1;
+    }
+    for ((call, (number, cause)), count) in counts {
+        let answer = if number == 0 { "done".to_string() } else { number.to_string() };
+        println!("| {call} | {answer} | {cause} | {count} |");
+    }
+    Ok(())
+}
+
+/// Writes and reads what is stored with the library and the plain implementation; gives how many calls there are.
+fn check_pgsolver(folder: &str) -> Result<usize, String> {
+    let calls = stored_pgsolver(folder)?;
+    let output = read(format!("{folder}/stdout"))?;
+    for by in [pgsolver::LIBRARY, pgsolver::PLAIN] {
+        let line = |call: &pgsolver::Call| stored::line(&pgsolver::perform(call, by, stored::FILL));
+        let lines: Vec<String> = calls.iter().map(line).collect();
+        let mut stored = output.split_inclusive(|&byte| byte == b'\n');
+        if let Some(i) = lines.iter().position(|line| stored.next() != Some(line.as_bytes())) {
+            return Err(format!("{}: PGSolver text {i} differs\n{}", by.name, calls[i].describe()));
+        }
+        if stored.next().is_some() {
+            return Err("more lines than records of PGSolver text".to_string());
+        }
+    }
+    Ok(calls.len())
+}
+
 /// The calls of the stored records, each with its fill.
 fn stored_calls(folder: &str) -> Result<Vec<(Call, u32)>, String> {
     let words = words_of(&read(format!("{folder}/stdin"))?).map_err(|fault| fault.to_string())?;
@@ -260,8 +324,8 @@ fn check(crates: &str) -> Result<(), String> {
             return Err(format!("{}: a restriction differs", by.name));
         }
     }
-    let counts = [calls.len(), texts.len(), restrictions.len()];
-    println!("{counts:?} records, texts and restrictions, no difference");
+    let counts = [calls.len(), texts.len(), restrictions.len(), check_pgsolver(&format!("{crates}/pgsolver_runs"))?];
+    println!("{counts:?} records, texts, restrictions and PGSolver texts, no difference");
     Ok(())
 }
 
@@ -315,7 +379,7 @@ fn print_table(crates: &str) -> Result<(), String> {
         let (count, bytes) = (inputs.clone().count(), inputs.map(Vec::len).min().unwrap_or(0));
         println!("| 2 | the thin program: {way} | {bytes} bytes | 0 | 0 | {count} |");
     }
-    Ok(())
+    print_pgsolver_table(&format!("{crates}/pgsolver_runs"))
 }
 
 fn make(program: &str, crates: &str, count: Option<&String>) -> Result<(), String> {
@@ -323,7 +387,8 @@ fn make(program: &str, crates: &str, count: Option<&String>) -> Result<(), Strin
     let count = count.map_or(Ok(200), |text| text.parse().map_err(|_| format!("{text} is no number")))?;
     store_calls(&format!("{crates}/replay"), &oracle, count)?;
     store_restrictions(&format!("{crates}/restricts"), &oracle)?;
-    store_texts(&format!("{crates}/texts"), &oracle)
+    store_texts(&format!("{crates}/texts"), &oracle)?;
+    store_pgsolver(&format!("{crates}/pgsolver_runs"))
 }
 
 fn main() -> ExitCode {

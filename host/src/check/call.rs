@@ -1,4 +1,5 @@
 //! One call with all that decides its outcome, performed on slices with guard words around them.
+use super::lent::Lent;
 use crate::{Model, library, plain};
 
 /// A call that builds a game: labels, system, actions, formula; room for vertices and edges, step limit; game,
@@ -84,53 +85,6 @@ pub struct Outcome {
     pub work: Vec<u32>,
     /// The words read and the words around all slices are as they were.
     pub intact: bool,
-}
-
-const GUARD: usize = 8;
-
-/// A slice with guard words on both sides.
-struct Lent {
-    words: Vec<u32>,
-}
-
-impl Lent {
-    fn around(inner: impl ExactSizeIterator<Item = u32>) -> Lent {
-        let mut words = Vec::with_capacity(inner.len() + 2 * GUARD);
-        words.extend((0..GUARD).map(Lent::guard));
-        words.extend(inner);
-        words.extend((0..GUARD).map(Lent::guard));
-        Lent { words }
-    }
-
-    fn copy(words: &[u32]) -> Lent {
-        Lent::around(words.iter().copied())
-    }
-
-    fn filled(length: usize, fill: u32) -> Lent {
-        Lent::around(std::iter::repeat_n(fill, length))
-    }
-
-    fn guard(at: usize) -> u32 {
-        0xC0DE_0000 + at as u32
-    }
-
-    fn read(&self) -> &[u32] {
-        &self.words[GUARD..self.words.len() - GUARD]
-    }
-
-    fn write(&mut self) -> &mut [u32] {
-        let end = self.words.len() - GUARD;
-        &mut self.words[GUARD..end]
-    }
-
-    fn guarded(&self) -> bool {
-        let end = self.words.len() - GUARD;
-        (0..GUARD).all(|at| self.words[at] == Lent::guard(at) && self.words[end + at] == Lent::guard(at))
-    }
-
-    fn inner(self) -> Vec<u32> {
-        self.read().to_vec()
-    }
 }
 
 /// Performs a call; every word of the slices lent for writing is `fill` before.

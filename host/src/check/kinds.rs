@@ -258,7 +258,7 @@ fn later(first: bool, what: &str) -> String {
     format!("{} {what}", if first { "first" } else { "later" })
 }
 
-fn room(v: u32, e: u32) -> String {
+pub fn room(v: u32, e: u32) -> String {
     let said = |name: &str, size: u32| format!("{name} is {}", if size == 0 { "0" } else { "too large" });
     if v == 0 || v > 1 << 20 { said("V", v) } else { said("E", e) }
 }

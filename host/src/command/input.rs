@@ -64,12 +64,17 @@ impl Input {
         Ok(Input { model, files: files.to_vec() })
     }
 
+    /// The files that were read.
+    pub fn name(&self) -> String {
+        self.files.iter().map(|file| name(file)).collect::<Vec<_>>().join(", ")
+    }
+
     /// A refusal of these words, with the file in which the fault is.
     pub fn told(&self, refusal: &Refusal, room: Room) -> String {
         let file = match (refusal.who(), &self.files[..]) {
             (Party::Modeller, [first, ..]) => name(first),
             (Party::FormulaWriter, [.., last]) => name(last),
-            (_, files) => files.iter().map(|file| name(file)).collect::<Vec<_>>().join(", "),
+            _ => self.name(),
         };
         told(&file, refusal, &refusal.in_model(&self.model, room))
     }

@@ -1,4 +1,5 @@
 //! What a night built from what: a text for people and for `sha256sum -c`, which skips the lines that begin with `#`.
+use super::format::Format;
 use super::help;
 use super::sha256::Digest;
 use crate::{Answer, Room};
@@ -9,6 +10,7 @@ pub struct Manifest {
     pub model: (String, Digest),
     pub room: Room,
     pub limit: u32,
+    pub format: Format,
     pub entries: Vec<Entry>,
 }
 
@@ -29,7 +31,8 @@ impl fmt::Display for Manifest {
             writeln!(f, "# {line}")?;
         }
         let Room { vertices, edges } = self.room;
-        writeln!(f, "# room {vertices} vertices, {edges} edges; step limit {}", self.limit)?;
+        let (limit, format) = (self.limit, self.format.name());
+        writeln!(f, "# room {vertices} vertices, {edges} edges; step limit {limit}; format {format}")?;
         writeln!(f, "# model {} {}", self.model.1, self.model.0)?;
         self.entries.iter().try_for_each(|entry| write!(f, "{entry}"))
     }

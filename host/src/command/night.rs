@@ -1,4 +1,5 @@
 //! One model and many formulas: for each its game in a folder, so that the folder holds this night's games alone.
+use super::format::{Form, Format};
 use super::input::{STREAM, apart, name, open, read_formula, read_model};
 use super::manifest::{Entry, Manifest};
 use super::options::Given;
@@ -6,15 +7,16 @@ use super::sha256::{Digest, Summed};
 use super::{CUT, DONE, Failure, NO_FILE, NO_MEMORY, NO_OUTPUT, NO_WORDS, REFUSED, USAGE};
 use super::{complain, no_room, output, status_of, told};
 use crate::{Answer, Model, Party, Refusal, Room, Slices};
+use std::borrow::Cow;
 use std::fs::{self, File, TryLockError};
-use std::io::{self, IsTerminal, Write};
+use std::io::{self, BufWriter, IsTerminal, Write};
 use std::path::{Path, PathBuf};
 use std::time::Instant;
 
 /// Statuses from the best to the gravest: the night's is the gravest of its formulas'.
 const GRAVITY: [u8; 7] = [DONE, CUT, REFUSED, NO_WORDS, NO_FILE, NO_MEMORY, NO_OUTPUT];
 
-/// A formula's file and where its game goes.
+/// A formula's file and its game's: the name without the ending, and where the game goes.
 struct Task {
     formula: String,
     name: String,
@@ -38,7 +40,8 @@ impl Plan {
         if formulas.is_empty() {
             return Err(usage("at least one formula is wanted"));
         }
-        let tasks: Result<Vec<Task>, Failure> = formulas.iter().map(|formula| task(formula, folder)).collect();
+        let format = given.format(Format::Pgsolver)?;
+        let tasks: Result<Vec<Task>, Failure> = formulas.iter().map(|formula| task(formula, folder, format)).collect();
         let manifest = Path::new(folder).join("manifest");
         let plan = Plan { inputs: given.files.clone(), tasks: tasks?, manifest, folder: folder.to_string() };
         plan.apart()?;
@@ -56,10 +59,11 @@ impl Plan {
         apart(outputs.iter().map(PathBuf::as_path), &self.inputs)
     }
 
-    /// Every file that the night writes, unfinished ones included.
+    /// Every file that a night of these formulas writes, unfinished ones and games in another format included.
     fn outputs(&self) -> Vec<PathBuf> {
-        let whole = self.tasks.iter().map(|task| &task.game).chain([&self.manifest]);
-        whole.flat_map(|place| [place.clone(), output::part_of(place, "")]).collect()
+        let in_any = |task: &Task| Format::ALL.map(|format| place(&self.folder, &task.name, format));
+        let whole = self.tasks.iter().flat_map(in_any).chain([self.manifest.clone()]);
+        whole.flat_map(|place| [output::part_of(&place, ""), place]).collect()
     }
 
     /// Takes the folder for this process alone, as long as the file that it gives is open.
@@ -89,7 +93,12 @@ impl Plan {
     }
 }
 
-fn task(formula: &str, folder: &str) -> Result<Task, Failure> {
+/// Where a game goes.
+fn place(folder: &str, name: &str, format: Format) -> PathBuf {
+    Path::new(folder).join(format!("{name}.{}", format.ending()))
+}
+
+fn task(formula: &str, folder: &str, format: Format) -> Result<Task, Failure> {
     let stem = Path::new(formula).file_stem().and_then(|stem| stem.to_str()).unwrap_or(STREAM);
     if stem == STREAM {
         return Err(Failure::new(USAGE, format!("{formula}: a formula is a file, whose name the game gets")));
@@ -98,12 +107,11 @@ fn task(formula: &str, folder: &str) -> Result<Task, Failure> {
     if stem.chars().any(|c| c.is_control() || c == '\\') {
         return Err(Failure::new(USAGE, format!("{formula:?}: a name that does not fit on a line of the manifest")));
     }
-    let game = Path::new(folder).join(format!("{stem}.game"));
-    Ok(Task { formula: formula.to_string(), name: stem.to_string(), game })
+    Ok(Task { formula: formula.to_string(), name: stem.to_string(), game: place(folder, stem, format) })
 }
 
 pub fn run(given: &Given) -> Result<u8, Failure> {
-    let (room, limit) = (given.room(Room::MOST)?, given.limit()?);
+    let (room, limit, format) = (given.room(Room::MOST)?, given.limit()?, given.format(Format::Pgsolver)?);
     let plan = Plan::of(given)?;
     let _taken = plan.take_folder()?;
     plan.clear()?;
@@ -115,11 +123,13 @@ pub fn run(given: &Given) -> Result<u8, Failure> {
         model,
         room,
         limit,
+        format,
         table: Table::of(&plan.tasks),
         shared_told: false,
         model_file: name(&plan.inputs[0]),
     };
-    let mut manifest = Manifest { model: (night.model_file.clone(), sum), room, limit, entries: Vec::new() };
+    let model = (night.model_file.clone(), sum);
+    let mut manifest = Manifest { model, room, limit, format, entries: Vec::new() };
     let mut worst = DONE;
     night.table.head();
     for (i, task) in plan.tasks.iter().enumerate() {
@@ -145,6 +155,7 @@ struct Night {
     model: Model,
     room: Room,
     limit: u32,
+    format: Format,
     table: Table,
     shared_told: bool,
     model_file: String,
@@ -172,7 +183,7 @@ impl Night {
         let mut source = open(&task.formula)?.through(Summed::new);
         read_formula(&task.formula, &mut source, &mut self.model)?;
         entry.formula_sum = Some(source.into_inner().digest());
-        let (answer, game) = self.slices.build(&self.model, self.limit);
+        let (answer, _) = self.slices.build(&self.model, self.limit);
         entry.answer = Some(answer);
         entry.status = status_of(&answer);
         match answer {
@@ -181,28 +192,35 @@ impl Night {
                 Err(Failure::new(CUT, format!("{}: cut after {steps} steps, no game is written", entry.formula)))
             }
             Answer::Done { .. } => {
-                let sum = write_game(&task.game, game).map_err(|error| {
-                    entry.answer = None;
-                    Failure::writing(&task.game.display().to_string(), error)
-                })?;
-                entry.game = Some((format!("{}.game", task.name), sum));
+                let sum = self.write_game(task, &answer).inspect_err(|_| entry.answer = None)?;
+                entry.game = Some((format!("{}.{}", task.name, self.format.ending()), sum));
                 Ok(())
             }
         }
+    }
+
+    fn write_game(&mut self, task: &Task, answer: &Answer) -> Result<Digest, Failure> {
+        let place = task.game.display().to_string();
+        let form = match self.format {
+            Format::Pgsolver => match self.slices.pgsolver() {
+                Ok(text) => Form::Text(Cow::Borrowed(text)),
+                Err(refusal) => return Err(Failure::refused(told(&place, &refusal, refusal.what()))),
+            },
+            Format::Words => Form::Words(self.slices.game()),
+            Format::Lines => Form::Lines(answer, self.slices.game()),
+        };
+        let written = output::replace(&task.game, &output::part_of(&task.game, ""), |file| {
+            let mut out = BufWriter::new(Summed::new(file));
+            form.write(&mut out)?;
+            Ok(out.into_inner()?.digest())
+        });
+        written.map_err(|error| Failure::writing(&place, error))
     }
 
     fn told(&self, refusal: &Refusal, formula: &str) -> String {
         let file = if refusal.who() == Party::Modeller { &self.model_file } else { formula };
         told(file, refusal, &refusal.in_model(&self.model, self.room))
     }
-}
-
-fn write_game(place: &Path, game: &[u32]) -> io::Result<Digest> {
-    output::replace(place, &output::part_of(place, ""), |file| {
-        let mut out = Summed::new(file);
-        output::write_words(&mut out, game)?;
-        Ok(out.digest())
-    })
 }
 
 /// The rows on standard output. If they cannot be written the night's work goes on, and the error is told at its end.

@@ -1,5 +1,6 @@
 //! Arguments as people expect them: `--limit 3`, `--limit=3`, `-o OUT`, `-oOUT`, `--` before files whose names begin
 //! with a dash. Of an option given twice the last counts.
+use super::format::Format;
 use super::input::{STREAM, apart};
 use super::{Failure, USAGE};
 use crate::Room;
@@ -16,6 +17,7 @@ pub const VERTICES: Choice = Choice { names: &["--vertices"], takes_value: true 
 pub const EDGES: Choice = Choice { names: &["--edges"], takes_value: true };
 pub const LIMIT: Choice = Choice { names: &["--limit"], takes_value: true };
 pub const OUTPUT: Choice = Choice { names: &["-o", "--output", "--words"], takes_value: true };
+pub const FORMAT: Choice = Choice { names: &["--format"], takes_value: true };
 pub const MAP: Choice = Choice { names: &["--map"], takes_value: false };
 pub const ALL: Choice = Choice { names: &["--all"], takes_value: false };
 const HELP: Choice = Choice { names: &["--help", "-h"], takes_value: false };
@@ -85,6 +87,12 @@ impl Given {
     pub fn room(&self, otherwise: Room) -> Result<Room, Failure> {
         let vertices = self.number(&VERTICES, otherwise.vertices)?;
         Ok(Room { vertices, edges: self.number(&EDGES, otherwise.edges)? })
+    }
+
+    pub fn format(&self, otherwise: Format) -> Result<Format, Failure> {
+        let wrong = |value: &str| usage(format!("--format wants pgsolver, words or lines, not {value:?}"));
+        let named = |value: &str| Format::ALL.into_iter().find(|format| format.name() == value);
+        self.value(&FORMAT).map_or(Ok(otherwise), |value| named(value).ok_or_else(|| wrong(value)))
     }
 
     pub fn limit(&self) -> Result<u32, Failure> {

@@ -4,7 +4,7 @@ use super::{MOST_EDGES, MOST_VERTICES, NONE};
 /// A refusal's number and place.
 pub type Fault = (u32, u32);
 
-fn unless(fine: bool, number: u32, place: usize) -> Result<(), Fault> {
+pub fn unless(fine: bool, number: u32, place: usize) -> Result<(), Fault> {
     if fine { Ok(()) } else { Err((number, place as u32)) }
 }
 
@@ -13,10 +13,18 @@ fn none_of(range: std::ops::Range<usize>, number: u32, mut bad: impl FnMut(usize
     range.into_iter().find(|&at| bad(at)).map_or(Ok(()), |at| Err((number, at as u32)))
 }
 
+pub fn sizes(vertices: u32, edges: u32) -> Result<(), Fault> {
+    unless((1..=MOST_VERTICES).contains(&vertices) && (1..=MOST_EDGES).contains(&edges), 1, 0)
+}
+
+/// The length of a game slice for a room.
+pub fn game_words(vertices: u32, edges: u32) -> usize {
+    4 + 3 * vertices as usize + edges as usize
+}
+
 pub fn room(vertices: u32, edges: u32, game: usize, work: usize) -> Result<(), Fault> {
-    unless((1..=MOST_VERTICES).contains(&vertices) && (1..=MOST_EDGES).contains(&edges), 1, 0)?;
-    let (v, e) = (vertices as usize, edges as usize);
-    unless(game == 4 + 3 * v + e && work == 8 * v + 2 * e, 2, 0)
+    sizes(vertices, edges)?;
+    unless(game == game_words(vertices, edges) && work == 8 * vertices as usize + 2 * edges as usize, 2, 0)
 }
 
 /// Of accepted words: for each node of the formula the one just past its tree.

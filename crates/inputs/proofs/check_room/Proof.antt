@@ -1,72 +1,77 @@
-use native.Mathlib.Omega.{arith}
 use mathlib.Core.Path.{sym, _∙_}
+use native.Mathlib.Omega.{arith}
 use Rattle.tables.proofs.Faults.{then-fault, then-passed}
-use Rattle.inputs.proofs.Room.{no-vertex, many-vertices, no-edge, many-edges, right-room, wrong-game, wrong-work, right-slices}
+use Rattle.inputs.proofs.Room.{wrong-game, wrong-work, right-slices}
 use borrow.Author.Needs.{needs}
 use Rattle.inputs.proofs.check_room.Statement.{statement}
 use Rattle.inputs.proofs.check_room.Tie as tie
 
-returns : tie.Need-returns
-returns c = sym (then-fault _ (no-vertex _ _ (omega arith)))
+-- src/lib.rt:16:9
+check-room-requires : tie.Need-check-room-requires
+check-room-requires c κs = search needs
 
-returns-2 : tie.Need-returns-2
-returns-2 c = sym (then-fault _ (many-vertices _ _ (omega arith)))
+-- src/lib.rt:18:22
+enum-known-ranged : tie.Need-enum-known-ranged
+enum-known-ranged c = search needs
 
-returns-3 : tie.Need-returns-3
-returns-3 c = sym (then-fault _ (no-edge _ _ (omega arith)))
+-- src/lib.rt:20:28
+enum-told : tie.Need-enum-told
+enum-told c = search needs
 
-returns-4 : tie.Need-returns-4
-returns-4 c = sym (then-fault _ (many-edges _ _ (omega arith)))
-
+-- src/lib.rt:20:28
 cast-vertices : tie.Need-cast-vertices
 cast-vertices c = search needs
 
+-- src/lib.rt:21:25
 cast-edges : tie.Need-cast-edges
 cast-edges c = search needs
 
-mul-if5 : tie.Need-mul-if5
-mul-if5 c = search needs
+-- src/lib.rt:22:28
+game-words-requires : tie.Need-game-words-requires
+game-words-requires c κs = search needs
 
-add-if5 : tie.Need-add-if5
-add-if5 c = search needs
+-- src/lib.rt:23:17
+returns : tie.Need-returns
+returns c = sym (then-passed _ (sym (c .before .before .before .before .before .before .check-room .ensures) ∙ c .before .before .before .before .enum-told .given .1) ∙ wrong-game _ _ _ _ (λ e. c .if1 .taken (e ∙ sym (c .before .game-words .ensures))))
 
-add-if5-2 : tie.Need-add-if5-2
-add-if5-2 c = search needs
+-- src/lib.rt:25:28
+mul-if2 : tie.Need-mul-if2
+mul-if2 c = search needs
 
-returns-5 : tie.Need-returns-5
-returns-5 c = sym (then-passed _ (right-room _ _ (omega arith) (omega arith) (omega arith) (omega arith)) ∙ wrong-game _ _ _ _ (omega arith))
+-- src/lib.rt:25:43
+mul-if2-2 : tie.Need-mul-if2-2
+mul-if2-2 c = search needs
 
-mul-if6 : tie.Need-mul-if6
-mul-if6 c = search needs
+-- src/lib.rt:25:28
+add-if2 : tie.Need-add-if2
+add-if2 c = search needs
 
-mul-if6-2 : tie.Need-mul-if6-2
-mul-if6-2 c = search needs
+-- src/lib.rt:26:17
+returns-2 : tie.Need-returns-2
+returns-2 c = sym (then-passed _ (sym (c .before .before .before .before .before .before .before .check-room .ensures) ∙ c .before .before .before .before .before .enum-told .given .1) ∙ wrong-work _ _ _ _ (c .if2 .taken))
 
-add-if6 : tie.Need-add-if6
-add-if6 c = search needs
+-- src/lib.rt:13:1
+returns-3 : tie.Need-returns-3
+returns-3 c = sym (then-fault _ (sym (c .before .before .before .check-room .ensures) ∙ c .before .ranged .given .1))
 
-returns-6 : tie.Need-returns-6
-returns-6 c = sym (then-passed _ (right-room _ _ (omega arith) (omega arith) (omega arith) (omega arith)) ∙ wrong-work _ _ _ _ (omega arith))
-
-returns-7 : tie.Need-returns-7
-returns-7 c = sym (then-passed _ (right-room _ _ (omega arith) (omega arith) (omega arith) (omega arith)) ∙ right-slices _ _ _ _ (omega arith) (omega arith))
+-- src/lib.rt:13:1
+returns-4 : tie.Need-returns-4
+returns-4 c = sym (then-passed _ (sym (c .before .before .before .before .before .before .before .check-room .ensures) ∙ c .before .before .before .before .before .enum-told .given .1) ∙ right-slices _ _ _ _ (c .before .if1 .left ∙ c .before .before .game-words .ensures) (c .if2 .left))
 
 pub check-room-spec : {M : Type 1} → statement M
 check-room-spec =
     tie.close
     (tie.spec
-    returns
-    returns-2
-    returns-3
-    returns-4
+    check-room-requires
+    enum-known-ranged
+    enum-told
     cast-vertices
     cast-edges
-    mul-if5
-    add-if5
-    add-if5-2
-    returns-5
-    mul-if6
-    mul-if6-2
-    add-if6
-    returns-6
-    returns-7)
+    game-words-requires
+    returns
+    mul-if2
+    mul-if2-2
+    add-if2
+    returns-2
+    returns-3
+    returns-4)

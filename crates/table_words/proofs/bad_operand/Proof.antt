@@ -18,7 +18,7 @@ returns : tie.Need-returns
 returns c =
     let at-operand-at = c .before .before .before in
     let start = at-operand-at .before .before in
-    λ names j. c .not-right-child .ensures (childrenOf (start .args .table) (start .args .ws .now)) (start .pre .2) ∙ right-judged names (start .args .ws .now) (start .args .node) (start .pre .1) (at-operand-at .operand-at .result) (at-operand-at .operand-at .ensures) (start .args .table) (sym (c .before .before .children-at .ensures) ∙ c .before .if1 .taken)
+    λ unnamedAt j. c .not-right-child .ensures (childrenOf (start .args .table) (start .args .ws .now)) (start .pre .2) ∙ right-judged unnamedAt (start .args .ws .now) (start .args .node) (start .pre .1) (at-operand-at .operand-at .result) (at-operand-at .operand-at .ensures) (start .args .table) (sym (c .before .before .children-at .ensures) ∙ c .before .if1 .taken)
 
 kind-at-requires : tie.Need-kind-at-requires
 kind-at-requires c κs = search needs
@@ -41,7 +41,7 @@ returns-2 c =
     let at-kind-at = at-enum-told .before .before in
     let at-operand-at = at-kind-at .before .before .before in
     let start = at-operand-at .before .before in
-    λ names j. rw (at-enum-told .enum-told .given .1) (c .bad-number .ensures ∙ action-number names (start .args .ws .now) (start .args .node) (start .pre .1) (at-operand-at .operand-at .result) (at-operand-at .operand-at .ensures) (at-kind-at .kind-at .result) (at-kind-at .kind-at .ensures) (start .args .unnamed) j (λ e. at-kind-at .before .if1 .left (at-kind-at .before .before .children-at .ensures ∙ ap (λ t. childrenOf t (start .args .ws .now) (start .args .node)) (at-enum-told .enum-told .given .1) ∙ e)))
+    λ unnamedAt j. rw (at-enum-told .enum-told .given .1) (c .bad-number .ensures ∙ action-number unnamedAt (start .args .ws .now) (start .args .node) (start .pre .1) (at-operand-at .operand-at .result) (at-operand-at .operand-at .ensures) (at-kind-at .kind-at .result) (at-kind-at .kind-at .ensures) (start .args .unnamed) j (λ e. at-kind-at .before .if1 .left (at-kind-at .before .before .children-at .ensures ∙ ap (λ t. childrenOf t (start .args .ws .now) (start .args .node)) (at-enum-told .enum-told .given .1) ∙ e)))
 
 returns-3 : tie.Need-returns-3
 returns-3 c =
@@ -49,7 +49,7 @@ returns-3 c =
     let at-kind-at = at-enum-told2 .before .before in
     let at-operand-at = at-kind-at .before .before .before in
     let start = at-operand-at .before .before in
-    λ names j. rw (at-enum-told2 .enum-told2 .given .1) (c .bad-number2 .ensures ∙ formula-number names (start .args .ws .now) (start .args .node) (start .pre .1) (at-operand-at .operand-at .result) (at-operand-at .operand-at .ensures) (at-kind-at .kind-at .result) (at-kind-at .kind-at .ensures) (start .args .unnamed) j (λ e. at-kind-at .before .if1 .left (at-kind-at .before .before .children-at .ensures ∙ ap (λ t. childrenOf t (start .args .ws .now) (start .args .node)) (at-enum-told2 .enum-told2 .given .1) ∙ e)))
+    λ unnamedAt j. rw (at-enum-told2 .enum-told2 .given .1) (c .bad-number2 .ensures ∙ formula-number unnamedAt (start .args .ws .now) (start .args .node) (start .pre .1) (at-operand-at .operand-at .result) (at-operand-at .operand-at .ensures) (at-kind-at .kind-at .result) (at-kind-at .kind-at .ensures) (start .args .unnamed) j (λ e. at-kind-at .before .if1 .left (at-kind-at .before .before .children-at .ensures ∙ ap (λ t. childrenOf t (start .args .ws .now) (start .args .node)) (at-enum-told2 .enum-told2 .given .1) ∙ e)))
 
 pub bad-operand-spec : {M : Type 1} → statement M
 bad-operand-spec =

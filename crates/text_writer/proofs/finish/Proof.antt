@@ -41,7 +41,8 @@ returns : tie.Need-returns Inv-loop μ-loop
 returns c =
     let start = c .before .before .before .before in
     let filled = fill-done 0 (c .before .loop-test .left) (c .before .before .loop .inv) in
-    (ap (λ (n : ℕ). Done n 0 0) (c .word .ensures), padded-to (start .args .text .now) (start .args .size) _ (start .pre .0) filled)
+    let zeros = padded-to (start .args .text .now) (start .args .size) _ (start .pre .0) filled in
+    (ap (λ (n : ℕ). Done n 0 0) (c .word .ensures), zeros)
 
 pub finish-spec : {M : Type 1} → statement M
 finish-spec =

@@ -1,0 +1,13 @@
+pub mod Decimals
+pub mod Parsing
+pub mod Exact
+pub mod Numbered
+pub mod WritingExact
+pub mod ReadingExact
+pub mod Saying
+pub mod WritingDemands
+pub mod Readable
+pub mod ReadingDemands
+pub mod Removing
+pub mod RoundTrip
+pub mod Again

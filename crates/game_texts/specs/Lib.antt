@@ -1,0 +1,3 @@
+pub mod GivenOnce
+pub mod Repeats
+pub mod WritingCheck
