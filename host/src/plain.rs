@@ -2,10 +2,12 @@
 //! opinion in the comparisons and the yardstick of the benchmark. The command does not use it.
 //!
 //! The walk lives in the lent slices as the library's does; the small tables of a run (label classes,
-//! items, sets of matching labels) and what is read from a text are vectors.
+//! items, sets of matching labels) and what is read from a text are vectors. PGSolver text is written and read a second
+//! time on the library's own terms, with nothing allocated.
 mod checks;
 mod items;
 mod pgsolver;
+mod pgsolver_lent;
 mod walk;
 
 use checks::Fault;
@@ -59,20 +61,32 @@ pub fn compute_reachable(game: &[u32], out: &mut [u32], map: &mut [u32], work: &
     };
 }
 
+fn text_answer(written: Result<usize, Fault>) -> [u32; 4] {
+    written.map_or_else(refused, |bytes| [0, bytes as u32, 0, 0])
+}
+
+fn game_answer(read: Result<(usize, usize), Fault>) -> [u32; 4] {
+    read.map_or_else(refused, |(n, m)| [0, n as u32, n as u32, m as u32])
+}
+
 /// As the library's `hingrezh_write_pgsolver`.
 pub fn write_pgsolver(game: &[u32], text: &mut [u8], answer: &mut [u32; 4]) {
-    *answer = match pgsolver::write(game, text) {
-        Err(fault) => refused(fault),
-        Ok(bytes) => [0, bytes as u32, 0, 0],
-    };
+    *answer = text_answer(pgsolver::write(game, text));
 }
 
 /// As the library's `hingrezh_read_pgsolver`.
 pub fn read_pgsolver(text: &[u8], vertices: u32, edges: u32, game: &mut [u32], answer: &mut [u32; 4]) {
-    *answer = match pgsolver::read(text, vertices, edges, game) {
-        Err(fault) => refused(fault),
-        Ok((n, m)) => [0, n as u32, n as u32, m as u32],
-    };
+    *answer = game_answer(pgsolver::read(text, vertices, edges, game));
+}
+
+/// As `write_pgsolver`, with nothing allocated.
+pub fn write_pgsolver_lent(game: &[u32], text: &mut [u8], answer: &mut [u32; 4]) {
+    *answer = text_answer(pgsolver_lent::write(game, text));
+}
+
+/// As `read_pgsolver`, with nothing allocated.
+pub fn read_pgsolver_lent(text: &[u8], vertices: u32, edges: u32, game: &mut [u32], answer: &mut [u32; 4]) {
+    *answer = game_answer(pgsolver_lent::read(text, vertices, edges, game));
 }
 
 /// The edges of a vertex.

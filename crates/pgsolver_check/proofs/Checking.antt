@@ -29,11 +29,13 @@ use Rattle.pgsolver_check.specs.declared.Found.{Found}
 use Rattle.pgsolver_check.specs.declared.Survey.{Survey}
 use Rattle.pgsolver_check.specs.declared.Survey.the-variants.{Surveyed, Formless}
 use Rattle.pgsolver_check.specs.Lines.{solverText, linesIn, orNone, linesFrom, topOf, topsOf, ranksOf}
-use Rattle.pgsolver_check.specs.Lines.{inOrder, Readable}
+use Rattle.pgsolver_check.specs.Lines.{inOrder, Readable, Narrow}
+use Rattle.pgsolver_check.specs.Windows.{Apart}
 use Rattle.pgsolver_check.specs.Survey.{Seen, ToldSurvey}
 use Rattle.pgsolver_check.specs.Plans.{Planned}
-use Rattle.pgsolver_check.proofs.Walking.{number-top, successor-top, in-largest, exactly}
-use Rattle.pgsolver_check.proofs.Edging.{edges-listed}
+use Rattle.pgsolver_check.proofs.Bounding.{in-largest}
+use Rattle.pgsolver_check.proofs.Walking.{number-top, successor-top, exactly}
+use Rattle.pgsolver_check.proofs.Windowing.{some-same-number}
 
 pub seen-at : (text : List ℕ) {r : Survey} (found : Found) → r ≡ Surveyed found → ToldSurvey r text → Seen text found
 seen-at text found e a = subst (λ (s : Survey). ToldSurvey s text) e a
@@ -199,6 +201,12 @@ module _ {text : List ℕ} {found : Found} (s : Seen text found) (small : length
           ≡ faultIf 92 0 (not b)
       numbers-told b f = numbers b (f ∙ ap (λ (ls : List SolverLine). different (numbersOf ls)) seen-lines)
 
+      pub first-apart : found .apart ≡ true → Apart 0 (numbersOf (linesFrom text (found .first)))
+      first-apart f = subst (λ (ls : List SolverLine). Apart 0 (numbersOf ls)) (sym seen-lines) (s .new f)
+
+      pub numbers-again : found .apart ≡ false → refusal92 t ≡ faultIf 92 0 (not false)
+      numbers-again f = numbers false (some-same-number (numbersOf (t .lines)) (s .again f))
+
       pub numbers-ordered : found .ordered ≡ true → refusal92 t ≡ faultIf 92 0 (not true)
       numbers-ordered o =
           numbers true
@@ -227,9 +235,6 @@ module _ {text : List ℕ} {found : Found} (s : Seen text found) (small : length
           lines = s .lines ∙ ap (λ (ls : List SolverLine). some ls) (sym seen-lines);
           exact = omega (arith, ap topsOf seen-lines, right-low, few, s .many, given .long, right-highest);
         }
-
-    pub right-small : (v : ℕ) → v ≤ 1048576 → found .highest < v → topsOf (linesFrom text (found .first)) < 1048576
-    right-small v a b = omega (arith, ap topsOf seen-lines, right-low)
 
     module _ (v e : ℕ) where
       abbrev ranked : Bool
@@ -297,6 +302,14 @@ module _ {text : List ℕ} {found : Found} (s : Seen text found) (small : length
             turn true = refl
             turn false = refl
 
+        pub right-narrow : v ≤ 1048576 → Narrow text (found .first)
+        right-narrow a =
+            record {
+              readable = right-readable;
+              low = omega (arith, ap topsOf seen-lines, right-low);
+              ranks = omega (arith, ap ranksOf seen-lines, ranks);
+            }
+
         pub edges-told : (b : Bool) → b ≡ not (ltb e (edgeCount (map vertexOf (linesFrom text (found .first)))))
             → refusal93 (roomOf v e) t ≡ faultIf 93 0 (not b)
         edges-told b f = edges b
@@ -306,7 +319,7 @@ module _ {text : List ℕ} {found : Found} (s : Seen text found) (small : length
         listed-fits h =
             edges true
             (sym (ap not (le-ltb e (edgeCount (map vertexOf (t .lines)))
-            (omega (arith, s .listed, edges-listed (t .lines))))))
+            (omega (arith, h, s .enough right-low (omega (arith, few, s .many, given .long, right-highest)))))))
 
 -- ---- the plan
 

@@ -1,6 +1,9 @@
+pub mod Bounding
+pub mod Collecting
 pub mod Surveying
 pub mod Walking
 pub mod Windowing
 pub mod Counting
+pub mod Fields
 pub mod Edging
 pub mod Checking

@@ -1,20 +1,23 @@
 -- The first pass: the lines of a text, one after the other. Assumes nothing.
-use Prim.Native.Nat.{ℕ, zero, suc, _+_, _*_, _-_, _≤_, _<_, max}
+use Prim.Native.Nat.{ℕ, zero, suc, _+_, _*_, _≤_, _<_, min, max}
 use native.Mathlib.Omega.{arith}
 use mathlib.Core.Path.{_≡_, refl, sym, ap, _∙_, subst}
-use mathlib.Core.Bool.{Bool, true, false, _&&_}
+use mathlib.Core.Bool.{Bool, true, false, not, _&&_, true≢false, false≢true}
 use mathlib.Core.List.{List, [], _∷_, _++_, map, append-nil}
 use mathlib.Core.Option.{Option, none, some}
 use lib.ListN.{length, length-append, length-drop}
 use lib.Dec.{eqb}
 use native.Mathlib.Decide.{ℕ-discrete}
 use borrow.Author.Tests.{eq-eqb, ne-eqb}
-use Rattle.rules.specs.Lists.{largest, sum}
+use Rattle.rules.specs.Lists.{Distinct, largest}
 use Rattle.lists.proofs.Members.{map-append}
+use Rattle.lists.proofs.Tests.{and-true}
 use Rattle.rules.specs.Texts.{decimal}
 use Rattle.rules.specs.Pgsolver.{SolverLine, SolverText, commaText, listText, nameText, lineText}
 use Rattle.rules.specs.TextReading.{Front, front, thenRead}
 use Rattle.rules.specs.PgsolverParse.{readLine, withLine, readLines, readHeader, parse}
+use Rattle.rules.specs.PgsolverReading.{numbersOf}
+use Rattle.bitmap.specs.Marks.{Holds}
 use Rattle.game_texts.proofs.Parsing.{then-read, line-sound}
 use Rattle.game_texts.proofs.Decimals.{decimal-some}
 use Rattle.pgsolver_scan.specs.declared.Number.{Number}
@@ -22,11 +25,16 @@ use Rattle.pgsolver_scan.specs.declared.Number.the-variants.{At, NoNumber}
 use Rattle.pgsolver_scan.specs.declared.VertexLine.{VertexLine}
 use Rattle.pgsolver_scan.specs.declared.Row.{Row}
 use Rattle.pgsolver_scan.specs.declared.Row.the-variants.{Given, NoRow}
-use Rattle.pgsolver_scan.specs.Told.{saturated, since, Told, ToldRow}
+use Rattle.pgsolver_scan.specs.Told.{saturated, since, Told, RowAt, ToldRow}
 use Rattle.pgsolver_scan.proofs.Scanning.{since-end}
 use Rattle.pgsolver_scan.proofs.Reading.{then-none, told-at, told-not}
-use Rattle.pgsolver_check.specs.Lines.{textOr, solverText, linesAt, topOf, topsOf, ranksOf, listedOf, inOrder}
-use Rattle.pgsolver_check.specs.Survey.{Seen}
+use Rattle.pgsolver_check.specs.declared.Found.{Found}
+use Rattle.pgsolver_check.specs.Lines.{textOr, solverText, linesAt, topOf, topsOf, ranksOf, inOrder}
+use Rattle.pgsolver_check.specs.Windows.{Apart, Noted, Again}
+use Rattle.pgsolver_check.specs.Survey.{Addable, Added, Seen}
+use Rattle.pgsolver_check.proofs.Bounding.{largest-more, tops-more, no-edges, Enough, enough-more}
+use Rattle.pgsolver_check.proofs.Collecting.{Collected, collected-none, collected-twice, collected-more}
+use Rattle.pgsolver_check.proofs.Collecting.{noted-exact, again-exact, distinct-before}
 
 -- ---- a line that was read
 
@@ -155,20 +163,19 @@ lines-end text p h = rw (since-end text p h) refl
 
 -- ---- what is counted
 
-largest-more : (ns : List ℕ) (n : ℕ) → largest (ns ++ (n ∷ [])) ≡ max (largest ns) n
-unfolding largest
-largest-more [] n = omega arith
-largest-more (k ∷ ns) n = ap (max k) (largest-more ns n)
-    ∙ (let e : max k (max (largest ns) n) ≡ max (max k (largest ns)) n = omega arith in e)
-
 saturated-max : (a b : ℕ) → saturated (max a b) ≡ max (saturated a) (saturated b)
 unfolding saturated
 saturated-max a b = omega arith
 
-listed-more : (ls : List SolverLine) (l : SolverLine) → listedOf (ls ++ (l ∷ [])) ≡ listedOf ls + length (l .successors)
-unfolding listedOf sum
-listed-more [] l = omega arith
-listed-more (k ∷ ls) l = omega (arith, listed-more ls l)
+ranks-more : (ls : List SolverLine) (l : SolverLine) → ranksOf (ls ++ (l ∷ [])) ≡ max (ranksOf ls) (l .priority)
+unfolding ranksOf
+ranks-more ls l =
+    ap largest (map-append (λ l. l .priority) ls (l ∷ [])) ∙ largest-more (map (λ l. l .priority) ls) (l .priority)
+
+saturated-top : (l : SolverLine)
+    → saturated (topOf l) ≡ max (saturated (l .number)) (saturated (largest (l .successors)))
+unfolding topOf
+saturated-top l = saturated-max (l .number) (largest (l .successors))
 
 order-more : (v : ℕ) (ls : List SolverLine) (l : SolverLine)
     → inOrder v (ls ++ (l ∷ [])) ≡ (inOrder v ls && eqb (l .number) (v + length ls))
@@ -199,35 +206,81 @@ same-turn n m turn e h = go (ℕ-discrete n turn)
     go (yes f) = eq-eqb m turn (omega arith) ∙ sym (eq-eqb n turn f)
     go (no f) = ne-eqb m turn (λ g. f (omega arith)) ∙ sym (ne-eqb n turn f)
 
+-- ---- one line more
+
+-- whether the numbers are still different, from whether this one was seen before
+pub apart-new : {apart again apart′ : Bool} (n : ℕ) {bits bits′ : List ℕ} → apart′ ≡ (not again && apart)
+    → (again ≡ false → Noted 0 n bits bits′) → apart′ ≡ true → (apart ≡ true) × Noted 0 n bits bits′
+apart-new {apart} {again} n e f g =
+    let (a, b) = and-true (not again) apart (sym e ∙ g) in
+    (b, f (off again a))
+  where
+    off : (b : Bool) → not b ≡ true → b ≡ false
+    off true p = absurd (false≢true p)
+    off false p = refl
+
+pub apart-again : {apart again apart′ : Bool} (n : ℕ) {bits : List ℕ} → apart′ ≡ (not again && apart)
+    → (again ≡ true → Again 0 n bits) → apart′ ≡ false → apart ≡ true → Again 0 n bits
+apart-again {apart} {again} n e f g k = f (go again refl)
+  where
+    go : (b : Bool) → again ≡ b → again ≡ true
+    go true p = p
+    go false p = absurd (true≢false (sym k ∙ sym (ap (λ (b : Bool). not b && apart) p) ∙ sym e ∙ g))
+
+-- ---- the pass
+
 -- the lines from `first` up to p were read
-pub record Surveying (text : List ℕ) (first p count top rank listed : ℕ) (ordered : Bool) : Type 0 where
+pub record Surveying (text : List ℕ) (highest first p : ℕ) (found : Found) (bits : List ℕ) : Type 0 where
   pub ls : List SolverLine
+  pub small : length text < 18446744073709551616
   pub within : p ≤ length text
   pub left : linesAt text first ≡ withLines ls (linesAt text p)
-  pub many : count ≡ length ls
-  pub few : first + 2 * count + listed ≤ p
-  pub tops : top ≡ saturated (topsOf ls)
-  pub ranks : rank ≡ saturated (ranksOf ls)
-  pub lists : listed ≡ listedOf ls
-  pub order : ordered ≡ inOrder 0 ls
+  pub header : found .highest ≡ highest
+  pub begun : found .first ≡ first
+  pub many : found .lines ≡ length ls
+  pub few : 2 * found .lines + found .listed ≤ p
+  pub tops : found .top ≡ saturated (topsOf ls)
+  pub ranks : found .rank ≡ saturated (ranksOf ls)
+  pub enough : Enough highest ls (found .listed)
+  pub order : found .ordered ≡ inOrder 0 ls
+  pub long : length bits ≡ 32_768
+  pub new : found .apart ≡ true → Collected 0 (numbersOf ls) bits
+  pub again : found .apart ≡ false → ¬ Distinct (numbersOf ls)
 
-pub surveying-start : (text : List ℕ) (first : ℕ) → first ≤ length text → Surveying text first first 0 0 0 0 true
-unfolding withLines topsOf ranksOf listedOf inOrder largest sum saturated
-surveying-start text first h =
+pub surveying-start : (text : List ℕ) (highest first : ℕ) {bits : List ℕ} → first ≤ length text
+    → length text < 18446744073709551616 → Holds bits []
+    → Surveying text highest first first (record {
+      highest = highest;
+      first = first;
+      lines = 0;
+      top = 0;
+      rank = 0;
+      listed = 0;
+      ordered = true;
+      apart = true;
+    }) bits
+unfolding withLines topsOf ranksOf inOrder largest saturated
+surveying-start text highest first h small k =
     record {
       ls = [];
+      small = small;
       within = h;
       left = refl;
+      header = refl;
+      begun = refl;
       many = refl;
       few = omega arith;
       tops = omega arith;
       ranks = omega arith;
-      lists = refl;
+      enough = λ a b. omega (arith, no-edges);
       order = refl;
+      long = k .long;
+      new = λ e. collected-none 0 k;
+      again = λ e. absurd (true≢false e);
     }
 
-module _ {text : List ℕ} {first p count top rank listed : ℕ} {ordered : Bool}
-    (s : Surveying text first p count top rank listed ordered) (h : p < length text) {r : Row} where
+module _ {text : List ℕ} {highest first p : ℕ} {found : Found} {bits : List ℕ}
+    (s : Surveying text highest first p found bits) (h : p < length text) {r : Row} where
   pub surveying-broken : r ≡ NoRow → ToldRow r (readLine (since text p)) text → linesAt text first ≡ none
   surveying-broken e a =
       s .left ∙ ap (withLines (s .ls)) (lines-broken text p h (row-no text (readLine (since text p)) e a))
@@ -240,49 +293,70 @@ module _ {text : List ℕ} {first p count top rank listed : ℕ} {ordered : Bool
         let (x, b, c, d) = row-at text (readLine (since text p)) row e a in
         omega (arith, c .listed, line-later text p (row .next) x (omega arith) d b)
 
-    pub surveying-inside : row .next ≤ length text
-    surveying-inside = row-at text (readLine (since text p)) row e a .3
+    inside : row .next ≤ length text
+    inside = row-at text (readLine (since text p)) row e a .3
 
-    pub surveying-more : length text < 18446744073709551616 → {m top′ rank′ : ℕ} {ordered′ : Bool} → m
-        ≡ max (row .number) (row .largest)
-        → top′ ≡ max top m → rank′ ≡ max rank (row .priority) → ordered′ ≡ (ordered && eqb (row .number) count)
-        → Surveying text first (row .next) (count + 1) top′ rank′ (listed + row .listed) ordered′
-    unfolding topsOf ranksOf topOf
-    surveying-more small f g k o =
+    -- one line more can be counted
+    pub surveying-room : highest < 18446744073709551615 → Addable found row
+    surveying-room low =
+        record {
+          highest = omega (arith, s .header, low);
+          lines = omega (arith, s .few, s .within, s .small);
+          listed = omega (arith, s .few, surveying-later, inside, s .small);
+        }
+
+    pub surveying-more : {found′ : Found} {bits′ : List ℕ} → Added found row found′ bits bits′
+        → Surveying text highest first (row .next) found′ bits′
+    surveying-more {found′} {bits′} g =
         let (x, b, c, d) = row-at text (readLine (since text p)) row e a in
+        let numbers : numbersOf (s .ls ++ (x ∷ [])) ≡ numbersOf (s .ls) ++ (x .number ∷ [])
+        = map-append (λ (l : SolverLine). l .number) (s .ls) (x ∷ []) in
+        let listed : found′ .listed ≡ found .listed + min (row .listed) (highest + 1)
+        = g .lists ∙ ap (λ (n : ℕ). found .listed + min (row .listed) (n + 1)) (s .header) in
         record {
           ls = s .ls ++ (x ∷ []);
+          small = s .small;
           within = d;
           left = s .left ∙ ap (withLines (s .ls)) (lines-more text p (row .next) x h d b)
               ∙ sym (lines-snoc (s .ls) x (linesAt text (row .next)));
-          many = omega (arith, s .many, length-append (s .ls) (x ∷ []));
-          few = omega (arith, s .few, surveying-later);
-          tops = g ∙ omega (
+          header = g .header ∙ s .header;
+          begun = g .begun ∙ s .begun;
+          many = omega (arith, g .many, s .many, length-append (s .ls) (x ∷ []));
+          few = omega (arith, g .many, listed, s .few, surveying-later);
+          tops = g .tops ∙ omega (
             arith,
-            f,
             s .tops,
             c .number,
             c .top,
-            ap (λ (ns : List ℕ). saturated (largest ns)) (map-append topOf (s .ls) (x ∷ [])),
-            ap saturated (largest-more (map topOf (s .ls)) (topOf x)),
-            saturated-max (largest (map topOf (s .ls))) (topOf x),
-            saturated-max (x .number) (largest (x .successors)),
+            ap saturated (tops-more (s .ls) x),
+            saturated-max (topsOf (s .ls)) (topOf x),
+            saturated-top x,
           );
-          ranks = k ∙ omega (
+          ranks = g .ranks ∙ omega (
             arith,
             s .ranks,
             c .priority,
-            ap (λ (ns : List ℕ). saturated (largest ns)) (map-append (λ l. l .priority) (s .ls) (x ∷ [])),
-            ap saturated (largest-more (map (λ l. l .priority) (s .ls)) (x .priority)),
-            saturated-max (largest (map (λ l. l .priority) (s .ls))) (x .priority),
+            ap saturated (ranks-more (s .ls) x),
+            saturated-max (ranksOf (s .ls)) (x .priority),
           );
-          lists = omega (arith, s .lists, c .listed, listed-more (s .ls) x);
-          order = o ∙ ap (λ (b : Bool). b && eqb (row .number) count) (s .order)
+          enough = subst (Enough highest (s .ls ++ (x ∷ []))) (sym listed)
+              (enough-more highest (s .ls) x row c (s .enough));
+          order = g .order ∙ ap (λ (b : Bool). b && eqb (row .number) (found .lines)) (s .order)
               ∙ ap (λ (b : Bool). inOrder 0 (s .ls) && b)
-              (same-turn (x .number) (row .number) count (c .number) (omega (arith, s .few, s .within))
-              ∙ ap (eqb (x .number)) (let z : count ≡ 0 + length (s .ls) = omega (arith, s .many) in z))
+              (same-turn (x .number) (row .number) (found .lines) (c .number)
+              (omega (arith, s .few, s .within, s .small))
+              ∙ ap (eqb (x .number)) (let z : found .lines ≡ 0 + length (s .ls) = omega (arith, s .many) in z))
               ∙ sym (order-more 0 (s .ls) x);
+          long = g .long;
+          new = λ f. subst (λ (ns : List ℕ). Collected 0 ns bits′) (sym numbers)
+              (collected-more (s .new (g .new f .0)) (x .number) (noted-exact (c .number) (g .new f .1)));
+          again = λ f k. twice-seen f x c (found .apart) refl (subst Distinct numbers k);
         }
+      where
+        twice-seen : found′ .apart ≡ false → (x : SolverLine) → RowAt text x row → (b : Bool) → found .apart ≡ b
+            → ¬ Distinct (numbersOf (s .ls) ++ (x .number ∷ []))
+        twice-seen f x c true z k = collected-twice (s .new z) (x .number) [] (again-exact (c .number) (g .again f z)) k
+        twice-seen f x c false z k = s .again z (distinct-before (numbersOf (s .ls)) (x .number ∷ []) k)
 
 -- ---- the whole text
 
@@ -301,19 +375,15 @@ module _ (text : List ℕ) {r : Number} (h first : ℕ) (e : r ≡ At h first) (
   pub surveyed-broken : linesAt text first ≡ none → parse text ≡ none
   surveyed-broken f = let (n, s, g) = parsed in g ∙ then-none _ f
 
-  pub surveyed : {p count top rank listed : ℕ} {ordered : Bool} → length text ≤ p
-      → Surveying text first p count top rank listed ordered
-      → Seen text (record {
-        highest = h;
-        first = first;
-        lines = count;
-        top = top;
-        rank = rank;
-        listed =
-            listed;
-        ordered = ordered;
-      })
-  surveyed {p} l s =
+  pub surveyed-low : h < 18446744073709551615
+  surveyed-low = let (n, b, s, w) = told-at text (readHeader text) h first e a in saturated-low n s
+    where
+      saturated-low : (n : ℕ) → h ≡ saturated n → h < 18446744073709551615
+      saturated-low n s = unfold saturated in omega arith
+
+  pub surveyed : {p : ℕ} {found : Found} {bits : List ℕ} → length text ≤ p
+      → Surveying text h first p found bits → Seen text found
+  surveyed {p} {found} l s =
       let (n, b, g) = parsed in
       let all : linesAt text first ≡ some (s .ls) = s .left ∙ ap (withLines (s .ls)) (lines-end text p l)
       ∙ lines-done (s .ls) []
@@ -321,17 +391,21 @@ module _ (text : List ℕ) {r : Number} (h first : ℕ) (e : r ≡ At h first) (
       let t : SolverText = record { highest = n; lines = s .ls } in
       let says : parse text ≡ some t = g ∙ then-read _ (s .ls) all in
       let same : t ≡ solverText text = is-said t says in
+      let lines : s .ls ≡ solverText text .lines = ap (λ (x : SolverText). x .lines) same in
       record {
         says = says ∙ ap (λ (x : SolverText). some x) same;
-        header = b ∙ ap (λ (x : SolverText). saturated (x .highest)) same;
-        within = surveyed-within;
-        lines = all ∙ ap (λ (x : SolverText). some (x .lines)) same;
-        many = s .many ∙ ap (λ (x : SolverText). length (x .lines)) same;
+        header = s .header ∙ b ∙ ap (λ (x : SolverText). saturated (x .highest)) same;
+        within = subst (λ (q : ℕ). q ≤ length text) (sym (s .begun)) surveyed-within;
+        lines = ap (linesAt text) (s .begun) ∙ all ∙ ap (λ (ls : List SolverLine). some ls) lines;
+        many = s .many ∙ ap (λ (ls : List SolverLine). length ls) lines;
         few = omega (arith, s .few, s .within);
-        tops = s .tops ∙ ap (λ (x : SolverText). saturated (topsOf (x .lines))) same;
-        ranks = s .ranks ∙ ap (λ (x : SolverText). saturated (ranksOf (x .lines))) same;
-        listed = s .lists ∙ ap (λ (x : SolverText). listedOf (x .lines)) same;
-        order = s .order ∙ ap (λ (x : SolverText). inOrder 0 (x .lines)) same;
+        tops = s .tops ∙ ap (λ (ls : List SolverLine). saturated (topsOf ls)) lines;
+        ranks = s .ranks ∙ ap (λ (ls : List SolverLine). saturated (ranksOf ls)) lines;
+        enough = λ low small. subst (λ (ls : List SolverLine). Enough h ls (found .listed)) lines (s .enough)
+            (omega (arith, s .header, low)) (omega (arith, s .header, small));
+        order = s .order ∙ ap (inOrder 0) lines;
+        new = λ f. subst (λ (ls : List SolverLine). Apart 0 (numbersOf ls)) lines (s .new f .apart);
+        again = λ f. subst (λ (ls : List SolverLine). ¬ Distinct (numbersOf ls)) lines (s .again f);
       }
     where
       is-said : (t : SolverText) → parse text ≡ some t → t ≡ solverText text

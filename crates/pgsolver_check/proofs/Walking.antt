@@ -4,13 +4,13 @@ use native.Mathlib.Omega.{arith}
 use mathlib.Core.Path.{_≡_, refl, sym, ap, _∙_, subst}
 use mathlib.Core.Bool.{Bool, true, false, cond}
 use mathlib.Core.List.{List, [], _∷_, _++_, map, append-nil, append-assoc}
-use mathlib.Core.Logic.{inl, inr}
+use mathlib.Core.Logic.{inl}
 use mathlib.Core.Option.{Option, none, some}
 use lib.ListN.{length, drop, length-append, length-drop}
 use lib.Seq.{drop-drop, drop-append-seam}
 use lib.Dec.{ltb}
 use borrow.Author.Tests.{ltb-false}
-use Rattle.rules.specs.Lists.{In, largest}
+use Rattle.rules.specs.Lists.{In}
 use Rattle.rules.specs.Pgsolver.{SolverLine, lineText}
 use Rattle.rules.specs.TextReading.{Front, front, readBytes, readField}
 use Rattle.rules.specs.PgsolverParse.{readOwner, readList, readNamed, readLine, withLine}
@@ -18,14 +18,13 @@ use Rattle.lists.proofs.Members.{in-right, map-in}
 use Rattle.game_texts.proofs.Parsing.{some-same, then-some, line-sound}
 use Rattle.pgsolver_scan.specs.declared.Number.{Number}
 use Rattle.pgsolver_scan.specs.declared.Number.the-variants.{At, NoNumber}
-use Rattle.pgsolver_scan.specs.declared.VertexLine.{VertexLine}
-use Rattle.pgsolver_scan.specs.declared.Row.{Row}
-use Rattle.pgsolver_scan.specs.declared.Row.the-variants.{Given, NoRow}
-use Rattle.pgsolver_scan.specs.Told.{saturated, since, pastLine, Told, RowAt, ToldRow}
+use Rattle.pgsolver_scan.specs.Told.{saturated, since, pastLine, Told}
 use Rattle.pgsolver_scan.proofs.Reading.{told-at, told-not}
+use Rattle.pgsolver_scan.proofs.Lines.{end-behind}
 use Rattle.pgsolver_scan.proofs.PastLines.{line-ends}
 use Rattle.pgsolver_check.specs.Lines.{linesAt, linesFrom, topOf, topsOf, Readable, Body}
-use Rattle.pgsolver_check.proofs.Surveying.{row-at, row-no, line-later, lines-more, lines-broken, lines-end}
+use Rattle.pgsolver_check.proofs.Surveying.{line-later, lines-more, lines-broken, lines-end}
+use Rattle.pgsolver_check.proofs.Bounding.{in-largest}
 
 -- ---- the parts of a line that was read
 
@@ -70,6 +69,7 @@ line-body ts l e =
       owner = a;
       successors = e4;
       small = b;
+      ended = end-behind (s .rest) n r e5 e6;
     } in (
       v,
       e1,
@@ -126,12 +126,6 @@ next-line text p rest h e = go (readLine (since text p)) refl
         record { line = x .value; later = ms; next = p + size; reads = reads; inside = inside; after = g; all = k }
 
 -- ---- numbers on lines
-
-pub in-largest : (ns : List ℕ) (n : ℕ) → In n ns → n ≤ largest ns
-unfolding largest
-in-largest [] n i = absurd i
-in-largest (m ∷ ns) n (inl e) = omega arith
-in-largest (m ∷ ns) n (inr i) = omega (arith, in-largest ns n i)
 
 pub number-top : (ls : List SolverLine) (x : SolverLine) → In x ls → x .number ≤ topsOf ls
 unfolding topsOf topOf
@@ -223,18 +217,4 @@ module _ {text : List ℕ} {first p : ℕ} (r : Readable text first) (k : Walk t
           s ∙ ap saturated number ∙ walk-exact,
           w,
           subst (λ (z : Front ℕ). Body (z .rest) (walk-next .line)) same d,
-        )
-
-  module _ {row : Row} (a : ToldRow row (readLine (since text p)) text) where
-    pub walk-broken : row ≡ NoRow → ⊥
-    walk-broken e = none-some (sym (row-no text (readLine (since text p)) e a) ∙ walk-next .reads)
-
-    pub walk-row : (given : VertexLine) → row ≡ Given given → RowAt text (walk-next .line) given
-        × (given .next ≡ pastLine text p)
-    walk-row given e =
-        let (x, b, c, d) = row-at text (readLine (since text p)) given e a in
-        let same : front x (since text (given .next)) ≡ front (walk-next .line) (since text (walk-next .next))
-        = some-same (sym b ∙ walk-next .reads) in (
-          subst (λ (z : SolverLine). RowAt text z given) (ap (λ (z : Front SolverLine). z .value) same) c,
-          sym (line-ends text p (given .next) x (omega arith) d b),
         )

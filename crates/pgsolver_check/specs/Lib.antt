@@ -1,5 +1,5 @@
 pub mod Lines
-pub mod Survey
 pub mod Windows
+pub mod Survey
 pub mod Successors
 pub mod Plans

@@ -6,7 +6,8 @@ use mathlib.Core.List.{List, [], _∷_, map}
 use mathlib.Core.Option.{Option, none, some}
 use lib.ListN.{length}
 use lib.Dec.{eqb}
-use Rattle.rules.specs.Lists.{largest, sum}
+use Rattle.rules.specs.Lists.{largest}
+use Rattle.rules.specs.Words.{mostVertices}
 use Rattle.rules.specs.Pgsolver.{SolverLine, SolverText}
 use Rattle.rules.specs.TextReading.{front, readField}
 use Rattle.rules.specs.PgsolverParse.{readList, readLines, parse}
@@ -41,15 +42,12 @@ linesFrom text place = orNone (linesAt text place)
 unfoldable pub topOf : SolverLine → ℕ
 topOf l = max (l .number) (largest (l .successors))
 
--- of all lines: the highest number, the highest priority, and how many successors they list
+-- of all lines: the highest number and the highest priority
 unfoldable pub topsOf : List SolverLine → ℕ
 topsOf ls = largest (map topOf ls)
 
 unfoldable pub ranksOf : List SolverLine → ℕ
 ranksOf ls = largest (map (λ l. l .priority) ls)
-
-unfoldable pub listedOf : List SolverLine → ℕ
-listedOf ls = sum (map (λ l. length (l .successors)) ls)
 
 -- their numbers are v, v + 1, ..
 unfoldable pub inOrder : ℕ → List SolverLine → Bool
@@ -62,7 +60,14 @@ pub record Readable (text : List ℕ) (first : ℕ) : Type 0 where
   pub lines : linesAt text first ≡ some (linesFrom text first)
   pub exact : topsOf (linesFrom text first) < 18_446_744_073_709_551_610
 
--- priority, owner and successors of a line stand at the front of these bytes, one after the other
+-- the same, of lines whose numbers are vertices and whose priorities fit 32 bits
+pub record Narrow (text : List ℕ) (first : ℕ) : Type 0 where
+  pub readable : Readable text first
+  pub low : topsOf (linesFrom text first) < mostVertices
+  pub ranks : ranksOf (linesFrom text first) < 4_294_967_296
+
+-- priority, owner and successors of a line stand at the front of these bytes, one after the other, and the end of the
+-- line behind them
 pub record Body (bytes : List ℕ) (line : SolverLine) : Type 0 where
   pub ranked : List ℕ
   pub owned : List ℕ
@@ -71,3 +76,4 @@ pub record Body (bytes : List ℕ) (line : SolverLine) : Type 0 where
   pub owner : readField 32 ranked ≡ some (front (line .owner) owned)
   pub successors : readList owned ≡ some (front (line .successors) listed)
   pub small : line .owner ≤ 1
+  pub ended : 1 ≤ length listed

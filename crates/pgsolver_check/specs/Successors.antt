@@ -18,9 +18,10 @@ valueOr (some r) = r .value
 unfoldable pub listAt : List ℕ → ℕ → List ℕ
 listAt text place = valueOr (readList (since text place))
 
--- there is a list, of vertices
+-- there is a list, of vertices, and something behind it
 pub record Listed (text : List ℕ) (place : ℕ) : Type 0 where
   pub within : place ≤ length text
   pub rest : List ℕ
   pub reads : readList (since text place) ≡ some (front (listAt text place) rest)
+  pub ended : 1 ≤ length rest
   pub small : (s : ℕ) → In s (listAt text place) → s < mostVertices

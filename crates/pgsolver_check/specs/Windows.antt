@@ -2,7 +2,7 @@
 -- Assumes nothing: these are definitions.
 use Prim.Native.Nat.{ℕ, _+_, _-_, _≤_, _<_}
 use mathlib.Core.Path.{_≡_}
-use mathlib.Core.Bool.{false, _||_}
+use mathlib.Core.Bool.{true, false, _||_}
 use mathlib.Core.List.{List, [], _∷_}
 use lib.ListN.{length}
 use lib.Dec.{eqb}
@@ -20,3 +20,9 @@ pub record Noted (base n : ℕ) (bits bits′ : List ℕ) : Type 0 where
   pub fresh : base ≤ n → n < base + bitmapNumbers → marked bits (n - base) ≡ false
   pub inside : base ≤ n → n < base + bitmapNumbers → (u : ℕ) → marked bits′ u ≡ (eqb u (n - base) || marked bits u)
   pub outside : ¬ ((base ≤ n) × (n < base + bitmapNumbers)) → (u : ℕ) → marked bits′ u ≡ marked bits u
+
+-- a number of the window was marked before
+pub record Again (base n : ℕ) (bits : List ℕ) : Type 0 where
+  pub from : base ≤ n
+  pub below : n < base + bitmapNumbers
+  pub old : marked bits (n - base) ≡ true

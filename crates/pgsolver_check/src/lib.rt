@@ -2,12 +2,14 @@
 // whether each vertex is given once, and whether there is room for its game.
 use bitmap::Bitmap;
 use bitmap::NUMBERS;
+use bitmap::WORDS;
 use pgsolver_scan::Number;
 use pgsolver_scan::Row;
+use pgsolver_scan::VertexLine;
 ghost use mathlib.Core.Path.{_≡_};
 ghost use mathlib.Core.Bool.{true, false, not, _&&_};
 ghost use mathlib.Core.List.{[], map};
-ghost use Prim.Native.Nat.{_+_, _-_, _<_, _≤_, max};
+ghost use Prim.Native.Nat.{_+_, _-_, _<_, _≤_, min, max};
 ghost use lib.ListN.{length};
 ghost use lib.Dec.{eqb, ltb};
 ghost use Rattle.rules.specs.declared.Check.the-variants.{Passed};
@@ -17,15 +19,16 @@ ghost use Rattle.rules.specs.Answers.{faultIf};
 ghost use Rattle.rules.specs.Game.{edgeCount};
 ghost use Rattle.rules.specs.PgsolverReading.{vertexOf, different, numbersOf, refusal92, refusal93};
 ghost use Rattle.bitmap.specs.Marks.{bitmapWords, bitmapNumbers, marked, Met, Holds, Only};
-ghost use Rattle.pgsolver_check.specs.Lines.{solverText, linesFrom, topsOf, Readable};
-ghost use Rattle.pgsolver_check.specs.Survey.{Seen, ToldSurvey};
-ghost use Rattle.pgsolver_check.specs.Windows.{Apart, Noted};
+ghost use Rattle.pgsolver_scan.specs.Told.{pastLine};
+ghost use Rattle.pgsolver_check.specs.Lines.{solverText, linesFrom, topsOf, Readable, Narrow};
+ghost use Rattle.pgsolver_check.specs.Survey.{Seen, ToldSurvey, Addable, Added};
+ghost use Rattle.pgsolver_check.specs.Windows.{Apart, Noted, Again};
 ghost use Rattle.pgsolver_check.specs.Successors.{listAt, Listed};
 ghost use Rattle.pgsolver_check.specs.Plans.{ToldPlan};
 
 // What the survey of a text finds: the highest vertex number, the place of the first line, how many lines there are,
-// the highest number and the highest priority on them, how many successors they list, and whether the lines are in the
-// order of their numbers.
+// the highest number and the highest priority on them, a bound for the edges, whether the lines are in the order of
+// their numbers, and whether their numbers below 1,048,576 are all different.
 struct Found {
     highest: usize,
     first: usize,
@@ -34,6 +37,7 @@ struct Found {
     rank: usize,
     listed: usize,
     ordered: bool,
+    apart: bool,
 }
 
 enum Survey {
@@ -61,6 +65,15 @@ fn larger(left: usize, right: usize) -> usize
     left
 }
 
+fn smaller(left: usize, right: usize) -> usize
+    ensures { λ r. ⌜ r ≡ min left right ⌝ }
+{
+    if left < right {
+        return left;
+    }
+    right
+}
+
 // Is a number the one whose turn it is, and were those before it so?
 fn in_turn(before: bool, number: usize, turn: usize) -> bool
     ensures { λ r. ⌜ r ≡ (before && eqb number turn) ⌝ }
@@ -71,9 +84,40 @@ fn in_turn(before: bool, number: usize, turn: usize) -> bool
     false
 }
 
-// The form of the whole text.
-fn survey_text(text: &[u8]) -> Survey
+// Is a number new, and were those before it?
+fn still_apart(before: bool, again: bool) -> bool
+    ensures { λ r. ⌜ r ≡ (not again && before) ⌝ }
+{
+    if again {
+        return false;
+    }
+    before
+}
+
+// What is found with one line more. A line has no more different successors than there are vertices.
+fn with_line(found: Found, row: VertexLine, bits: &mut Bitmap) -> Found
+    requires { ⌜ Addable found row × (length (now bits) ≡ bitmapWords) ⌝ }
+    ensures { λ r. ⌜ Added found row r (now (bits .entry)) (now (bits .exit)) ⌝ }
+{
+    let again = seen_before(row.number, 0, bits);
+    Found {
+        highest: found.highest,
+        first: found.first,
+        lines: found.lines + 1,
+        top: larger(found.top, larger(row.number, row.largest)),
+        rank: larger(found.rank, row.priority),
+        listed: found.listed + smaller(row.listed, found.highest + 1),
+        ordered: in_turn(found.ordered, row.number, found.lines),
+        apart: still_apart(found.apart, again),
+    }
+}
+
+// The form of the whole text. The numbers of the lines are noted in the bitmap, so that lines in another order than
+// that of their numbers need no pass of their own.
+fn survey_text(text: &[u8], bits: &mut Bitmap) -> Survey
+    requires { ⌜ length (now bits) ≡ bitmapWords ⌝ }
     ensures { λ r. ⌜ ToldSurvey r (now (text .entry)) ⌝ }
+    ensures { λ _. ⌜ length (now (bits .exit)) ≡ bitmapWords ⌝ }
 {
     let header = pgsolver_scan::read_header(text);
     let Number::At {
@@ -83,43 +127,37 @@ fn survey_text(text: &[u8]) -> Survey
     else {
         return Survey::Formless;
     };
+    bitmap::clear(bits);
     let mut place = first;
-    let mut lines = 0;
-    let mut top = 0;
-    let mut rank = 0;
-    let mut listed = 0;
-    let mut ordered = true;
+    let mut found = Found {
+        highest,
+        first,
+        lines: 0,
+        top: 0,
+        rank: 0,
+        listed: 0,
+        ordered: true,
+        apart: true,
+    };
     while place < text.len() {
         let line = pgsolver_scan::read_line(text, place);
         let Row::Given(row) = line else {
             return Survey::Formless;
         };
-        ordered = in_turn(ordered, row.number, lines);
-        lines += 1;
-        top = larger(top, larger(row.number, row.largest));
-        rank = larger(rank, row.priority);
-        listed += row.listed;
+        found = with_line(found, row, bits);
         place = row.next;
     }
-    Survey::Surveyed(Found {
-        highest,
-        first,
-        lines,
-        top,
-        rank,
-        listed,
-        ordered,
-    })
+    Survey::Surveyed(found)
 }
 
-// ---- a vertex given twice: the numbers are looked at in windows of 1,048,576. A text with more than one window is
-// refused in any case, but perhaps for another reason
+// ---- a vertex given twice: the numbers are looked at in windows of 1,048,576, the first in the survey. A text with
+// more than one window is refused in any case, but perhaps for another reason
 
 // A number is noted, if it is in the window from `base` on. Was it there before?
 fn seen_before(number: usize, base: usize, bits: &mut Bitmap) -> bool
     requires { ⌜ (length (now bits) ≡ bitmapWords) × (base + bitmapNumbers < 18446744073709551616) ⌝ }
     ensures { λ r. ⌜ (r ≡ false → Noted base number (now (bits .entry)) (now (bits .exit))) ⌝ }
-    ensures { λ r. ⌜ (r ≡ true → (base ≤ number) × (marked (now (bits .entry)) (number - base) ≡ true)) ⌝ }
+    ensures { λ r. ⌜ (r ≡ true → Again base number (now (bits .entry))) ⌝ }
     ensures { λ _. ⌜ length (now (bits .exit)) ≡ bitmapWords ⌝ }
 {
     if number < base {
@@ -138,7 +176,8 @@ fn seen_before(number: usize, base: usize, bits: &mut Bitmap) -> bool
 
 // Are the numbers of the lines in the window from `base` on all different? If not, the numbers are not.
 fn window_differs(text: &[u8], first: usize, base: usize, bits: &mut Bitmap) -> bool
-    requires { ⌜ Readable (now text) first × (base + bitmapNumbers < 18446744073709551616) × (length (now bits) ≡ bitmapWords) ⌝ }
+    requires { ⌜ Readable (now text) first × (base + bitmapNumbers < 18446744073709551616)
+        × (length (now bits) ≡ bitmapWords) ⌝ }
     ensures { λ r. ⌜ (r ≡ true → Apart base (numbersOf (linesFrom (now (text .entry)) first))) ⌝ }
     ensures { λ r. ⌜ (r ≡ false → ¬ Distinct (numbersOf (linesFrom (now (text .entry)) first))) ⌝ }
     ensures { λ _. ⌜ length (now (bits .exit)) ≡ bitmapWords ⌝ }
@@ -163,14 +202,15 @@ fn window_differs(text: &[u8], first: usize, base: usize, bits: &mut Bitmap) -> 
     true
 }
 
-// Are the numbers of the lines, none above `highest`, all different?
+// Are the numbers of the lines, none above `highest`, all different? Those of the first window are.
 fn numbers_differ(text: &[u8], first: usize, highest: usize, bits: &mut Bitmap) -> bool
     requires { ⌜ Readable (now text) first × (topsOf (linesFrom (now text) first) ≤ highest) ⌝ }
+    requires { ⌜ Apart 0 (numbersOf (linesFrom (now text) first)) ⌝ }
     requires { ⌜ (highest < 9223372036854775808) × (length (now bits) ≡ bitmapWords) ⌝ }
     ensures { λ r. ⌜ r ≡ different (numbersOf (linesFrom (now (text .entry)) first)) ⌝ }
     ensures { λ _. ⌜ length (now (bits .exit)) ≡ bitmapWords ⌝ }
 {
-    let mut base = 0;
+    let mut base = NUMBERS;
     while base <= highest {
         let fine = window_differs(text, first, base, bits);
         if fine {
@@ -182,7 +222,13 @@ fn numbers_differ(text: &[u8], first: usize, highest: usize, bits: &mut Bitmap) 
     true
 }
 
-// ---- edges: they are counted only where the successors listed, repeats included, are more than there is room for
+// ---- edges: they are counted only where the bound that the survey found is more than there is room for
+
+// How many different numbers a list has, and the place past it.
+struct Counted {
+    count: usize,
+    next: usize,
+}
 
 // Empties the bitmap, in which only numbers of a list are marked.
 fn wipe_list(text: &[u8], list: usize, bits: &mut Bitmap)
@@ -190,19 +236,28 @@ fn wipe_list(text: &[u8], list: usize, bits: &mut Bitmap)
     ensures { λ _. ⌜ Holds (now (bits .exit)) [] ⌝ }
 {
     let mut place = list;
-    while place < text.len() {
-        let number = pgsolver_scan::read_number(text, place);
-        let Number::At { value, next } = number else {
-            return;
-        };
-        bitmap::wipe(bits, value);
-        let comma = pgsolver_scan::byte_at(text, next, 44);
-        if comma {
-            place = next + 1;
+    loop {
+        let number = pgsolver_scan::known_number(text, place);
+        let past = number.next;
+        bitmap::wipe(bits, number.value);
+        if text[past] == 44 {
+            place = past + 1;
         } else {
             return;
         }
     }
+}
+
+// The same, by what is shorter: the list, which ends at `next`, or the bitmap.
+fn empty_list(text: &[u8], list: usize, next: usize, bits: &mut Bitmap)
+    requires { ⌜ Listed (now text) list × Only (now bits) (listAt (now text) list) × (list ≤ next) ⌝ }
+    ensures { λ _. ⌜ Holds (now (bits .exit)) [] ⌝ }
+{
+    if WORDS < next - list {
+        bitmap::clear(bits);
+        return;
+    }
+    wipe_list(text, list, bits);
 }
 
 // One more, unless the successor was met before.
@@ -218,35 +273,32 @@ fn count_new(value: usize, count: usize, bits: &mut Bitmap) -> usize
     count
 }
 
-// How many different numbers a list has.
-fn count_list(text: &[u8], list: usize, bits: &mut Bitmap) -> usize
+// The different numbers of a list.
+fn count_list(text: &[u8], list: usize, bits: &mut Bitmap) -> Counted
     requires { ⌜ Listed (now text) list × Holds (now bits) [] ⌝ }
-    ensures { λ r. ⌜ r ≡ length (once eqb (listAt (now (text .entry)) list)) ⌝ }
+    ensures { λ r. ⌜ r .count ≡ length (once eqb (listAt (now (text .entry)) list)) ⌝ }
+    ensures { λ r. ⌜ pastLine (now (text .entry)) list ≡ pastLine (now (text .entry)) (r .next) ⌝ }
     ensures { λ _. ⌜ Holds (now (bits .exit)) [] ⌝ }
 {
     let mut place = list;
     let mut count = 0;
-    while place < text.len() {
-        let number = pgsolver_scan::read_number(text, place);
-        let Number::At { value, next } = number else {
-            return count;
-        };
-        count = count_new(value, count, bits);
-        let comma = pgsolver_scan::byte_at(text, next, 44);
-        if comma {
-            place = next + 1;
+    loop {
+        let number = pgsolver_scan::known_number(text, place);
+        let past = number.next;
+        count = count_new(number.value, count, bits);
+        if text[past] == 44 {
+            place = past + 1;
         } else {
-            wipe_list(text, list, bits);
-            return count;
+            empty_list(text, list, past, bits);
+            return Counted { count, next: past };
         }
     }
-    count
 }
 
-// Is there room for the edges of the lines, repeats left out?
+// Is there room for the edges of the lines, repeats left out? The fields before a list are only passed over: that they
+// fit 32 bits is known.
 fn count_edges(text: &[u8], first: usize, room: usize, bits: &mut Bitmap) -> bool
-    requires { ⌜ Readable (now text) first × (topsOf (linesFrom (now text) first) < bitmapNumbers) ⌝ }
-    requires { ⌜ length (now bits) ≡ bitmapWords ⌝ }
+    requires { ⌜ Narrow (now text) first × (length (now bits) ≡ bitmapWords) ⌝ }
     ensures { λ r. ⌜ r ≡ not (ltb room (edgeCount (map vertexOf (linesFrom (now (text .entry)) first)))) ⌝ }
     ensures { λ _. ⌜ length (now (bits .exit)) ≡ bitmapWords ⌝ }
 {
@@ -254,16 +306,15 @@ fn count_edges(text: &[u8], first: usize, room: usize, bits: &mut Bitmap) -> boo
     let mut place = first;
     let mut edges = 0;
     while place < text.len() {
-        let line = pgsolver_scan::read_line(text, place);
-        let Row::Given(row) = line else {
-            return false;
-        };
-        let count = count_list(text, row.list, bits);
-        if room - edges < count {
+        let number = pgsolver_scan::known_field(text, place);
+        let priority = pgsolver_scan::known_field(text, number.next);
+        let owner = pgsolver_scan::known_field(text, priority.next);
+        let counted = count_list(text, owner.next, bits);
+        if room - edges < counted.count {
             return false;
         }
-        edges += count;
-        place = row.next;
+        edges += counted.count;
+        place = pgsolver_scan::past_line(text, counted.next);
     }
     true
 }
@@ -304,7 +355,10 @@ fn numbered(text: &[u8], found: Found, bits: &mut Bitmap) -> bool
     if found.ordered {
         return true;
     }
-    numbers_differ(text, found.first, found.highest, bits)
+    if found.apart {
+        return numbers_differ(text, found.first, found.highest, bits);
+    }
+    false
 }
 
 // 91, 92, 93: a text for room of so many vertices and edges. The bitmap is lent, whatever it holds.
@@ -313,7 +367,7 @@ pub fn check_text(text: &[u8], vertices: usize, edges: usize, bits: &mut Bitmap)
     ensures { λ r. ⌜ ToldPlan r vertices edges (now (text .entry)) ⌝ }
     ensures { λ _. ⌜ length (now (bits .exit)) ≡ bitmapWords ⌝ }
 {
-    let seen = survey_text(text);
+    let seen = survey_text(text, bits);
     let Survey::Surveyed(found) = seen else {
         return Plan::Bad(91);
     };

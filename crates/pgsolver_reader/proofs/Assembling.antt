@@ -1,24 +1,23 @@
 -- The game is put together, and the answer of the whole call. Assumes nothing.
-use Prim.Native.Nat.{ℕ, suc, _+_, _*_, _-_, _≤_, _<_}
+use Prim.Native.Nat.{ℕ, suc, _+_, _-_, _≤_, _<_}
 use native.Mathlib.Omega.{arith}
 use mathlib.Core.Path.{_≡_, refl, sym, ap, _∙_, subst}
-use mathlib.Core.Bool.{Bool, true}
+use mathlib.Core.Bool.{Bool}
 use mathlib.Core.List.{List, [], _∷_, _++_, map, append-nil, append-assoc}
-use mathlib.Core.Option.{none, some}
 use lib.ListN.{length, take, set, replicate, length-set, length-map, take-append-drop}
 use lib.Seq.{slice, slice-empty, take-take, take-set-le, length-take-le}
 use Rattle.rules.specs.declared.Check.{Check}
 use Rattle.rules.specs.declared.Check.the-variants.{Passed, Fault}
 use Rattle.rules.specs.declared.Answer.the-variants.{Done, Refused}
 use Rattle.rules.specs.declared.Room.{Room}
-use Rattle.rules.specs.Lists.{In, Distinct, from, sum}
+use Rattle.rules.specs.Lists.{In, from, sum}
 use Rattle.rules.specs.Words.{gameLength, roomOf}
 use Rattle.rules.specs.Answers.{faultIf, andThen, firstFault}
 use Rattle.rules.specs.Game.{Vertex, vertexColumns, gameWords, edgeCount, offsets, allEdges, columns, gameOf, padded}
 use Rattle.rules.specs.Refusal.{differ, outside, refusal1}
 use Rattle.rules.specs.Pgsolver.{SolverLine, SolverText}
 use Rattle.rules.specs.PgsolverParse.{parse}
-use Rattle.rules.specs.PgsolverReading.{vertexOf, vertexNamed, numbersOf, readVertices, refusal92, refusal93}
+use Rattle.rules.specs.PgsolverReading.{vertexOf, vertexNamed, numbersOf, readVertices}
 use Rattle.rules.specs.PgsolverReading.{textRefusal, readingRefusal, verticesIn, readAs, readOr, Readback, readGame}
 use Rattle.lists.proofs.Members.{in-map}
 use Rattle.lists.proofs.Ranges.{from-length}

@@ -1,7 +1,8 @@
-pub mod SameLine
+pub mod Standing
 pub mod Putting
 pub mod Posting
 pub mod Writing
+pub mod Widths
 pub mod Ordering
 pub mod Assembling
 pub mod Whole

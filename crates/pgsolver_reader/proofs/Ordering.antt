@@ -4,22 +4,23 @@ use native.Mathlib.Omega.{arith}
 use native.Mathlib.Decide.{decLt}
 use mathlib.Core.Path.{_≡_, refl, sym, ap, _∙_, subst}
 use mathlib.Core.List.{List, [], _∷_}
+use mathlib.Core.Option.{some}
 use lib.ListN.{length}
-use Rattle.rules.specs.Lists.{word, In, from}
+use Rattle.rules.specs.Lists.{word, from}
+use Rattle.rules.specs.Texts.{decimal}
 use Rattle.rules.specs.Pgsolver.{SolverLine}
-use Rattle.rules.specs.TextReading.{readField}
+use Rattle.rules.specs.TextReading.{front, readField}
 use Rattle.rules.specs.PgsolverReading.{numbersOf}
 use Rattle.game_texts.proofs.Parsing.{some-same}
-use Rattle.pgsolver_scan.specs.declared.Number.{Number}
-use Rattle.pgsolver_scan.specs.declared.Number.the-variants.{At, NoNumber}
-use Rattle.pgsolver_scan.specs.Told.{since, pastLine, Told}
-use Rattle.pgsolver_scan.proofs.Reading.{told-at}
+use Rattle.pgsolver_scan.specs.declared.Number.the-variants.{At}
+use Rattle.pgsolver_scan.specs.Told.{saturated, since, pastLine, Told}
 use Rattle.pgsolver_check.specs.Lines.{linesIn}
 use Rattle.pgsolver_check.proofs.Surveying.{lines-end}
-use Rattle.pgsolver_check.proofs.Walking.{Walk, walk-start, walk-next, walk-among, walk-more, walk-unnumbered}
-use Rattle.pgsolver_check.proofs.Walking.{walk-number}
+use Rattle.pgsolver_check.proofs.Walking.{line-body, Walk, walk-start, walk-next, walk-more, walk-number}
 use Rattle.pgsolver_reader.specs.Parts.{Begins, Turn}
-use Rattle.pgsolver_reader.proofs.SameLine.{field-line}
+use Rattle.pgsolver_scan.proofs.SameLine.{field-line}
+use Rattle.pgsolver_reader.proofs.Standing.{line-among}
+use Rattle.pgsolver_reader.proofs.Widths.{field-place}
 
 -- the lines from p on are those of the vertices v to n - 1
 pub record Ordering (text : List ℕ) (first n v p : ℕ) : Type 0 where
@@ -70,35 +71,41 @@ module _ {text : List ℕ} {first n v p : ℕ} (b : Begins text first) (k : Orde
   numbers =
       ap numbersOf (sym (walk-next (b .readable) (k .walk) ordering-there .all)) ∙ k .numbers ∙ from-next v n below
 
-  module _ {r : Number} (a : Told r (readField 32 (since text p)) text) where
-    pub ordering-broken : r ≡ NoNumber → ⊥
-    ordering-broken e = walk-unnumbered (b .readable) (k .walk) ordering-there a e
+  -- the place past its number, which has so many digits
+  module _ (c : ℕ) (e : c ≡ length (decimal v)) where
+    told : Told (At (saturated v) (p + c + 1)) (readField 32 (since text p)) text
+    told =
+        let y = walk-next (b .readable) (k .walk) ordering-there in
+        let (f, g, h, d) = line-body (since text p) (front x (since text (y .next))) (y .reads) in
+        let number : f .value ≡ v = h ∙ first-of numbers in
+        let (rest, within) = field-place text p f g c (e ∙ ap (λ (m : ℕ). length (decimal m)) (sym number)) in (
+          f .value,
+          g ∙ ap (λ (r : List ℕ). some (front (f .value) r)) rest,
+          ap saturated (sym number),
+          within,
+        )
 
-    module _ (u q : ℕ) (e : r ≡ At u q) where
-      pub ordering-turn : Turn text v q
-      ordering-turn =
-          let (f, g, h) = walk-number (b .readable) (k .walk) ordering-there a u q e in
-          record {
-            line = x;
-            within = g;
-            body = h;
-            among = subst (λ (ls : List SolverLine). In x ls) (b .lines)
-                (walk-among (b .readable) (k .walk) ordering-there);
-            number = first-of numbers;
-          }
+    pub ordering-turn : Turn text v (p + c + 1)
+    ordering-turn =
+        let (f, g, h) = walk-number (b .readable) (k .walk) ordering-there told (saturated v) (p + c + 1) refl in
+        record {
+          line = x;
+          within = g;
+          body = h;
+          among = line-among b (k .walk) ordering-there;
+          number = first-of numbers;
+        }
 
-      past : pastLine text p ≡ pastLine text q
-      past =
-          let (m, g, s, z) = told-at text (readField 32 (since text p)) u q e a in
-          field-line text p q m (k .walk .within) z g
+    past : pastLine text p ≡ pastLine text (p + c + 1)
+    past = field-line text p (p + c + 1) (told .0) (k .walk .within) (told .3) (told .1)
 
-      pub ordering-more : (i : ℕ) {next : ℕ} → pastLine text q ≡ pastLine text i → next ≡ pastLine text i
-          → Ordering text first n (v + 1) next
-      unfolding walk-more
-      ordering-more i {next} f g =
-          let y : suc v ≡ v + 1 = omega arith in
-          subst (λ (z : ℕ). Ordering text first n (v + 1) z) (past ∙ f ∙ sym g)
-          (record {
-            walk = walk-more (b .readable) (k .walk) ordering-there;
-            numbers = rest-of numbers ∙ ap (λ (z : ℕ). from z (n - z)) y;
-          })
+    pub ordering-more : (i : ℕ) {next : ℕ} → pastLine text (p + c + 1) ≡ pastLine text i → next ≡ pastLine text i
+        → Ordering text first n (v + 1) next
+    unfolding walk-more
+    ordering-more i {next} f g =
+        let y : suc v ≡ v + 1 = omega arith in
+        subst (λ (z : ℕ). Ordering text first n (v + 1) z) (past ∙ f ∙ sym g)
+        (record {
+          walk = walk-more (b .readable) (k .walk) ordering-there;
+          numbers = rest-of numbers ∙ ap (λ (z : ℕ). from z (n - z)) y;
+        })

@@ -11,15 +11,14 @@ use Rattle.rules.specs.Pgsolver.{SolverLine}
 use Rattle.rules.specs.TextReading.{readField}
 use Rattle.rules.specs.PgsolverReading.{numbersOf}
 use Rattle.lists.proofs.Members.{in-either, in-left, in-right, map-in}
-use Rattle.pgsolver_scan.specs.declared.Number.{Number}
-use Rattle.pgsolver_scan.specs.declared.Number.the-variants.{At, NoNumber}
-use Rattle.pgsolver_scan.specs.Told.{since, pastLine, Told}
-use Rattle.pgsolver_scan.proofs.Reading.{told-at}
-use Rattle.pgsolver_check.specs.Lines.{linesIn, linesFrom, topsOf, Body}
-use Rattle.pgsolver_check.proofs.Walking.{number-top, Walk, walk-start, walk-done, walk-next, walk-all, walk-among}
-use Rattle.pgsolver_check.proofs.Walking.{walk-later, walk-more, walk-unnumbered, walk-number}
+use Rattle.pgsolver_scan.specs.declared.Number.the-variants.{At}
+use Rattle.pgsolver_scan.specs.Told.{since, pastLine, Told, StandsField}
+use Rattle.pgsolver_check.specs.Lines.{linesIn, Body}
+use Rattle.pgsolver_check.proofs.Walking.{number-top, Walk, walk-start, walk-done, walk-next, walk-all, walk-later}
+use Rattle.pgsolver_check.proofs.Walking.{walk-more, walk-number}
 use Rattle.pgsolver_reader.specs.Parts.{Whole, Begins, Turn, columnAt, edgesBegin, postAt, Posted, LinesPosted}
-use Rattle.pgsolver_reader.proofs.SameLine.{field-line}
+use Rattle.pgsolver_scan.proofs.SameLine.{field-line}
+use Rattle.pgsolver_reader.proofs.Standing.{line-among, number-stands}
 
 -- ---- places
 
@@ -77,31 +76,25 @@ not-again (k ∷ ls) x ms l d (inl f) e =
 not-again (k ∷ ls) x ms l d (inr i) e = not-again ls x ms l (d .1) i e
 
 module _ {text : List ℕ} {first n p : ℕ} {game : List ℕ} (w : Whole text n) (b : Begins text first)
-    (k : Posting text first n p game) (h : p < length text) {r : Number}
-    (a : Told r (readField 32 (since text p)) text) where
-  pub posting-broken : r ≡ NoNumber → ⊥
-  posting-broken e = walk-unnumbered (b .readable) (k .walk) h a e
+    (k : Posting text first n p game) (h : p < length text) where
+  pub posting-stands : StandsField text p
+  posting-stands = number-stands b (k .walk) h w
 
-  module _ (v q : ℕ) (e : r ≡ At v q) where
+  module _ (v q : ℕ) (a : Told (At v q) (readField 32 (since text p)) text) where
     abbrev x : SolverLine
     x = walk-next (b .readable) (k .walk) h .line
 
     abbrev told : (v ≡ x .number) × (q ≤ length text) × Body (since text q) x
-    told = walk-number (b .readable) (k .walk) h a v q e
-
-    among : In x (linesIn text)
-    among = subst (λ (ls : List SolverLine). In x ls) (b .lines) (walk-among (b .readable) (k .walk) h)
+    told = walk-number (b .readable) (k .walk) h a v q refl
 
     all : linesIn text ≡ k .walk .ls ++ (x ∷ walk-next (b .readable) (k .walk) h .later)
     all = sym (b .lines) ∙ walk-all (b .readable) (k .walk) h
 
     pub posting-below : v < n
-    posting-below = omega (arith, told .0, number-top (linesIn text) x among, w .low)
+    posting-below = omega (arith, told .0, number-top (linesIn text) x (line-among b (k .walk) h), w .low)
 
     past : pastLine text p ≡ pastLine text q
-    past =
-        let (m, g, s, z) = told-at text (readField 32 (since text p)) v q e a in
-        field-line text p q m (omega arith) z g
+    past = field-line text p q (a .0) (omega arith) (a .3) (a .1)
 
     pub posting-later : p + 2 ≤ pastLine text q
     posting-later = omega (arith, past, walk-later (b .readable) (k .walk) h)
@@ -157,7 +150,7 @@ module _ {text : List ℕ} {first n p : ℕ} {game : List ℕ} (w : Whole text n
               line = x;
               within = told .1;
               body = told .2;
-              among = among;
+              among = line-among b (k .walk) h;
               number = ap (λ (z : SolverLine). z .number) (sym d);
             })
           where

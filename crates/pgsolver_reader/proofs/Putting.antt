@@ -18,14 +18,12 @@ use Rattle.bitmap.specs.Marks.{marked, Met, Wiped, Holds, Only}
 use Rattle.bitmap.proofs.Sets.{meets, only-wiped, only-none}
 use Rattle.words.specs.Stretches.{Wrote}
 use Rattle.text_writer.proofs.Lines.{wrote-as, wrote-both}
-use Rattle.pgsolver_scan.specs.declared.Number.{Number}
 use Rattle.pgsolver_scan.specs.declared.Number.the-variants.{At}
 use Rattle.pgsolver_scan.specs.Told.{since, pastLine, Told}
-use Rattle.pgsolver_scan.proofs.Reading.{told-at}
 use Rattle.pgsolver_check.specs.Successors.{listAt, Listed}
 use Rattle.pgsolver_check.proofs.Counting.{once-snoc}
 use Rattle.pgsolver_reader.specs.Parts.{unless}
-use Rattle.pgsolver_reader.proofs.SameLine.{number-line}
+use Rattle.pgsolver_scan.proofs.SameLine.{number-line}
 
 pub wrote-none : {at : ℕ} {stretch out : List ℕ} → stretch ≡ [] → Wrote at stretch out out at
 wrote-none {at} {stretch} {out} e =
@@ -126,11 +124,9 @@ module _ {text : List ℕ} {p q start at : ℕ} {bits game game₀ : List ℕ} (
     putting-holds a = subst (λ (ns : List ℕ). Holds bits′ (once eqb ns)) (sym (whole a)) held
 
 -- a number that was read ends on its line
-pub read-line-on : (text : List ℕ) {r : Number} (q v next : ℕ) → q ≤ length text → r ≡ At v next
-    → Told r (readNumber (since text q)) text → pastLine text q ≡ pastLine text next
-read-line-on text q v next h e a =
-    let (n, c, s, w) = told-at text (readNumber (since text q)) v next e a in
-    number-line text q next n h w c
+pub read-line-on : (text : List ℕ) (q v next : ℕ) → q ≤ length text → Told (At v next) (readNumber (since text q)) text
+    → pastLine text q ≡ pastLine text next
+read-line-on text q v next h (n, c, s, w) = number-line text q next n h w c
 
 -- ---- the bitmap is emptied by the words from q on
 

@@ -1,21 +1,20 @@
 -- The vertices are written in order: one more. Assumes nothing.
-use Prim.Native.Nat.{ℕ, zero, suc, _+_, _*_, _-_, _≤_, _<_}
+use Prim.Native.Nat.{ℕ, zero, suc, _+_, _-_, _≤_, _<_}
 use native.Mathlib.Omega.{arith}
 use native.Mathlib.Decide.{decLt}
 use native.Mathlib.Numerals.{add-one}
-use mathlib.Core.Path.{_≡_, refl, sym, ap, _∙_, subst}
+use mathlib.Core.Path.{_≡_, sym, ap, _∙_, subst}
 use mathlib.Core.List.{List, [], _∷_, _++_, map, append-nil, append-assoc}
-use mathlib.Core.Option.{Option, none, some}
 use lib.ListN.{length, take, drop, set, drop-of-length-le, length-set, length-map, List·getD-append}
 use lib.Seq.{slice, take-set-le, take-set-lt, drop-set-lt, take-suc-set, drop-append-le, take-append-le, take-take}
 use lib.Seq.{length-take-le, getD-set-other, getD-take}
 use lib.Dec.{eqb}
 use Rattle.rules.specs.Lists.{word, In, from, sum, once}
-use Rattle.rules.specs.Game.{Vertex, Edge, edgeTo, edgeCount, allEdges}
+use Rattle.rules.specs.Game.{Vertex, Edge, edgeCount, allEdges}
 use Rattle.rules.specs.Pgsolver.{SolverLine}
-use Rattle.rules.specs.TextReading.{Front, front, readField}
+use Rattle.rules.specs.TextReading.{readField}
 use Rattle.rules.specs.PgsolverReading.{vertexOf, vertexNamed}
-use Rattle.lists.proofs.Members.{map-append, map-in}
+use Rattle.lists.proofs.Members.{map-append}
 use Rattle.lists.proofs.Ranges.{from-snoc}
 use Rattle.lists.proofs.Inserts.{inserts-new, once-in, once-distinct}
 use Rattle.lists.proofs.Equalities.{number-equality}
@@ -25,18 +24,16 @@ use Rattle.words.specs.Stretches.{Wrote}
 use Rattle.bitmap.specs.Marks.{Holds}
 use Rattle.bitmap.proofs.Sets.{only-holds}
 use Rattle.game_texts.proofs.Numbered.{named}
-use Rattle.game_texts.proofs.Parsing.{some-same}
-use Rattle.pgsolver_scan.specs.declared.Number.{Number}
-use Rattle.pgsolver_scan.specs.declared.Number.the-variants.{At, NoNumber}
+use Rattle.pgsolver_scan.specs.declared.Number.the-variants.{At}
 use Rattle.pgsolver_scan.specs.Told.{saturated, since, pastLine, Told}
-use Rattle.pgsolver_scan.proofs.Reading.{told-at, told-not}
-use Rattle.pgsolver_check.specs.Lines.{linesIn, topsOf, ranksOf, Body}
+use Rattle.pgsolver_check.specs.Lines.{linesIn}
 use Rattle.pgsolver_check.specs.Successors.{listAt, Listed}
-use Rattle.pgsolver_check.proofs.Walking.{successor-top, in-largest, exactly}
-use Rattle.pgsolver_check.proofs.Edging.{listed-at, edges-append, edges-cons, no-edges}
+use Rattle.pgsolver_check.proofs.Walking.{successor-top, exactly}
+use Rattle.pgsolver_check.proofs.Bounding.{edges-append, edges-cons, no-edges}
 use Rattle.pgsolver_reader.specs.Parts.{vertsTo, starts, Whole, Turn, Part, columnAt, offsetsFrom, edgesBegin}
 use Rattle.pgsolver_reader.specs.Parts.{postAt, PostedFrom, PostsKept}
-use Rattle.pgsolver_reader.proofs.SameLine.{field-line}
+use Rattle.pgsolver_check.proofs.Fields.{listed-at, field-is, owner-known}
+use Rattle.pgsolver_reader.proofs.Standing.{low-rank}
 use Rattle.pgsolver_reader.proofs.Putting.{Wiping}
 
 -- ---- slices after a store and after an append
@@ -134,26 +131,7 @@ once-once : (ns : List ℕ) → once eqb (once eqb ns) ≡ once eqb ns
 unfolding once
 once-once ns = inserts-new number-equality [] (once eqb ns) (once-distinct number-equality ns) (λ y i z. z)
 
--- ---- a field that is known to stand at a place
-
-module _ (text : List ℕ) (p : ℕ) {n : ℕ} {rest : List ℕ} (known : readField 32 (since text p) ≡ some (front n rest))
-    {r : Number} (a : Told r (readField 32 (since text p)) text) where
-  pub field-there : r ≡ NoNumber → ⊥
-  field-there e =
-      let z = told-not text (readField 32 (since text p)) e a in
-      let y : _≡_ {A = ℕ} 0 1 = cc in
-      omega arith
-
-  pub field-is : (v q : ℕ) → r ≡ At v q → p ≤ length text
-      → (v ≡ saturated n) × (rest ≡ since text q) × (q ≤ length text) × (pastLine text p ≡ pastLine text q)
-  field-is v q e h =
-      let (m, g, s, w) = told-at text (readField 32 (since text p)) v q e a in
-      let same : front n rest ≡ front m (since text q) = some-same (sym known ∙ g) in (
-        s ∙ ap (λ (f : Front ℕ). saturated (f .value)) (sym same),
-        ap (λ (f : Front ℕ). f .rest) same,
-        w,
-        field-line text p q m h w g,
-      )
+-- ---- from its line
 
 module _ {text : List ℕ} {n v q place : ℕ} {game : List ℕ} (w : Whole text n) (t : Turn text v place) (below : v < n)
     (p : Part text n v q game) where
@@ -167,226 +145,202 @@ module _ {text : List ℕ} {n v q place : ℕ} {game : List ℕ} (w : Whole text
   vertex : vertexNamed lines v ≡ vertexOf (t .line)
   vertex = ap (vertexNamed lines) (sym (t .number)) ∙ named lines (t .line) (w .apart) (t .among)
 
-  module _ {r : Number} (a : Told r (readField 32 (since text place)) text) where
-    pub turn-ranked : r ≡ NoNumber → ⊥
-    turn-ranked e = field-there text place (t .body .priority) a e
+  module _ (pr next : ℕ) (a : Told (At pr next) (readField 32 (since text place)) text) (o list : ℕ)
+      (b : Told (At o list) (readField 32 (since text next)) text) where
+    abbrev first : (pr ≡ saturated (t .line .priority)) × (t .body .ranked ≡ since text next) × (next ≤ length text)
+        × (pastLine text place ≡ pastLine text next)
+    first = field-is text place (t .body .priority) (t .within) pr next a
 
-    module _ (pr next : ℕ) (e : r ≡ At pr next) where
-      abbrev first : (pr ≡ saturated (t .line .priority)) × (t .body .ranked ≡ since text next) × (next ≤ length text)
-          × (pastLine text place ≡ pastLine text next)
-      first = field-is text place (t .body .priority) a pr next e (t .within)
+    abbrev second : (o ≡ saturated (t .line .owner)) × (t .body .owned ≡ since text list) × (list ≤ length text)
+        × (pastLine text next ≡ pastLine text list)
+    second = field-is text next (owner-known text place (t .within) (t .body) pr next a) (first .2) o list b
 
-      pub turn-next : next ≤ length text
-      turn-next = first .2
+    pub turn-line : pastLine text place ≡ pastLine text list
+    turn-line = first .3 ∙ second .3
 
-      owner-known : readField 32 (since text next) ≡ some (front (t .line .owner) (t .body .owned))
-      owner-known = ap (readField 32) (sym (first .1)) ∙ t .body .owner
+    pub turn-priority : (pr ≡ vertexNamed lines v .priority) × (pr < 4294967296)
+    unfolding vertexOf
+    turn-priority =
+        let z : pr ≡ t .line .priority = first .0 ∙ exactly (t .line .priority) (omega (arith, low-rank t w)) in
+        (z ∙ ap (λ (x : Vertex). x .priority) (sym vertex), omega (arith, low-rank t w))
 
-      low-rank : t .line .priority < 4294967296
-      unfolding ranksOf
-      low-rank =
-          omega (
-            arith,
-            w .ranked,
-            in-largest (map (λ l. l .priority) lines) (t .line .priority)
-                (map-in (λ (l : SolverLine). l .priority) (t .line) lines (t .among)),
-          )
+    -- an owner is 0 or 1
+    pub turn-owner : (o ≡ vertexNamed lines v .owner) × (o < 4294967296)
+    unfolding vertexOf
+    turn-owner =
+        let z : o ≡ t .line .owner = second .0 ∙ exactly (t .line .owner) (omega (arith, t .body .small)) in
+        (z ∙ ap (λ (x : Vertex). x .owner) (sym vertex), omega (arith, t .body .small))
 
-      module _ {s : Number} (b : Told s (readField 32 (since text next)) text) where
-        pub turn-owned : s ≡ NoNumber → ⊥
-        turn-owned f = field-there text next owner-known b f
+    abbrev listed : (listAt text list ≡ t .line .successors) × Listed text list
+    listed =
+        listed-at (second .2)
+        (ap Rattle.rules.specs.PgsolverParse.readList (sym (second .1)) ∙ t .body .successors) (t .body .ended)
+        (λ s i. omega (arith, w .low, w .few, successor-top lines (t .line) (t .among) s i))
 
-        module _ (o list : ℕ) (f : s ≡ At o list) where
-          abbrev second : (o ≡ saturated (t .line .owner)) × (t .body .owned ≡ since text list) × (list ≤ length text)
-              × (pastLine text next ≡ pastLine text list)
-          second = field-is text next owner-known b o list f (first .2)
+    pub turn-listed : Listed text list
+    turn-listed = listed .1
 
-          pub turn-line : pastLine text place ≡ pastLine text list
-          turn-line = first .3 ∙ second .3
+    targets : once eqb (listAt text list) ≡ map (edgeColumn 0) (vertexNamed lines v .edges)
+    unfolding vertexOf
+    targets =
+        ap (once eqb) (listed .0)
+        ∙ sym (ap (λ (x : Vertex). map (edgeColumn 0) (x .edges)) vertex
+        ∙ targets-plain (once eqb (t .line .successors)))
 
-          pub turn-priority : (pr ≡ vertexNamed lines v .priority) × (pr < 4294967296)
-          unfolding vertexOf
-          turn-priority =
-              let z : pr ≡ t .line .priority = first .0 ∙ exactly (t .line .priority) (omega (arith, low-rank)) in
-              (z ∙ ap (λ (x : Vertex). x .priority) (sym vertex), omega (arith, low-rank))
+    many : length (once eqb (listAt text list)) ≡ length (vertexNamed lines v .edges)
+    many = ap length targets ∙ length-map (vertexNamed lines v .edges) (edgeColumn 0)
 
-          -- an owner is 0 or 1
-          pub turn-owner : (o ≡ vertexNamed lines v .owner) × (o < 4294967296)
-          unfolding vertexOf
-          turn-owner =
-              let z : o ≡ t .line .owner = second .0 ∙ exactly (t .line .owner) (omega (arith, t .body .small)) in
-              (z ∙ ap (λ (x : Vertex). x .owner) (sym vertex), omega (arith, t .body .small))
+    -- there is room for them
+    pub turn-room : q + length (once eqb (listAt text list)) ≤ length game
+    turn-room =
+        omega (
+          arith,
+          p .room,
+          p .place,
+          many,
+          edges-within lines (v + 1) n (omega arith),
+          ap edgeCount (verts-more lines v),
+          edges-snoc (vertsTo lines v) (vertexNamed lines v),
+        )
 
-          abbrev listed : (listAt text list ≡ t .line .successors) × Listed text list
-          listed =
-              listed-at (second .2)
-              (ap Rattle.rules.specs.PgsolverParse.readList (sym (second .1)) ∙ t .body .successors)
-              (λ s i. omega (arith, w .low, w .few, successor-top lines (t .line) (t .among) s i))
+    module _ {g₁ g₂ : List ℕ} {end begin : ℕ} (begins : begin ≡ edgesBegin n)
+        (stored : g₁ ≡ set (set (set game (columnAt n 0 + v) o) (columnAt n 1 + v) pr) (offsetsFrom n + v)
+        (q - begin))
+        (c : Wrote q (once eqb (listAt text list)) g₁ g₂ end) (same : length g₂ ≡ length g₁) where
+      abbrev s1 : List ℕ
+      s1 = set game (columnAt n 0 + v) o
 
-          pub turn-listed : Listed text list
-          turn-listed = listed .1
+      abbrev s2 : List ℕ
+      s2 = set s1 (columnAt n 1 + v) pr
 
-          targets : once eqb (listAt text list) ≡ map (edgeColumn 0) (vertexNamed lines v .edges)
-          unfolding vertexOf
-          targets =
-              ap (once eqb) (listed .0)
-              ∙ sym (ap (λ (x : Vertex). map (edgeColumn 0) (x .edges)) vertex
-              ∙ targets-plain (once eqb (t .line .successors)))
+      stores : g₁ ≡ set s2 (offsetsFrom n + v) (q - edgesBegin n)
+      stores = stored ∙ ap (λ (k : ℕ). set s2 (offsetsFrom n + v) (q - k)) begins
 
-          many : length (once eqb (listAt text list)) ≡ length (vertexNamed lines v .edges)
-          many = ap length targets ∙ length-map (vertexNamed lines v .edges) (edgeColumn 0)
+      long₁ : length g₁ ≡ length game
+      long₁ =
+          ap length stores ∙ length-set s2 (offsetsFrom n + v) (q - edgesBegin n)
+          ∙ length-set s1 (columnAt n 1 + v) pr
+          ∙ length-set game (columnAt n 0 + v) o
 
-          -- there is room for them
-          pub turn-room : q + length (once eqb (listAt text list)) ≤ length game
-          turn-room =
-              omega (
-                arith,
-                p .room,
-                p .place,
-                many,
-                edges-within lines (v + 1) n (omega arith),
-                ap edgeCount (verts-more lines v),
-                edges-snoc (vertsTo lines v) (vertexNamed lines v),
-              )
+      place₁ : q ≤ length g₁
+      place₁ = omega (arith, long₁, part-place)
 
-          module _ {g₁ g₂ : List ℕ} {end begin : ℕ} (begins : begin ≡ edgesBegin n)
-              (stored : g₁ ≡ set (set (set game (columnAt n 0 + v) o) (columnAt n 1 + v) pr) (offsetsFrom n + v)
-              (q - begin))
-              (c : Wrote q (once eqb (listAt text list)) g₁ g₂ end) (same : length g₂ ≡ length g₁) where
-            abbrev s1 : List ℕ
-            s1 = set game (columnAt n 0 + v) o
+      far : edgesBegin n ≤ q
+      far = omega (arith, p .place)
 
-            abbrev s2 : List ℕ
-            s2 = set s1 (columnAt n 1 + v) pr
+      in-room : edgesBegin n ≤ length game
+      in-room = omega (arith, p .room)
 
-            stores : g₁ ≡ set s2 (offsetsFrom n + v) (q - edgesBegin n)
-            stores = stored ∙ ap (λ (k : ℕ). set s2 (offsetsFrom n + v) (q - k)) begins
+      -- the bitmap is emptied by the words just written
+      pub turn-wiping : {bits : List ℕ} → Holds bits (once eqb (listAt text list)) → Wiping g₂ q end bits
+      turn-wiping {bits} h =
+          let new : slice q end g₂ ≡ once eqb (listAt text list) = slice-wrote-new c place₁ in
+          record {
+            only = only-holds (subst (λ (ns : List ℕ). Holds bits (once eqb ns)) (sym new) (again h));
+            small = λ s i. turn-listed .small s
+                (once-in number-equality (listAt text list) s .0 (subst (λ (ns : List ℕ). In s ns) new i));
+          }
+        where
+          again : {bits : List ℕ} → Holds bits (once eqb (listAt text list))
+              → Holds bits (once eqb (once eqb (listAt text list)))
+          again {bits} h = subst (Holds bits) (sym (once-once (listAt text list))) h
 
-            long₁ : length g₁ ≡ length game
-            long₁ =
-                ap length stores ∙ length-set s2 (offsetsFrom n + v) (q - edgesBegin n)
-                ∙ length-set s1 (columnAt n 1 + v) pr
-                ∙ length-set game (columnAt n 0 + v) o
+      pub turn-ends : (q ≤ end) × (end ≤ length g₂)
+      turn-ends = (omega (arith, c .past), omega (arith, c .past, same, long₁, turn-room))
 
-            place₁ : q ≤ length g₁
-            place₁ = omega (arith, long₁, part-place)
+      owners₂ : slice (columnAt n 0) (columnAt n 0 + (v + 1)) g₂ ≡ map (λ x. x .owner) (vertsTo lines (v + 1))
+      owners₂ =
+          let z : columnAt n 0 + (v + 1) ≡ columnAt n 0 + v + 1 = omega arith in
+          ap (λ (b : ℕ). slice (columnAt n 0) b g₂) z
+          ∙ slice-wrote c place₁ (columnAt n 0) (columnAt n 0 + v + 1) (omega (arith, far))
+          ∙ ap (slice (columnAt n 0) (columnAt n 0 + v + 1)) stores
+          ∙ slice-above s2 (columnAt n 0) (columnAt n 0 + v + 1) (offsetsFrom n + v) (q - edgesBegin n)
+          (omega arith)
+          ∙ slice-above s1 (columnAt n 0) (columnAt n 0 + v + 1) (columnAt n 1 + v) pr (omega arith)
+          ∙ slice-last game (columnAt n 0) (columnAt n 0 + v) o (omega arith) (omega (arith, in-room))
+          ∙ ap (λ (l : List ℕ). l ++ (o ∷ [])) (p .owners)
+          ∙ ap (λ (k : ℕ). map (λ x. x .owner) (vertsTo lines v) ++ (k ∷ [])) (turn-owner .0)
+          ∙ sym (ap (map (λ x. x .owner)) (verts-more lines v)
+          ∙ map-append (λ (x : Vertex). x .owner) (vertsTo lines v) (vertexNamed lines v ∷ []))
 
-            far : edgesBegin n ≤ q
-            far = omega (arith, p .place)
+      priorities₂ : slice (columnAt n 1) (columnAt n 1 + (v + 1)) g₂
+          ≡ map (λ x. x .priority) (vertsTo lines (v + 1))
+      priorities₂ =
+          let z : columnAt n 1 + (v + 1) ≡ columnAt n 1 + v + 1 = omega arith in
+          ap (λ (b : ℕ). slice (columnAt n 1) b g₂) z
+          ∙ slice-wrote c place₁ (columnAt n 1) (columnAt n 1 + v + 1) (omega (arith, far))
+          ∙ ap (slice (columnAt n 1) (columnAt n 1 + v + 1)) stores
+          ∙ slice-above s2 (columnAt n 1) (columnAt n 1 + v + 1) (offsetsFrom n + v) (q - edgesBegin n)
+          (omega arith)
+          ∙ slice-last s1 (columnAt n 1) (columnAt n 1 + v) pr (omega arith)
+          (omega (arith, in-room, length-set game (columnAt n 0 + v) o))
+          ∙ ap (λ (l : List ℕ). l ++ (pr ∷ []))
+          (slice-below game (columnAt n 1) (columnAt n 1 + v) (columnAt n 0 + v) o (omega arith) ∙ p .priorities)
+          ∙ ap (λ (k : ℕ). map (λ x. x .priority) (vertsTo lines v) ++ (k ∷ [])) (turn-priority .0)
+          ∙ sym (ap (map (λ x. x .priority)) (verts-more lines v)
+          ∙ map-append (λ (x : Vertex). x .priority) (vertsTo lines v) (vertexNamed lines v ∷ []))
 
-            in-room : edgesBegin n ≤ length game
-            in-room = omega (arith, p .room)
+      offsets₂ : slice (offsetsFrom n) (offsetsFrom n + (v + 1)) g₂ ≡ starts 0 (vertsTo lines (v + 1))
+      offsets₂ =
+          let z : offsetsFrom n + (v + 1) ≡ offsetsFrom n + v + 1 = omega arith in
+          let y : q - edgesBegin n ≡ 0 + edgeCount (vertsTo lines v) = omega (arith, p .place) in
+          ap (λ (b : ℕ). slice (offsetsFrom n) b g₂) z
+          ∙ slice-wrote c place₁ (offsetsFrom n) (offsetsFrom n + v + 1) (omega (arith, far))
+          ∙ ap (slice (offsetsFrom n) (offsetsFrom n + v + 1)) stores
+          ∙ slice-last s2 (offsetsFrom n) (offsetsFrom n + v) (q - edgesBegin n) (omega arith)
+          (omega (arith, in-room, length-set s1 (columnAt n 1 + v) pr, length-set game (columnAt n 0 + v) o))
+          ∙ ap (λ (l : List ℕ). l ++ ((q - edgesBegin n) ∷ []))
+          (slice-below s1 (offsetsFrom n) (offsetsFrom n + v) (columnAt n 1 + v) pr (omega arith)
+          ∙ slice-below game (offsetsFrom n) (offsetsFrom n + v) (columnAt n 0 + v) o (omega arith) ∙ p .offsets)
+          ∙ ap (λ (k : ℕ). starts 0 (vertsTo lines v) ++ (k ∷ [])) y
+          ∙ sym (ap (starts 0) (verts-more lines v) ∙ starts-snoc 0 (vertsTo lines v) (vertexNamed lines v))
 
-            -- the bitmap is emptied by the words just written
-            pub turn-wiping : {bits : List ℕ} → Holds bits (once eqb (listAt text list)) → Wiping g₂ q end bits
-            turn-wiping {bits} h =
-                let new : slice q end g₂ ≡ once eqb (listAt text list) = slice-wrote-new c place₁ in
-                record {
-                  only = only-holds (subst (λ (ns : List ℕ). Holds bits (once eqb ns)) (sym new) (again h));
-                  small = λ s i. turn-listed .small s
-                      (once-in number-equality (listAt text list) s .0 (subst (λ (ns : List ℕ). In s ns) new i));
-                }
-              where
-                again : {bits : List ℕ} → Holds bits (once eqb (listAt text list))
-                    → Holds bits (once eqb (once eqb (listAt text list)))
-                again {bits} h = subst (Holds bits) (sym (once-once (listAt text list))) h
+      targets₂ : slice (edgesBegin n) end g₂ ≡ edgeColumnOf 0 (vertsTo lines (v + 1))
+      targets₂ =
+          slice-wrote-last c place₁ (edgesBegin n) far
+          ∙ ap (λ (l : List ℕ). l ++ once eqb (listAt text list)) (ap (slice (edgesBegin n) q) stores
+          ∙ slice-below s2 (edgesBegin n) q (offsetsFrom n + v) (q - edgesBegin n) (omega arith)
+          ∙ slice-below s1 (edgesBegin n) q (columnAt n 1 + v) pr (omega arith)
+          ∙ slice-below game (edgesBegin n) q (columnAt n 0 + v) o (omega arith) ∙ p .targets)
+          ∙ ap (λ (l : List ℕ). edgeColumnOf 0 (vertsTo lines v) ++ l) targets
+          ∙ sym (ap (edgeColumnOf 0) (verts-more lines v) ∙ targets-snoc (vertsTo lines v) (vertexNamed lines v))
 
-            pub turn-ends : (q ≤ end) × (end ≤ length g₂)
-            turn-ends = (omega (arith, c .past), omega (arith, c .past, same, long₁, turn-room))
+      word₂ : (i : ℕ) → i < offsetsFrom n → ¬ (i ≡ columnAt n 0 + v) → ¬ (i ≡ columnAt n 1 + v) → word game i
+          ≡ word g₂ i
+      word₂ i h d f =
+          sym (word-wrote c place₁ i (omega (arith, far)) ∙ ap (λ (l : List ℕ). word l i) stores
+          ∙ getD-set-other s2 (offsetsFrom n + v) i (q - edgesBegin n) 0 (omega arith)
+          ∙ getD-set-other s1 (columnAt n 1 + v) i pr 0 f ∙ getD-set-other game (columnAt n 0 + v) i o 0 d)
 
-            owners₂ : slice (columnAt n 0) (columnAt n 0 + (v + 1)) g₂ ≡ map (λ x. x .owner) (vertsTo lines (v + 1))
-            owners₂ =
-                let z : columnAt n 0 + (v + 1) ≡ columnAt n 0 + v + 1 = omega arith in
-                ap (λ (b : ℕ). slice (columnAt n 0) b g₂) z
-                ∙ slice-wrote c place₁ (columnAt n 0) (columnAt n 0 + v + 1) (omega (arith, far))
-                ∙ ap (slice (columnAt n 0) (columnAt n 0 + v + 1)) stores
-                ∙ slice-above s2 (columnAt n 0) (columnAt n 0 + v + 1) (offsetsFrom n + v) (q - edgesBegin n)
-                (omega arith)
-                ∙ slice-above s1 (columnAt n 0) (columnAt n 0 + v + 1) (columnAt n 1 + v) pr (omega arith)
-                ∙ slice-last game (columnAt n 0) (columnAt n 0 + v) o (omega arith) (omega (arith, in-room))
-                ∙ ap (λ (l : List ℕ). l ++ (o ∷ [])) (p .owners)
-                ∙ ap (λ (k : ℕ). map (λ x. x .owner) (vertsTo lines v) ++ (k ∷ [])) (turn-owner .0)
-                ∙ sym (ap (map (λ x. x .owner)) (verts-more lines v)
-                ∙ map-append (λ (x : Vertex). x .owner) (vertsTo lines v) (vertexNamed lines v ∷ []))
+      posts : (u : ℕ) → v < u → u < n → postAt game n u ≡ postAt g₂ n u
+      posts u h k =
+          let a : word game (columnAt n 0 + u) ≡ word g₂ (columnAt n 0 + u)
+          = word₂ (columnAt n 0 + u) (omega arith) (omega arith) (omega arith) in
+          let b : word game (columnAt n 1 + u) ≡ word g₂ (columnAt n 1 + u)
+          = word₂ (columnAt n 1 + u) (omega arith) (omega arith) (omega arith) in
+          omega arith
 
-            priorities₂ : slice (columnAt n 1) (columnAt n 1 + (v + 1)) g₂
-                ≡ map (λ x. x .priority) (vertsTo lines (v + 1))
-            priorities₂ =
-                let z : columnAt n 1 + (v + 1) ≡ columnAt n 1 + v + 1 = omega arith in
-                ap (λ (b : ℕ). slice (columnAt n 1) b g₂) z
-                ∙ slice-wrote c place₁ (columnAt n 1) (columnAt n 1 + v + 1) (omega (arith, far))
-                ∙ ap (slice (columnAt n 1) (columnAt n 1 + v + 1)) stores
-                ∙ slice-above s2 (columnAt n 1) (columnAt n 1 + v + 1) (offsetsFrom n + v) (q - edgesBegin n)
-                (omega arith)
-                ∙ slice-last s1 (columnAt n 1) (columnAt n 1 + v) pr (omega arith)
-                (omega (arith, in-room, length-set game (columnAt n 0 + v) o))
-                ∙ ap (λ (l : List ℕ). l ++ (pr ∷ []))
-                (slice-below game (columnAt n 1) (columnAt n 1 + v) (columnAt n 0 + v) o (omega arith) ∙ p .priorities)
-                ∙ ap (λ (k : ℕ). map (λ x. x .priority) (vertsTo lines v) ++ (k ∷ [])) (turn-priority .0)
-                ∙ sym (ap (map (λ x. x .priority)) (verts-more lines v)
-                ∙ map-append (λ (x : Vertex). x .priority) (vertsTo lines v) (vertexNamed lines v ∷ []))
+      pub turn-posts : PostsKept n v game g₂
+      turn-posts = record { same = posts }
 
-            offsets₂ : slice (offsetsFrom n) (offsetsFrom n + (v + 1)) g₂ ≡ starts 0 (vertsTo lines (v + 1))
-            offsets₂ =
-                let z : offsetsFrom n + (v + 1) ≡ offsetsFrom n + v + 1 = omega arith in
-                let y : q - edgesBegin n ≡ 0 + edgeCount (vertsTo lines v) = omega (arith, p .place) in
-                ap (λ (b : ℕ). slice (offsetsFrom n) b g₂) z
-                ∙ slice-wrote c place₁ (offsetsFrom n) (offsetsFrom n + v + 1) (omega (arith, far))
-                ∙ ap (slice (offsetsFrom n) (offsetsFrom n + v + 1)) stores
-                ∙ slice-last s2 (offsetsFrom n) (offsetsFrom n + v) (q - edgesBegin n) (omega arith)
-                (omega (arith, in-room, length-set s1 (columnAt n 1 + v) pr, length-set game (columnAt n 0 + v) o))
-                ∙ ap (λ (l : List ℕ). l ++ ((q - edgesBegin n) ∷ []))
-                (slice-below s1 (offsetsFrom n) (offsetsFrom n + v) (columnAt n 1 + v) pr (omega arith)
-                ∙ slice-below game (offsetsFrom n) (offsetsFrom n + v) (columnAt n 0 + v) o (omega arith) ∙ p .offsets)
-                ∙ ap (λ (k : ℕ). starts 0 (vertsTo lines v) ++ (k ∷ [])) y
-                ∙ sym (ap (starts 0) (verts-more lines v) ∙ starts-snoc 0 (vertsTo lines v) (vertexNamed lines v))
-
-            targets₂ : slice (edgesBegin n) end g₂ ≡ edgeColumnOf 0 (vertsTo lines (v + 1))
-            targets₂ =
-                slice-wrote-last c place₁ (edgesBegin n) far
-                ∙ ap (λ (l : List ℕ). l ++ once eqb (listAt text list)) (ap (slice (edgesBegin n) q) stores
-                ∙ slice-below s2 (edgesBegin n) q (offsetsFrom n + v) (q - edgesBegin n) (omega arith)
-                ∙ slice-below s1 (edgesBegin n) q (columnAt n 1 + v) pr (omega arith)
-                ∙ slice-below game (edgesBegin n) q (columnAt n 0 + v) o (omega arith) ∙ p .targets)
-                ∙ ap (λ (l : List ℕ). edgeColumnOf 0 (vertsTo lines v) ++ l) targets
-                ∙ sym (ap (edgeColumnOf 0) (verts-more lines v) ∙ targets-snoc (vertsTo lines v) (vertexNamed lines v))
-
-            word₂ : (i : ℕ) → i < offsetsFrom n → ¬ (i ≡ columnAt n 0 + v) → ¬ (i ≡ columnAt n 1 + v) → word game i
-                ≡ word g₂ i
-            word₂ i h d f =
-                sym (word-wrote c place₁ i (omega (arith, far)) ∙ ap (λ (l : List ℕ). word l i) stores
-                ∙ getD-set-other s2 (offsetsFrom n + v) i (q - edgesBegin n) 0 (omega arith)
-                ∙ getD-set-other s1 (columnAt n 1 + v) i pr 0 f ∙ getD-set-other game (columnAt n 0 + v) i o 0 d)
-
-            posts : (u : ℕ) → v < u → u < n → postAt game n u ≡ postAt g₂ n u
-            posts u h k =
-                let a : word game (columnAt n 0 + u) ≡ word g₂ (columnAt n 0 + u)
-                = word₂ (columnAt n 0 + u) (omega arith) (omega arith) (omega arith) in
-                let b : word game (columnAt n 1 + u) ≡ word g₂ (columnAt n 1 + u)
-                = word₂ (columnAt n 1 + u) (omega arith) (omega arith) (omega arith) in
-                omega arith
-
-            pub turn-posts : PostsKept n v game g₂
-            turn-posts = record { same = posts }
-
-            pub turn-part : Part text n (v + 1) end g₂
-            turn-part =
-                record {
-                  room = omega (arith, p .room, same, long₁);
-                  within = omega arith;
-                  place = omega (
-                    arith,
-                    c .past,
-                    p .place,
-                    many,
-                    ap edgeCount (verts-more lines v),
-                    edges-snoc (vertsTo lines v) (vertexNamed lines v),
-                  );
-                  owners = owners₂;
-                  priorities = priorities₂;
-                  offsets = offsets₂;
-                  targets = targets₂;
-                }
+      pub turn-part : Part text n (v + 1) end g₂
+      turn-part =
+          record {
+            room = omega (arith, p .room, same, long₁);
+            within = omega arith;
+            place = omega (
+              arith,
+              c .past,
+              p .place,
+              many,
+              ap edgeCount (verts-more lines v),
+              edges-snoc (vertsTo lines v) (vertexNamed lines v),
+            );
+            owners = owners₂;
+            priorities = priorities₂;
+            offsets = offsets₂;
+            targets = targets₂;
+          }
 
 pub part-at : {text : List ℕ} {n v q r : ℕ} {game : List ℕ} → r ≡ q → Part text n v q game → Part text n v r game
 part-at {text} {n} {v} {game = game} e p = subst (λ (k : ℕ). Part text n v k game) (sym e) p
@@ -400,6 +354,13 @@ pub still-posted : {text : List ℕ} {n v : ℕ} {game game′ : List ℕ} → P
 still-posted {text} f g =
     record { posted = λ u h k. subst (Turn text u) (g .same u (omega arith) k) (f .posted u (omega arith) k) }
 
-pub part-last : {text : List ℕ} {n v q : ℕ} {game : List ℕ} → v ≤ n → n ≤ v → Part text n v q game
-    → Part text n n q game
-part-last {text} {n} {v} {q} {game} h k p = let e : v ≡ n = omega arith in subst (λ (u : ℕ). Part text n u q game) e p
+-- the same up to a vertex that was reached
+pub part-last : {text : List ℕ} {n v l q : ℕ} {game : List ℕ} → v ≤ l → l ≤ v → Part text n v q game
+    → Part text n l q game
+part-last {text} {n} {v} {l} {q} {game} h k p =
+    let e : v ≡ l = omega arith in
+    subst (λ (u : ℕ). Part text n u q game) e p
+
+pub posted-last : {text : List ℕ} {n v l : ℕ} {game : List ℕ} → l ≤ v → v ≤ l → PostedFrom text n v game
+    → PostedFrom text n l game
+posted-last h k f = record { posted = λ u a b. f .posted u (omega arith) b }

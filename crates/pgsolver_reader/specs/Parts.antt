@@ -1,7 +1,7 @@
 -- The game as it is written: vertex by vertex, each from its line in the text. Where the lines are not in the order of
 -- their numbers, the place of each vertex's line is posted before, where its owner and priority will stand. Assumes
 -- nothing: these are definitions.
-use Prim.Native.Nat.{ℕ, _+_, _*_, _≤_, _<_}
+use Prim.Native.Nat.{ℕ, _+_, _*_, _%_, _≤_, _<_, max}
 use mathlib.Core.Path.{_≡_}
 use mathlib.Core.Bool.{Bool, true, false}
 use mathlib.Core.List.{List, [], _∷_, map}
@@ -15,6 +15,7 @@ use Rattle.rules.specs.Answers.{faultIf, andThen}
 use Rattle.rules.specs.Refusal.{differ, refusal1}
 use Rattle.rules.specs.Game.{Vertex, vertexColumns, gameWords, edgeCount}
 use Rattle.games.specs.Columns.{edgeColumnOf}
+use Rattle.rules.specs.Texts.{decimal}
 use Rattle.rules.specs.Pgsolver.{SolverLine}
 use Rattle.rules.specs.PgsolverReading.{vertexNamed, numbersOf}
 use Rattle.pgsolver_scan.specs.Told.{since}
@@ -50,6 +51,15 @@ pub record Turn (text : List ℕ) (u place : ℕ) : Type 0 where
   pub body : Body (since text place) line
   pub among : In line (linesIn text)
   pub number : line .number ≡ u
+
+-- the numbers from a tenth of the bound up to it have so many digits, and 0 as many as 1; v lies there, or at the bound
+pub record DigitBound (count bound v : ℕ) : Type 0 where
+  pub same : (n : ℕ) → n < bound → bound ≤ 10 * max n 1 → length (decimal n) ≡ count
+  pub round : bound % 10 ≡ 0
+  pub few : count < bound
+  pub least : 10 ≤ bound
+  pub reached : bound ≤ 10 * max v 1
+  pub within : v ≤ bound
 
 -- ---- where the words of a game of n vertices stand
 

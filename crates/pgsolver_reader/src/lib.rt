@@ -1,14 +1,15 @@
 // Parity games read from PGSolver text (#101). The text is checked first (crate pgsolver_check); then the vertices are
-// written in the order of their numbers, each from its line. Where the lines are in another order, the place of each
-// line is posted before, in the two words that will hold its vertex's owner and priority: no further memory is lent.
+// written in the order of their numbers, each from its line. The check found every number in its place, and small
+// enough: none is asked about again. Where the lines are in another order, the place of each line is posted before, in
+// the two words that will hold its vertex's owner and priority: no further memory is lent.
 use bitmap::Bitmap;
 use bitmap::WORDS;
 use pgsolver_check::Plan;
-use pgsolver_scan::Number;
 use rules::Answer;
 use rules::Check;
 use rules::Room;
 ghost use mathlib.Core.Path.{_≡_};
+ghost use mathlib.Core.Bool.{false};
 ghost use mathlib.Core.List.{[], _∷_};
 ghost use Prim.Native.Nat.{ℕ, _+_, _-_, _*_, _/_, _%_, _<_, _≤_};
 ghost use lib.ListN.{length, set};
@@ -18,6 +19,7 @@ ghost use Rattle.rules.specs.declared.Check.the-variants.{Passed};
 ghost use Rattle.rules.specs.Lists.{In, from, once};
 ghost use Rattle.rules.specs.Words.{mostVertices, roomOf};
 ghost use Rattle.rules.specs.Answers.{said};
+ghost use Rattle.rules.specs.Texts.{decimal};
 ghost use Rattle.rules.specs.Game.{edgeCount, gameOf, padded};
 ghost use Rattle.rules.specs.PgsolverReading.{Readback, numbersOf, readGame};
 ghost use Rattle.rules.specs.PgsolverCalls.{ReadingDemand};
@@ -27,13 +29,19 @@ ghost use Rattle.pgsolver_scan.specs.Told.{pastLine};
 ghost use Rattle.pgsolver_check.specs.Lines.{linesIn};
 ghost use Rattle.pgsolver_check.specs.Successors.{listAt, Listed};
 ghost use Rattle.pgsolver_reader.specs.Parts.{unless, vertsTo, Whole, Begins, Turn, Part, Ready, roomRefusal};
-ghost use Rattle.pgsolver_reader.specs.Parts.{columnAt, offsetsFrom, edgesBegin, postAt};
+ghost use Rattle.pgsolver_reader.specs.Parts.{DigitBound, columnAt, offsetsFrom, edgesBegin, postAt};
 ghost use Rattle.pgsolver_reader.specs.Parts.{LinesPosted, PostedFrom, PostsKept};
 
 // What was written of a vertex: the place past its targets in the game, and the place past its successors in the text.
 struct Written {
     end: usize,
     next: usize,
+}
+
+// How many digits the vertices below a bound have; the bound is the first number that has one more.
+struct Digits {
+    count: usize,
+    bound: usize,
 }
 
 // ---- successors, each once: the bitmap marks those that were met
@@ -65,20 +73,15 @@ fn put_list(text: &[u8], list: usize, game: &mut [u32], start: usize, bits: &mut
 {
     let mut next = list;
     let mut end = start;
-    while next < text.len() {
-        let number = pgsolver_scan::read_number(text, next);
-        let Number::At { value, next: past } = number else {
-            return Written { end, next };
-        };
-        end = put_new(value, game, end, bits);
-        let comma = pgsolver_scan::byte_at(text, past, 44);
-        if comma {
-            next = past + 1;
-        } else {
+    loop {
+        let number = pgsolver_scan::known_number(text, next);
+        end = put_new(number.value, game, end, bits);
+        let past = number.next;
+        if text[past] != 44 {
             return Written { end, next: past };
         }
+        next = past + 1;
     }
-    Written { end, next }
 }
 
 // Empties the bitmap, in which only the words from `start` up to `end` are marked.
@@ -115,16 +118,9 @@ fn post_lines(text: &[u8], first: usize, vertices: usize, game: &mut [u32])
 {
     let mut place = first;
     while place < text.len() {
-        let field = pgsolver_scan::read_field(text, place, 32);
-        let Number::At {
-            value: number,
-            next: after,
-        } = field
-        else {
-            return;
-        };
-        post(game, vertices, number, after);
-        place = pgsolver_scan::past_line(text, after);
+        let number = pgsolver_scan::known_field(text, place);
+        post(game, vertices, number.value, number.next);
+        place = pgsolver_scan::past_line(text, number.next);
     }
 }
 
@@ -179,29 +175,32 @@ fn write_line(
     ensures { λ _. ⌜ PostsKept vertices vertex (now (game .entry)) (now (game .exit)) ⌝ }
     ensures { λ _. ⌜ Holds (now (bits .exit)) [] ⌝ }
 {
-    let rank = pgsolver_scan::read_field(text, place, 32);
-    let Number::At { value, next } = rank else {
-        return Written {
-            end: start,
-            next: place,
-        };
-    };
-    let priority = value;
-    let player = pgsolver_scan::read_field(text, next, 32);
-    let Number::At { value, next } = player else {
-        return Written {
-            end: start,
-            next: place,
-        };
-    };
+    let priority = pgsolver_scan::known_field(text, place);
+    let owner = pgsolver_scan::known_field(text, priority.next);
     let offset = start - parity_game::game_words(vertices, 0);
-    put_vertex(game, vertices, vertex, value, priority, offset);
-    let written = put_list(text, next, game, start, bits);
+    put_vertex(game, vertices, vertex, owner.value, priority.value, offset);
+    let written = put_list(text, owner.next, game, start, bits);
     wipe_words(game, start, written.end, bits);
     written
 }
 
-// All vertices are written, from lines in the order of their numbers. Answers the place past their targets.
+// The digits of the next vertex, from those of the vertex before it. The vertices come one by one: none is past the
+// bound, and a vertex at the bound has one digit more.
+fn digits_of(digits: Digits, vertex: usize) -> Digits
+    requires { ⌜ DigitBound (digits .count) (digits .bound) vertex × (vertex < mostVertices) ⌝ }
+    ensures { λ r. ⌜ DigitBound (r .count) (r .bound) (vertex + 1) × (r .count ≡ length (decimal vertex)) ⌝ }
+{
+    if vertex < digits.bound {
+        return digits;
+    }
+    Digits {
+        count: digits.count + 1,
+        bound: 10 * digits.bound,
+    }
+}
+
+// All vertices are written, from lines in the order of their numbers. Answers the place past their targets. The number
+// of a line is the vertex, and how many digits that has is known: it is passed over, which is quicker than reading it.
 fn write_in_order(
     text: &[u8],
     first: usize,
@@ -217,15 +216,13 @@ fn write_in_order(
     let mut end = parity_game::game_words(vertices, 0);
     let mut line = first;
     let mut vertex = 0;
+    let mut digits = Digits {
+        count: 1,
+        bound: 10,
+    };
     while vertex < vertices {
-        let field = pgsolver_scan::read_field(text, line, 32);
-        let Number::At {
-            value: _,
-            next: place,
-        } = field
-        else {
-            return end;
-        };
+        digits = digits_of(digits, vertex);
+        let place = line + digits.count + 1;
         let written = write_line(text, place, vertices, vertex, end, game, bits);
         end = written.end;
         line = pgsolver_scan::past_line(text, written.next);
@@ -234,7 +231,73 @@ fn write_in_order(
     end
 }
 
-// All vertices are written, from the lines that are posted.
+// ---- lines out of order
+
+// Lines out of order stand anywhere in the text: so many are looked at together before they are written.
+const TOGETHER: usize = 16;
+
+// The vertex behind the last one of the block that begins with a vertex.
+fn block_end(vertex: usize, vertices: usize) -> usize
+    requires { ⌜ vertex < vertices ⌝ }
+    ensures { λ r. ⌜ (vertex < r) × (r ≤ vertices) ⌝ }
+{
+    if TOGETHER < vertices - vertex {
+        return vertex + TOGETHER;
+    }
+    vertices
+}
+
+// Whether a byte at a place posted for the vertices from `first` up to `end` is below the digits. None is: a priority
+// begins there. What counts are the loads: none waits for another, so the memory fetches the lines of a block at the
+// same time, where write_line would wait for each. A compiler drops a load that nothing uses; so each byte is compared,
+// and no answer leaves the loop early.
+fn look_ahead(text: &[u8], game: &[u32], vertices: usize, first: usize, end: usize) -> bool
+    requires { ⌜ PostedFrom (now text) vertices first (now game) × (end ≤ vertices) ⌝ }
+    requires { ⌜ (vertices ≤ mostVertices) × (edgesBegin vertices ≤ length (now game)) ⌝ }
+    ensures { λ r. ⌜ r ≡ false ⌝ }
+{
+    let mut odd = false;
+    let mut vertex = first;
+    while vertex < end {
+        let place = posted_at(game, vertices, vertex);
+        if text[place] < 48 {
+            odd = true;
+        }
+        vertex += 1;
+    }
+    odd
+}
+
+// The vertices from `first` up to `last` are written, from the lines that are posted, their targets from `start` on.
+fn write_block(
+    text: &[u8],
+    vertices: usize,
+    first: usize,
+    last: usize,
+    start: usize,
+    game: &mut [u32],
+    bits: &mut Bitmap,
+) -> usize
+    requires { ⌜ Whole (now text) vertices × (length (now game) < 4294967296) × (first ≤ last) × (last ≤ vertices) ⌝ }
+    requires { ⌜ PostedFrom (now text) vertices first (now game) ⌝ }
+    requires { ⌜ Part (now text) vertices first start (now game) × Holds (now bits) [] ⌝ }
+    ensures { λ r. ⌜ Part (now (text .entry)) vertices last r (now (game .exit)) ⌝ }
+    ensures { λ _. ⌜ PostedFrom (now (text .entry)) vertices last (now (game .exit)) ⌝ }
+    ensures { λ _. ⌜ Holds (now (bits .exit)) [] ⌝ }
+{
+    let mut end = start;
+    let mut vertex = first;
+    while vertex < last {
+        let place = posted_at(game, vertices, vertex);
+        let written = write_line(text, place, vertices, vertex, end, game, bits);
+        end = written.end;
+        vertex += 1;
+    }
+    end
+}
+
+// All vertices are written, from the lines that are posted, block by block. No byte is odd, so none is left out; the
+// test is there so that the bytes are looked at.
 fn write_posted(text: &[u8], vertices: usize, game: &mut [u32], bits: &mut Bitmap) -> usize
     requires { ⌜ Whole (now text) vertices × (length (now game) < 4294967296) ⌝ }
     requires { ⌜ PostedFrom (now text) vertices 0 (now game) ⌝ }
@@ -244,13 +307,18 @@ fn write_posted(text: &[u8], vertices: usize, game: &mut [u32], bits: &mut Bitma
     let mut end = parity_game::game_words(vertices, 0);
     let mut vertex = 0;
     while vertex < vertices {
-        let place = posted_at(game, vertices, vertex);
-        let written = write_line(text, place, vertices, vertex, end, game, bits);
-        end = written.end;
-        vertex += 1;
+        let last = block_end(vertex, vertices);
+        let odd = look_ahead(text, game, vertices, vertex, last);
+        if odd {
+            return end;
+        }
+        end = write_block(text, vertices, vertex, last, end, game, bits);
+        vertex = last;
     }
     end
 }
+
+// ---- the game
 
 // All vertices are written.
 fn write_vertices(

@@ -1,6 +1,9 @@
 pub mod Scanning
+pub mod Knowing
 pub mod Reading
+pub mod Blocks
 pub mod Naming
 pub mod Lines
 pub mod Headers
 pub mod PastLines
+pub mod SameLine

@@ -6,7 +6,7 @@ use mathlib.Core.List.{List, [], _∷_}
 use mathlib.Core.Option.{Option, none, some}
 use lib.ListN.{length}
 use borrow.Author.Tests.{lt-ltb, le-ltb}
-use Rattle.rules.specs.TextReading.{Front, front, thenRead, readBytes, readField}
+use Rattle.rules.specs.TextReading.{Front, front, thenRead, readByte, readBytes, readField}
 use Rattle.rules.specs.Pgsolver.{SolverLine}
 use Rattle.rules.specs.PgsolverParse.{readList, readNamed, readOwner, readLine}
 use Rattle.game_texts.proofs.Parsing.{some-same, then-some, then-read, owner-sound}
@@ -126,10 +126,20 @@ closing-none f ts e =
     (λ s. then-both (readNamed (s .rest)) _ _
     (λ n. then-both (readBytes (59 ∷ 10 ∷ []) (n .rest)) _ _ (λ r. some-not _ _))) e
 
+-- something stands before the end of a line
+pub end-behind : (ts : List ℕ) (n : Front (Option (List ℕ))) (r : List ℕ) → readNamed ts ≡ some n
+    → readBytes (59 ∷ 10 ∷ []) (n .rest) ≡ some r → 1 ≤ length ts
+unfolding readNamed readBytes readByte thenRead
+end-behind [] n r e f =
+    let same : front none [] ≡ n = some-same e in
+    let g : readBytes (59 ∷ 10 ∷ []) [] ≡ some r
+    = ap (λ (x : Front (Option (List ℕ))). readBytes (59 ∷ 10 ∷ []) (x .rest)) same ∙ f in
+    absurd (let z : _≡_ {A = ℕ} 0 1 = cc in omega arith)
+end-behind (c ∷ cs) n r e f = omega arith
+
 closing-some : {B : Type 0} (f : List ℕ → Option (List ℕ) → B) (ts ns r : List ℕ)
     → readSuccessors ts ≡ some (front ns r)
     → (name : Option (List ℕ)) × (closing f ts ≡ some (front (f ns name) r))
-    × ((rest : List ℕ) × (readList ts ≡ some (front ns rest)))
 unfolding closing readSuccessors
 closing-some f ts ns r e =
     let (s, e1, f1) = then-some (readList ts) _ (front ns r) e in
@@ -139,7 +149,6 @@ closing-some f ts ns r e =
       n .value,
       then-read _ s e1 ∙ then-read _ n e2 ∙ then-read _ u e3
           ∙ ap (λ (x : Front (List ℕ)). some (front (f (x .value) (n .value)) (x .rest))) same,
-      (s .rest, e1 ∙ ap (λ (x : Front (List ℕ)). some (front (x .value) (s .rest))) same),
     )
 
 -- ---- the line
@@ -203,14 +212,13 @@ module _ (text : List ℕ) (p : ℕ) {r1 : Number} where
                     owner = o;
                     largest = top;
                     listed = listed;
-                    list = p3;
                     next = next;
                   })) (readLine (since text p)) text
               unfolding said
               line-told {top} {listed} {next} e t =
                   let (ns, a, most, c, h) = list-at text (readSuccessors (since text p3)) top listed next e t in
                   let line = said (number .0) (priority .0) (owner .0) in
-                  let (name, b, list) = closing-some line (since text p3) ns (since text next) a in
+                  let (name, b) = closing-some line (since text p3) ns (since text next) a in
                   let small = owner-sound (since text p2) (front (owner .0) (since text p3)) (owner .1) .1 in (
                     line ns name,
                     rest-of ∙ b,
@@ -220,8 +228,6 @@ module _ (text : List ℕ) (p : ℕ) {r1 : Number} where
                       owner = owner .2 ∙ small-same (owner .0) small;
                       top = most;
                       listed = c;
-                      within = owner .3;
-                      list = list;
                     },
                     h,
                   )

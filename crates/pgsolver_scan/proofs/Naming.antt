@@ -1,5 +1,5 @@
 -- Reading a name at a place of the text. Assumes nothing.
-use Prim.Native.Nat.{ℕ, _+_, _≤_, _<_}
+use Prim.Native.Nat.{ℕ, zero, suc, _+_, _-_, _≤_, _<_}
 use native.Mathlib.Omega.{arith}
 use native.Mathlib.Decide.{decLt}
 use mathlib.Core.Path.{_≡_, refl, sym, ap, _∙_, subst}
@@ -14,8 +14,9 @@ use Rattle.rules.specs.PgsolverParse.{readName, readNamed}
 use Rattle.game_texts.proofs.Parsing.{then-read}
 use Rattle.pgsolver_scan.specs.declared.Skip.{Skip}
 use Rattle.pgsolver_scan.specs.declared.Skip.the-variants.{To, NoSkip}
-use Rattle.pgsolver_scan.specs.Told.{since, ToldSkip}
+use Rattle.pgsolver_scan.specs.Told.{since, Lacks, ToldSkip}
 use Rattle.pgsolver_scan.proofs.Scanning.{since-cons, since-end}
+use Rattle.pgsolver_scan.proofs.Blocks.{lacks-less}
 use Rattle.pgsolver_scan.proofs.Reading.{then-none, when-true, when-false}
 use Rattle.pgsolver_scan.proofs.Reading.{withAll, with-snoc, with-done, with-none}
 
@@ -58,7 +59,7 @@ pub record Naming (text : List ℕ) (p q : ℕ) : Type 0 where
   pub within : q ≤ length text
   pub left : readName (since text p) ≡ withAll bytes (readName (since text q))
 
-pub naming-start : (text : List ℕ) (p : ℕ) → p ≤ length text → Naming text p p
+naming-start : (text : List ℕ) (p : ℕ) → p ≤ length text → Naming text p p
 unfolding withAll
 naming-start text p h = record { bytes = []; within = h; left = refl }
 
@@ -85,6 +86,23 @@ module _ {text : List ℕ} {p q : ℕ} (k : Naming text p q) where
 
   pub naming-end : length text ≤ q → readName (since text p) ≡ none
   naming-end h = k .left ∙ ap (withAll (k .bytes)) (name-past text q h) ∙ with-none (k .bytes)
+
+-- bytes that are neither a quote nor a newline are bytes of a name
+naming-on : (n : ℕ) (text : List ℕ) (p : ℕ) → Lacks text p (p + n) 34 10 → Naming text p (p + n)
+naming-on zero text p l =
+    let e : p ≡ p + zero = omega arith in
+    subst (Naming text p) e (naming-start text p (omega (arith, l .within)))
+naming-on (suc n) text p l =
+    let (a, b) = l .free (p + n) (omega arith) (omega arith) in
+    let e : p + n + 1 ≡ p + suc n = omega arith in
+    subst (Naming text p) e
+    (naming-more (naming-on n text p (lacks-less l (omega arith) (omega arith))) (omega (arith, l .within)) a b)
+
+pub naming-lacks : (text : List ℕ) (p q : ℕ) → Lacks text p q 34 10 → Naming text p q
+naming-lacks text p q l =
+    let e : p + (q - p) ≡ q = omega (arith, l .ordered) in
+    subst (Naming text p) e
+    (naming-on (q - p) text p (subst (λ (r : ℕ). Lacks text p r 34 10) (sym e) l))
 
 -- ---- a space and a name
 

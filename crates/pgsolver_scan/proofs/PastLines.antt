@@ -1,8 +1,8 @@
 -- The place past a line: where a line that has the form ends, since neither its numbers nor its name have a newline.
 -- Assumes nothing.
-use Prim.Native.Nat.{ℕ, suc, _+_, _≤_, _<_}
+use Prim.Native.Nat.{ℕ, zero, suc, _+_, _-_, _≤_, _<_}
 use native.Mathlib.Omega.{arith}
-use mathlib.Core.Path.{_≡_, refl, sym, ap, _∙_}
+use mathlib.Core.Path.{_≡_, refl, sym, ap, _∙_, subst}
 use mathlib.Core.List.{List, [], _∷_, _++_}
 use mathlib.Core.Logic.{inl, inr, ⊎-elim}
 use mathlib.Core.Option.{Option, none, some}
@@ -10,14 +10,15 @@ use lib.ListN.{length, length-append, length-drop}
 use borrow.Author.Tests.{eq-eqb, ne-eqb}
 use Rattle.rules.specs.Lists.{word, In}
 use Rattle.rules.specs.Texts.{decimal}
-use Rattle.rules.specs.TextReading.{front}
+use Rattle.rules.specs.TextReading.{front, readByte, readBytes}
 use Rattle.rules.specs.Pgsolver.{SolverLine, commaText, listText, nameText, lineText, PlainName}
 use Rattle.rules.specs.PgsolverParse.{readLine}
 use Rattle.lists.proofs.Members.{in-either}
 use Rattle.game_texts.proofs.Decimals.{Digits, digit-small, decimal-digits}
-use Rattle.game_texts.proofs.Parsing.{line-sound}
-use Rattle.pgsolver_scan.specs.Told.{since, lineLength, pastLine}
+use Rattle.game_texts.proofs.Parsing.{then-some, byte-sound, line-sound}
+use Rattle.pgsolver_scan.specs.Told.{since, lineLength, pastLine, Lacks}
 use Rattle.pgsolver_scan.proofs.Scanning.{since-cons, since-end}
+use Rattle.pgsolver_scan.proofs.Blocks.{lacks-less}
 
 -- ---- byte by byte
 
@@ -33,6 +34,32 @@ past-other text p h n = rw (since-cons text p h, ne-eqb (word text p) 10 n) (ome
 pub past-end : (text : List ℕ) (p : ℕ) → length text ≤ p → p ≡ pastLine text p
 unfolding pastLine lineLength
 past-end text p h = rw (since-end text p h) (omega arith)
+
+-- several bytes that are no newlines
+past-on : (n : ℕ) (text : List ℕ) (p : ℕ) → Lacks text p (p + n) 10 10 → pastLine text p ≡ pastLine text (p + n)
+past-on zero text p l =
+    let e : p ≡ p + zero = omega arith in
+    ap (pastLine text) e
+past-on (suc n) text p l =
+    let (a, b) = l .free (p + n) (omega arith) (omega arith) in
+    let e : p + n + 1 ≡ p + suc n = omega arith in
+    past-on n text p (lacks-less l (omega arith) (omega arith))
+    ∙ past-other text (p + n) (omega (arith, l .within)) a ∙ ap (pastLine text) e
+
+pub past-lacks : (text : List ℕ) (p q : ℕ) → Lacks text p q 10 10 → pastLine text p ≡ pastLine text q
+past-lacks text p q l =
+    let e : p + (q - p) ≡ q = omega (arith, l .ordered) in
+    past-on (q - p) text p (subst (λ (r : ℕ). Lacks text p r 10 10) (sym e) l) ∙ ap (pastLine text) e
+
+-- a semicolon and a newline
+pub past-ended : (text : List ℕ) (p : ℕ) (rest : List ℕ) → readBytes (59 ∷ 10 ∷ []) (since text p) ≡ some rest
+    → p + 2 ≡ pastLine text p
+unfolding pastLine lineLength readBytes
+past-ended text p rest e =
+    let (u, a, f) = then-some (readByte 59 (since text p)) (readBytes (10 ∷ [])) rest e in
+    let (v, b, g) = then-some (readByte 10 u) (readBytes []) rest f in
+    let spelt = byte-sound 59 (since text p) u a ∙ ap (λ (l : List ℕ). 59 ∷ l) (byte-sound 10 u v b) in
+    omega (arith, ap lineLength spelt)
 
 -- ---- bytes without a newline
 

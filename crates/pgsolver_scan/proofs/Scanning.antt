@@ -224,7 +224,7 @@ module _ {text : List ℕ} {p q value : ℕ} (s : Stopped text p q value) where
   told-zero h e =
       no-number (none-zero (digitsAt (since text p)) (omega (arith, s .count)) (first-byte (omega arith) ∙ e))
 
-  told-value : noNumeral (digitsAt (since text p)) ≡ false → Told (At value q) (readNumber (since text p)) text
+  pub told-value : noNumeral (digitsAt (since text p)) ≡ false → Told (At value q) (readNumber (since text p)) text
   unfolding readNumber
   told-value e = (valueOn (digitsAt (since text p)) 0, rw (e, s .past) refl, s .right, s .within)
 

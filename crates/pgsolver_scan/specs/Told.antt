@@ -1,15 +1,16 @@
 -- What the readers of a text promise: each answers what the reader of rules/specs/TextReading or PgsolverParse of the
 -- same name reads from its place on. Numbers are handed on saturated: equal up to a bound that is above every count of
 -- lines that fits in memory. Assumes nothing: these are definitions.
-use Prim.Native.Nat.{ℕ, suc, _+_, _≤_, min, max}
+use Prim.Native.Nat.{ℕ, suc, _+_, _<_, _≤_, min, max}
 use mathlib.Core.Path.{_≡_}
 use mathlib.Core.Bool.{cond}
 use mathlib.Core.List.{List, [], _∷_}
 use mathlib.Core.Option.{Option, none, some}
 use lib.ListN.{length, drop}
 use lib.Dec.{eqb}
-use Rattle.rules.specs.Lists.{largest}
-use Rattle.rules.specs.TextReading.{Front, front, thenRead, readBytes, digitsAt, pastDigits, valueOn}
+use Rattle.rules.specs.Lists.{word, largest}
+use Rattle.rules.specs.TextReading.{Front, front, thenRead, readBytes, readNumber, readField}
+use Rattle.rules.specs.TextReading.{digitsAt, pastDigits, valueOn}
 use Rattle.rules.specs.Pgsolver.{SolverLine}
 use Rattle.rules.specs.PgsolverParse.{readCommas, readList, readNamed}
 use Rattle.pgsolver_scan.specs.declared.Number.{Number}
@@ -57,6 +58,23 @@ pub record Stopped (text : List ℕ) (place next value : ℕ) : Type 0 where
   pub past : pastDigits (since text place) ≡ since text next
   pub right : value ≡ saturated (valueOn (digitsAt (since text place)) 0)
 
+-- a number stands at a place, and fits 32 bits; something stands behind it
+pub record Stands (text : List ℕ) (place : ℕ) : Type 0 where
+  pub within : place ≤ length text
+  pub number : ℕ
+  pub rest : List ℕ
+  pub reads : readNumber (since text place) ≡ some (front number rest)
+  pub behind : 1 ≤ length rest
+  pub small : number < 4_294_967_296
+
+-- the same, with a space behind it
+pub record StandsField (text : List ℕ) (place : ℕ) : Type 0 where
+  pub within : place ≤ length text
+  pub number : ℕ
+  pub rest : List ℕ
+  pub reads : readField 32 (since text place) ≡ some (front number rest)
+  pub small : number < 4_294_967_296
+
 -- a number was read
 abbrev pub Told : Number → Option (Front ℕ) → List ℕ → Type 0
 Told (At value next) m text =
@@ -77,6 +95,12 @@ ToldMore (Ends top listed next) first m text =
     × (listed ≡ suc (length ns)) × (next ≤ length text)
 ToldMore NoNumbers first m text = m ≡ none
 
+-- none of the bytes from p up to q is one of these two
+pub record Lacks (text : List ℕ) (p q one other : ℕ) : Type 0 where
+  pub ordered : p ≤ q
+  pub within : q ≤ length text
+  pub free : (i : ℕ) → p ≤ i → i < q → (¬ (word text i ≡ one)) × (¬ (word text i ≡ other))
+
 -- something was passed over
 abbrev pub ToldSkip : {A : Type 0} → Skip → Option (Front A) → List ℕ → Type 0
 ToldSkip {A = A} (To next) m text = (a : A) × (m ≡ some (front a (since text next))) × (next ≤ length text)
@@ -89,8 +113,6 @@ pub record RowAt (text : List ℕ) (line : SolverLine) (row : VertexLine) : Type
   pub owner : row .owner ≡ line .owner
   pub top : row .largest ≡ saturated (largest (line .successors))
   pub listed : row .listed ≡ length (line .successors)
-  pub within : row .list ≤ length text
-  pub list : (rest : List ℕ) × (readList (since text (row .list)) ≡ some (front (line .successors) rest))
 
 -- a line was read
 abbrev pub ToldRow : Row → Option (Front SolverLine) → List ℕ → Type 0

@@ -1,7 +1,7 @@
 // Reading PGSolver text from left to right (#101): each function reads what stands at a place of the text and answers
 // the place past it. A number beyond the bound of specs/Told is handed on as that bound.
 ghost use mathlib.Core.Path.{_≡_};
-ghost use mathlib.Core.Bool.{true, cond};
+ghost use mathlib.Core.Bool.{true, false, cond};
 ghost use mathlib.Core.List.{[], _∷_};
 ghost use mathlib.Core.Option.{none, some};
 ghost use Prim.Native.Nat.{_+_, _*_, _-_, _<_, _≤_, max};
@@ -10,12 +10,20 @@ ghost use Rattle.rules.specs.Pgsolver.{parityWord};
 ghost use Rattle.rules.specs.TextReading.{isDigit, readByte, readBytes, readNumber, readField};
 ghost use Rattle.rules.specs.PgsolverParse.{readList, readName, readNamed, readOwner, readLine, readHeader};
 ghost use Rattle.pgsolver_scan.specs.Told.{saturated, since, commasAt, readSuccessors, pastLine};
-ghost use Rattle.pgsolver_scan.specs.Told.{Stopped, Told, ToldList, ToldMore, ToldSkip, ToldRow};
+ghost use Rattle.pgsolver_scan.specs.Told.{Stopped, Stands, StandsField, Told, ToldList, ToldMore, Lacks, ToldSkip};
+ghost use Rattle.pgsolver_scan.specs.Told.{ToldRow};
+ghost use Rattle.pgsolver_scan.specs.declared.Number.the-variants.{At};
 
 // A number, and the place past it.
 pub enum Number {
     At { value: usize, next: usize },
     NoNumber,
+}
+
+// The same of a number that is known to stand there.
+pub struct Known {
+    pub value: usize,
+    pub next: usize,
 }
 
 // Numbers parted by commas: the largest, how many are listed, and the place past them.
@@ -30,15 +38,14 @@ pub enum Skip {
     NoSkip,
 }
 
-// What the line of a vertex says: number, priority, owner, the largest of its successors, how many are listed, the
-// place where they stand, and the place past the line.
+// What the line of a vertex says: number, priority, owner, the largest of its successors, how many are listed, and the
+// place past the line.
 pub struct VertexLine {
     pub number: usize,
     pub priority: usize,
     pub owner: usize,
     pub largest: usize,
     pub listed: usize,
-    pub list: usize,
     pub next: usize,
 }
 
@@ -141,6 +148,42 @@ pub fn read_field(text: &[u8], place: usize, byte: u8) -> Number
     }
 }
 
+// ---- in a text whose form was checked before
+
+// The number at a place where one stands that is known to fit 32 bits, with a byte behind it: neither the end of the
+// text nor the size of the number has to be asked for at each digit.
+pub fn known_number(text: &[u8], place: usize) -> Known
+    requires { ⌜ Stands (now text) place ⌝ }
+    ensures { λ r. ⌜ Told (At (r .value) (r .next)) (readNumber (since (now (text .entry)) place)) (now (text .entry)) ⌝ }
+    ensures { λ r. ⌜ r .next < length (now (text .entry)) ⌝ }
+{
+    let mut next = place;
+    let mut number = 0;
+    loop {
+        let digit = digit_of(text[next]);
+        if digit == 10 {
+            return Known {
+                value: number,
+                next,
+            };
+        }
+        number = 10 * number + digit;
+        next += 1;
+    }
+}
+
+// The same, and the place past the space behind it.
+pub fn known_field(text: &[u8], place: usize) -> Known
+    requires { ⌜ StandsField (now text) place ⌝ }
+    ensures { λ r. ⌜ Told (At (r .value) (r .next)) (readField 32 (since (now (text .entry)) place)) (now (text .entry)) ⌝ }
+{
+    let number = known_number(text, place);
+    Known {
+        value: number.value,
+        next: number.next + 1,
+    }
+}
+
 // ---- lists
 
 fn larger(left: usize, right: usize) -> usize
@@ -187,6 +230,57 @@ pub fn read_list(text: &[u8], place: usize) -> Numbers
     }
 }
 
+// ---- blocks of bytes
+
+// So many bytes are looked at together, by a loop of fixed length without a way out: a compiler turns it into a few
+// vector instructions. Long names, and lines that were read before, are passed over block by block.
+const BLOCK: usize = 64;
+
+// 1 for either of these two bytes, 0 for another.
+fn hit(byte: u8, one: u8, other: u8) -> u8
+    ensures { λ r. ⌜ (r ≤ 1) × (r ≡ 0 → (¬ (byte ≡ one)) × (¬ (byte ≡ other))) ⌝ }
+{
+    if byte == one {
+        return 1;
+    }
+    if byte == other {
+        return 1;
+    }
+    0
+}
+
+// Does one of the two bytes stand in the block from `place` on? The hits are summed, since this is the form for which
+// the compiler takes vector instructions; 64 of them fit in a byte.
+fn block_has(text: &[u8], place: usize, one: u8, other: u8) -> bool
+    requires { ⌜ place + 64 ≤ length (now text) ⌝ }
+    ensures { λ r. ⌜ (r ≡ false → Lacks (now (text .entry)) place (place + 64) one other) ⌝ }
+{
+    let mut hits = 0u8;
+    let mut count = 0;
+    while count < BLOCK {
+        hits += hit(text[place + count], one, other);
+        count += 1;
+    }
+    hits != 0
+}
+
+// The place of the first block, from `place` on, that has one of the two bytes; where none has, the place behind the
+// last whole block. Whoever looks for the two bytes goes on from there byte by byte.
+fn skip_blocks(text: &[u8], place: usize, one: u8, other: u8) -> usize
+    requires { ⌜ place ≤ length (now text) ⌝ }
+    ensures { λ r. ⌜ Lacks (now (text .entry)) place r one other ⌝ }
+{
+    let mut next = place;
+    while BLOCK <= text.len() - next {
+        let found = block_has(text, next, one, other);
+        if found {
+            return next;
+        }
+        next += BLOCK;
+    }
+    next
+}
+
 // ---- names
 
 // The bytes up to a quote.
@@ -194,7 +288,7 @@ fn read_name(text: &[u8], place: usize) -> Skip
     requires { ⌜ place ≤ length (now text) ⌝ }
     ensures { λ r. ⌜ ToldSkip r (readName (since (now (text .entry)) place)) (now (text .entry)) ⌝ }
 {
-    let mut next = place;
+    let mut next = skip_blocks(text, place, 34, 10);
     while next < text.len() {
         if text[next] == 34 {
             return Skip::To(next + 1);
@@ -295,8 +389,7 @@ pub fn read_line(text: &[u8], place: usize) -> Row
     let Number::At { value, next } = third else {
         return Row::NoRow;
     };
-    let list = next;
-    let successors = read_successors(text, list);
+    let successors = read_successors(text, next);
     let Numbers::Ends(largest, listed, next) = successors else {
         return Row::NoRow;
     };
@@ -306,7 +399,6 @@ pub fn read_line(text: &[u8], place: usize) -> Row
         owner: value,
         largest,
         listed,
-        list,
         next,
     })
 }
@@ -316,7 +408,15 @@ pub fn read_line(text: &[u8], place: usize) -> Row
 pub fn past_line(text: &[u8], place: usize) -> usize
     ensures { λ r. ⌜ r ≡ pastLine (now (text .entry)) place ⌝ }
 {
-    let mut end = place;
+    if text.len() <= place {
+        return place;
+    }
+    // A list without a name ends here, with a semicolon and the newline.
+    let ended = bytes_at(text, place, 59, 10);
+    if ended {
+        return place + 2;
+    }
+    let mut end = skip_blocks(text, place, 10, 10);
     while end < text.len() {
         if text[end] == 10 {
             return end + 1;

@@ -78,12 +78,12 @@ fn processor_time_of(process: u32) -> Option<f64> {
     Some(times.filter_map(|ticks| ticks.parse::<f64>().ok()).sum::<f64>() / 100.0)
 }
 
-/// The median times of library and plain over at least three turns of `work`, and more while they take less than half
-/// a second in all. They take turns on the same slices, so that neither has the better memory or the quieter moment.
-fn in_turn<T: Copy>(both: [T; 2], mut work: impl FnMut(T)) -> [f64; 2] {
-    let (mut times, mut sum) = ([Vec::new(), Vec::new()], 0.0);
+/// The median times of each implementation over at least three turns of `work`, and more while they take less than half
+/// a second in all. They take turns on the same slices, so that none has the better memory or the quieter moment.
+fn in_turn<T: Copy, const N: usize>(all: [T; N], mut work: impl FnMut(T)) -> [f64; N] {
+    let (mut times, mut sum) = ([const { Vec::new() }; N], 0.0);
     while times[0].len() < 3 || (sum < 0.5 && times[0].len() < 99) {
-        for (by, times) in both.into_iter().zip(&mut times) {
+        for (by, times) in all.into_iter().zip(&mut times) {
             let start = processor_time();
             work(by);
             let time = processor_time() - start;
@@ -182,25 +182,26 @@ fn find_text(name: &str) -> Option<&'static TextShape> {
     TEXT_SHAPES.iter().find(|shape| shape.name == name)
 }
 
-/// Of one run, library and plain. Seconds are 0 where nothing is written.
+/// Of one run: library, the plain version that allocates nothing, and the one that does. Seconds are 0 where nothing is
+/// written.
 #[derive(Clone, Copy)]
 struct TextMeasured {
     vertices: f64,
     edges: f64,
     bytes: f64,
     written_bytes: f64,
-    write: [f64; 2],
-    read: [f64; 2],
+    write: [f64; 3],
+    read: [f64; 3],
 }
 
 fn measure_text(TextInput { game, text }: &TextInput) -> TextMeasured {
-    let both = [pgsolver::LIBRARY, pgsolver::PLAIN];
+    let all = [pgsolver::LIBRARY, pgsolver::LENT, pgsolver::PLAIN];
     let mut answer = [0; 4];
-    let (mut written_bytes, mut write) = (0.0, [0.0; 2]);
+    let (mut written_bytes, mut write) = (0.0, [0.0; 3]);
     if let Some(game) = game {
         // Repeats are not written. Filled, so that no page is touched for the first time by a call.
         let mut out = vec![7; text.len()];
-        write = in_turn(both, |by| (by.write)(game, &mut out, &mut answer));
+        write = in_turn(all, |by| (by.write)(game, &mut out, &mut answer));
         assert_eq!(answer[0], 0, "a game that can be written: {answer:?}");
         written_bytes = answer[1] as f64;
     }
@@ -209,7 +210,7 @@ fn measure_text(TextInput { game, text }: &TextInput) -> TextMeasured {
     (pgsolver::PLAIN.read)(text, vertices, edges, &mut game, &mut answer);
     let [0, _, n, m] = answer else { panic!("a text that can be read: {answer:?}") };
     game.truncate(4 + 3 * n as usize + m as usize);
-    let read = in_turn(both, |by| (by.read)(text, n, m, &mut game, &mut answer));
+    let read = in_turn(all, |by| (by.read)(text, n, m, &mut game, &mut answer));
     assert_eq!(answer, [0, n, n, m], "a room that just holds the game");
     let (vertices, edges, bytes) = (n as f64, m as f64, text.len() as f64);
     TextMeasured { vertices, edges, bytes, written_bytes, write, read }
@@ -218,12 +219,13 @@ fn measure_text(TextInput { game, text }: &TextInput) -> TextMeasured {
 fn one_text(shape: &TextShape, quarters: u32) -> Result<(), String> {
     let measured = measure_text(&(shape.make)(quarters));
     let TextMeasured { vertices, edges, bytes, written_bytes, write, read } = measured;
-    println!("{vertices} {edges} {bytes} {written_bytes} {} {} {} {}", write[0], write[1], read[0], read[1]);
+    let times: Vec<String> = write.iter().chain(&read).map(f64::to_string).collect();
+    println!("{vertices} {edges} {bytes} {written_bytes} {}", times.join(" "));
     Ok(())
 }
 
-/// The times of library and plain.
-type Times = fn(&TextMeasured) -> [f64; 2];
+/// The times of the three.
+type Times = fn(&TextMeasured) -> [f64; 3];
 
 struct TextRow {
     name: &'static str,
@@ -234,8 +236,8 @@ struct TextRow {
 impl TextRow {
     fn measure(shape: &TextShape, quarters: u32, runs: usize) -> Result<TextRow, String> {
         let one = |_| match in_process(shape.name, &[quarters])?[..] {
-            [vertices, edges, bytes, written_bytes, w, x, r, s] => {
-                Ok(TextMeasured { vertices, edges, bytes, written_bytes, write: [w, x], read: [r, s] })
+            [vertices, edges, bytes, written_bytes, a, b, c, x, y, z] => {
+                Ok(TextMeasured { vertices, edges, bytes, written_bytes, write: [a, b, c], read: [x, y, z] })
             }
             _ => Err(format!("no measurement of {}", shape.name)),
         };
@@ -249,32 +251,37 @@ impl TextRow {
         Spread::of(self.runs.iter().map(of)).unwrap_or(Spread { count: 0, least: 0.0, median: 0.0, most: 0.0 })
     }
 
-    /// Library beside plain, run by run; `None` where nothing is written.
-    fn beside_plain(&self, of: Times) -> Option<Spread> {
-        let measured = of(&self.runs[0])[1] > 0.0;
-        measured.then(|| self.spread(|run| of(run)[0] / of(run)[1]))
+    /// Library beside one of the plain versions, run by run; `None` where nothing is written.
+    fn beside(&self, plain: usize, of: Times) -> Option<Spread> {
+        let measured = of(&self.runs[0])[plain] > 0.0;
+        measured.then(|| self.spread(|run| of(run)[0] / of(run)[plain]))
     }
 
-    /// Times of both, their ratio, and megabytes in a second of the library's median.
+    /// Times of the three, the library's beside the others', and its megabytes in a second by the median.
     fn print(&self, bytes: f64, of: Times) {
-        let Some(ratio) = self.beside_plain(of) else { return };
+        let (Some(lent), Some(allocating)) = (self.beside(LENT, of), self.beside(ALLOCATING, of)) else { return };
         let TextMeasured { vertices, edges, .. } = self.runs[0];
-        let [library, plain] = [0, 1].map(|i| self.spread(|run| 1000.0 * of(run)[i]));
+        let times = [0, LENT, ALLOCATING].map(|i| self.spread(|run| 1000.0 * of(run)[i]));
         println!(
-            "| {} | {}x | {vertices} | {edges} | {:.1} | {} | {} | {} | {:.0} | {:.0} |",
+            "| {} | {}x | {vertices} | {edges} | {:.1} | {} | {} | {} | {} | {} | {:.0} |",
             self.name,
             self.quarters,
             bytes / 1e6,
-            library.cell(1),
-            plain.cell(1),
-            ratio.cell(2),
-            bytes / 1e3 / library.median,
-            bytes / 1e3 / plain.median,
+            times[0].cell(1),
+            times[LENT].cell(1),
+            times[ALLOCATING].cell(1),
+            lent.cell(2),
+            allocating.cell(2),
+            bytes / 1e3 / times[0].median,
         );
     }
 }
 
-const TEXTS: [&str; 10] = [
+/// Where the plain versions stand among the times.
+const LENT: usize = 1;
+const ALLOCATING: usize = 2;
+
+const TEXTS: [&str; 11] = [
     "text",
     "size",
     "vertices",
@@ -282,9 +289,10 @@ const TEXTS: [&str; 10] = [
     "MB",
     "library ms",
     "plain ms",
+    "allocating ms",
     "library / plain",
+    "library / allocating",
     "library MB/s",
-    "plain MB/s",
 ];
 
 fn print_texts(settings: &Settings) -> Result<(), String> {
@@ -312,19 +320,20 @@ fn print_texts(settings: &Settings) -> Result<(), String> {
     Ok(())
 }
 
-/// What the rows say of the speed that is asked of both calls.
+/// What the rows say of the speed that is asked of both calls, beside the plain version that allocates nothing; and the
+/// same beside the one that does, of which nothing is asked.
 fn print_asked_of_texts(rows: &[TextRow]) {
     let calls: [(&str, Times); 2] = [("write", |run| run.write), ("read", |run| run.read)];
-    for (name, of) in calls {
-        let ratios = rows.iter().filter_map(|row| Some((row, row.beside_plain(of)?.median)));
+    let asked = format!("; asked at most {ASKED_OF_PLAIN}");
+    let others = [(LENT, "plain", &asked[..]), (ALLOCATING, "allocating", "")];
+    for ((name, of), (plain, what, asked)) in calls.iter().flat_map(|call| others.map(|other| (call, other))) {
+        let ratios = rows.iter().filter_map(|row| Some((row, row.beside(plain, *of)?.median)));
         let Some(spread) = Spread::of(ratios.clone().map(|(_, ratio)| ratio)) else { continue };
-        println!(
-            "- {name}, library / plain: {:.2} to {:.2}; asked at most {ASKED_OF_PLAIN}",
-            spread.least, spread.most
-        );
         let above = ratios.filter(|(_, ratio)| *ratio > ASKED_OF_PLAIN + 0.005);
         let above: Vec<String> = above.map(|(row, _)| format!("{} {}x", row.name, row.quarters)).collect();
-        println!("- above that: {}", if above.is_empty() { "none".to_string() } else { above.join(", ") });
+        let above = if above.is_empty() { "none".to_string() } else { above.join(", ") };
+        println!("- {name}, library / {what}: {:.2} to {:.2}{asked}", spread.least, spread.most);
+        println!("- above {ASKED_OF_PLAIN}: {above}");
     }
     println!();
 }

@@ -97,19 +97,20 @@ impl Comparison {
         plain
     }
 
-    /// Writes or reads a text by both implementations and compares all that they leave; gives the plain one's outcome.
+    /// Writes or reads a text by library and both plain versions and compares all that they leave; gives the outcome of
+    /// the one that allocates.
     fn text(&mut self, call: &pgsolver::Call) -> pgsolver::Outcome {
         let fill = FILLS[self.calls as usize % FILLS.len()] as u8;
         self.calls += 1;
-        let by = [pgsolver::LIBRARY, pgsolver::PLAIN];
-        let [library, plain] = by.map(|by| pgsolver::perform(call, by, fill));
-        for (outcome, by) in [&library, &plain].into_iter().zip(by) {
+        let by = [pgsolver::LIBRARY, pgsolver::LENT, pgsolver::PLAIN];
+        let [library, lent, plain] = by.map(|by| pgsolver::perform(call, by, fill));
+        for (outcome, by) in [&library, &lent, &plain].into_iter().zip(by) {
             if let Some(what) = pgsolver::unlawful(outcome, fill) {
                 self.text_differs(call, &format!("{}: {what}; answer {:?}", by.name, outcome.answer));
             }
-        }
-        if library != plain {
-            self.text_differs(call, &format!("library: {}\nplain: {}", library.show(), plain.show()));
+            if *outcome != plain {
+                self.text_differs(call, &format!("{}: {}\nplain: {}", by.name, outcome.show(), plain.show()));
+            }
         }
         self.count(call.name(), plain.answer);
         plain

@@ -265,11 +265,11 @@ fn print_pgsolver_table(folder: &str) -> Result<(), String> {
     Ok(())
 }
 
-/// Writes and reads what is stored with the library and the plain implementation; gives how many calls there are.
+/// Writes and reads what is stored with the library and both plain versions; gives how many calls there are.
 fn check_pgsolver(folder: &str) -> Result<usize, String> {
     let calls = stored_pgsolver(folder)?;
     let output = read(format!("{folder}/stdout"))?;
-    for by in [pgsolver::LIBRARY, pgsolver::PLAIN] {
+    for by in [pgsolver::LIBRARY, pgsolver::LENT, pgsolver::PLAIN] {
         let line = |call: &pgsolver::Call| stored::line(&pgsolver::perform(call, by, stored::FILL));
         let lines: Vec<String> = calls.iter().map(line).collect();
         let mut stored = output.split_inclusive(|&byte| byte == b'\n');

@@ -46,7 +46,7 @@ fn append_once(to: &mut Vec<u32>, numbers: &[u32], list: u32, last_met: &mut [u3
     }
 }
 
-fn digits(number: u32) -> usize {
+pub fn digits(number: u32) -> usize {
     number.checked_ilog10().map_or(1, |log| log as usize + 1)
 }
 
@@ -62,18 +62,18 @@ fn text_length(game: &[u32], successors: &[u32]) -> usize {
 }
 
 /// The text's bytes so far, and the place of the next one.
-struct Writer<'a> {
-    text: &'a mut [u8],
-    at: usize,
+pub struct Writer<'a> {
+    pub text: &'a mut [u8],
+    pub at: usize,
 }
 
 impl Writer<'_> {
-    fn bytes(&mut self, bytes: &[u8]) {
+    pub fn bytes(&mut self, bytes: &[u8]) {
         self.text[self.at..self.at + bytes.len()].copy_from_slice(bytes);
         self.at += bytes.len();
     }
 
-    fn number(&mut self, mut number: u32) {
+    pub fn number(&mut self, mut number: u32) {
         let end = self.at + digits(number);
         for byte in self.text[self.at..end].iter_mut().rev() {
             *byte = b'0' + (number % 10) as u8;
@@ -140,16 +140,15 @@ struct Parsed {
 }
 
 /// The rest of the text.
-struct Reader<'a> {
-    rest: &'a [u8],
+#[derive(Clone, Copy)]
+pub struct Reader<'a> {
+    pub rest: &'a [u8],
 }
 
 /// `None` if the text is not of the form.
 fn parse(text: &[u8]) -> Option<Parsed> {
     let mut reader = Reader { rest: text };
-    reader.bytes(b"parity ")?;
-    let highest = reader.number()?;
-    reader.bytes(b";\n")?;
+    let highest = reader.header()?;
     let mut parsed = Parsed { highest, lines: Vec::new(), successors: Vec::new() };
     while !reader.rest.is_empty() {
         let line = reader.line(&mut parsed.successors)?;
@@ -159,19 +158,19 @@ fn parse(text: &[u8]) -> Option<Parsed> {
 }
 
 impl Reader<'_> {
-    fn bytes(&mut self, bytes: &[u8]) -> Option<()> {
+    pub fn bytes(&mut self, bytes: &[u8]) -> Option<()> {
         self.rest = self.rest.strip_prefix(bytes)?;
         Some(())
     }
 
-    fn byte(&mut self) -> Option<u8> {
+    pub fn byte(&mut self) -> Option<u8> {
         let (&byte, rest) = self.rest.split_first()?;
         self.rest = rest;
         Some(byte)
     }
 
     /// A zero is a number by itself and begins no other.
-    fn number(&mut self) -> Option<u64> {
+    pub fn number(&mut self) -> Option<u64> {
         let (mut number, mut count) = (0, 0);
         while let Some(digit @ b'0'..=b'9') = self.rest.get(count) {
             number = (10 * number + (digit - b'0') as u64).min(LARGE);
@@ -182,7 +181,16 @@ impl Reader<'_> {
         fine.then_some(number)
     }
 
-    fn line(&mut self, successors: &mut Vec<u32>) -> Option<Line> {
+    /// The highest vertex number.
+    pub fn header(&mut self) -> Option<u64> {
+        self.bytes(b"parity ")?;
+        let highest = self.number()?;
+        self.bytes(b";\n")?;
+        Some(highest)
+    }
+
+    /// A line's number, priority and owner.
+    pub fn fields(&mut self) -> Option<(u64, u64, u32)> {
         let number = self.number()?;
         self.bytes(b" ")?;
         let priority = self.number()?;
@@ -193,11 +201,21 @@ impl Reader<'_> {
             _ => return None,
         };
         self.bytes(b" ")?;
-        let after = self.list(successors)?;
+        Some((number, priority, owner))
+    }
+
+    /// What ends a line behind the byte `after` its successors, a semicolon or the space before a name.
+    pub fn line_end(&mut self, after: u8) -> Option<()> {
         if after == b' ' {
             self.name()?;
         }
-        self.bytes(b"\n")?;
+        self.bytes(b"\n")
+    }
+
+    fn line(&mut self, successors: &mut Vec<u32>) -> Option<Line> {
+        let (number, priority, owner) = self.fields()?;
+        let after = self.list(successors)?;
+        self.line_end(after)?;
         Some(Line { number, priority, owner, end: successors.len() })
     }
 
@@ -215,7 +233,7 @@ impl Reader<'_> {
     }
 
     /// A name in quotes and the semicolon behind it.
-    fn name(&mut self) -> Option<()> {
+    pub fn name(&mut self) -> Option<()> {
         self.bytes(b"\"")?;
         let end = self.rest.iter().position(|&byte| byte == b'"' || byte == b'\n')?;
         self.rest = &self.rest[end..];

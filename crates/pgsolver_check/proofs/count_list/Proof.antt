@@ -1,11 +1,11 @@
 -- `count_list` meets its contract. Assumes nothing.
 use Prim.Native.Nat.{_+_, _-_}
 use native.Mathlib.Omega.{arith}
+use mathlib.Core.Path.{refl, _∙_}
 use lib.ListN.{length}
-use Rattle.pgsolver_check.proofs.Counting.{list-there, list-number, list-small, list-later, list-more}
-use Rattle.pgsolver_check.proofs.Counting.{list-last, Counting, counting-start, counting-more, counting-only}
-use Rattle.pgsolver_check.proofs.Counting.{counting-done}
-use borrow.Author.Needs.{needs}
+use Rattle.pgsolver_check.proofs.Counting.{list-there, list-stands, list-small, list-later, known-more}
+use Rattle.pgsolver_check.proofs.Counting.{known-last, known-line, comma-behind, Counting, counting-start}
+use Rattle.pgsolver_check.proofs.Counting.{counting-more, counting-only, counting-done}
 use Rattle.pgsolver_check.proofs.count_list.Statement.{statement}
 use Rattle.pgsolver_check.proofs.count_list.Tie as tie
 
@@ -20,101 +20,92 @@ loop-holds c =
     let start′ = c .before in
     counting-start (start′ .pre .0) (start′ .pre .1)
 
-read-number-requires : tie.Need-read-number-requires Inv-loop μ-loop
-read-number-requires c κs = c .before .loop .inv .here .within
-
-enum-known-number : tie.Need-enum-known-number Inv-loop μ-loop
-enum-known-number c = search needs
-
-enum-told : tie.Need-enum-told Inv-loop μ-loop
-enum-told c = search needs
-
-returns : tie.Need-returns Inv-loop μ-loop
-returns c =
-    absurd (list-number (c .before .before .before .before .loop .inv .here) (c .enum-told .given .1)
-    (c .before .before .read-number .ensures))
+known-number-requires : tie.Need-known-number-requires Inv-loop μ-loop
+known-number-requires c κs = list-stands (c .loop .inv .here)
 
 count-new-requires : tie.Need-count-new-requires Inv-loop μ-loop
 count-new-requires c κs =
-    let at-number = c .before .before in
-    let at-loop-test = at-number .before .before .before in
-    let at-loop = at-loop-test .before in (
-      list-small (at-loop .loop .inv .here) (at-number .number .given .0 .0) (at-number .number .given .0 .1 .0)
-          (at-number .number .given .1) (c .before .before .before .before .read-number .ensures),
+    let at-known-number = c .before in
+    let at-loop = at-known-number .before in (
+      list-small (at-loop .loop .inv .here) (at-known-number .known-number .result .value)
+          (at-known-number .known-number .result .next) refl (at-known-number .known-number .ensures .0),
       at-loop .loop .inv .holds .long,
-      omega (arith, at-loop .loop .inv .few, at-loop-test .loop-test .taken),
+      omega (arith, at-loop .loop .inv .few, list-there (at-loop .loop .inv .here)),
     )
 
-byte-at-requires : tie.Need-byte-at-requires Inv-loop μ-loop
-byte-at-requires c κs = search needs
+shared-slice-read-if1 : tie.Need-shared-slice-read-if1 Inv-loop μ-loop
+shared-slice-read-if1 c = c .before .before .before .known-number .ensures .1
 
 add-place : tie.Need-add-place Inv-loop μ-loop
-add-place c = omega (arith, c .before .byte-at .ensures .1 (c .if1 .taken))
+add-place c = omega (arith, c .before .before .before .before .known-number .ensures .1)
 
 loop-less : tie.Need-loop-less Inv-loop μ-loop
 loop-less c =
-    let at-number = c .before .before .before .before .before in
-    let at-read-number = at-number .before .before in
-    let at-loop-test = at-read-number .before in
-    let at-loop = at-loop-test .before in
+    let at-known-number = c .before .before .before .before in
+    let at-loop = at-known-number .before in
     omega (
       arith,
-      at-loop-test .loop-test .taken,
-      list-later (at-loop .loop .inv .here)
-          (at-number .number .given .0 .0) (at-number .number .given .0 .1 .0) (at-number .number .given .1)
-          (at-read-number .read-number .ensures),
+      list-there (at-loop .loop .inv .here),
+      list-later (at-loop .loop .inv .here) (at-known-number .known-number .result .value)
+          (at-known-number .known-number .result .next) refl (at-known-number .known-number .ensures .0),
     )
 
 loop-again : tie.Need-loop-again Inv-loop μ-loop
 loop-again c =
-    let at-byte-at = c .before in
-    let at-count-new = at-byte-at .before in
-    let at-number = at-count-new .before .before .before in
-    let at-read-number = at-number .before .before in
-    let at-loop = at-read-number .before .before in
-    counting-more (at-number .number .given .0 .0) (at-count-new .count-new .result) (at-loop .loop .inv)
-    (at-count-new .count-new .ensures .0) (at-count-new .count-new .ensures .1)
-    ((at-number .number .given .0 .1 .0) + 1)
-    (omega (
-      arith,
-      list-later (at-loop .loop .inv .here) (at-number .number .given .0 .0)
-          (at-number .number .given .0 .1 .0) (at-number .number .given .1) (at-read-number .read-number .ensures),
-    ))
-    (list-more (at-loop .loop .inv .here) (at-number .number .given .0 .0) (at-number .number .given .0 .1 .0)
-    (at-number .number .given .1) (at-read-number .read-number .ensures) (at-byte-at .byte-at .ensures .0)
-    (at-byte-at .byte-at .ensures .1) (c .if1 .taken))
+    let at-count-new = c .before .before in
+    let at-known-number = at-count-new .before .before in
+    let at-loop = at-known-number .before in
+    let here = at-loop .loop .inv .here in
+    let value = at-known-number .known-number .result .value in
+    let past = at-known-number .known-number .result .next in
+    counting-more value (at-count-new .count-new .result) (at-loop .loop .inv) (at-count-new .count-new .ensures .0)
+    (at-count-new .count-new .ensures .1) (past + 1)
+    (omega (arith, list-later here value past refl (at-known-number .known-number .ensures .0)))
+    (comma-behind here value past (at-known-number .known-number .ensures .0)
+    (at-known-number .known-number .ensures .1) (c .if1 .taken))
+    (known-more here value past (at-known-number .known-number .ensures .0)
+    (at-known-number .known-number .ensures .1) (c .if1 .taken))
 
-wipe-list-requires : tie.Need-wipe-list-requires Inv-loop μ-loop
-wipe-list-requires c κs =
+empty-list-requires : tie.Need-empty-list-requires Inv-loop μ-loop
+empty-list-requires c κs =
     let at-count-new = c .before .before .before in
-    let at-number = at-count-new .before .before .before in
-    let at-read-number = at-number .before .before in
-    let at-loop = at-read-number .before .before in
-    let start′ = at-loop .before .before in (
+    let at-known-number = at-count-new .before .before in
+    let at-loop = at-known-number .before in
+    let start′ = at-loop .before .before in
+    let here = at-loop .loop .inv .here in
+    let value = at-known-number .known-number .result .value in
+    let past = at-known-number .known-number .result .next in (
       start′ .pre .0,
-      counting-only (at-number .number .given .0 .0) (at-count-new .count-new .result)
-          (at-loop .loop .inv) (at-count-new .count-new .ensures .0) (at-count-new .count-new .ensures .1)
-          (list-last (at-loop .loop .inv .here) (at-number .number .given .0 .0) (at-number .number .given .0 .1 .0)
-          (at-number .number .given .1) (at-read-number .read-number .ensures) (c .before .before .byte-at .ensures .0)
-          (c .before .if1 .left)),
-    )
-
-returns-2 : tie.Need-returns-2 Inv-loop μ-loop
-returns-2 c =
-    let at-count-new = c .before .before .before .before in
-    let at-number = at-count-new .before .before .before in
-    let at-read-number = at-number .before .before in
-    let at-loop = at-read-number .before .before in (
-      counting-done (at-number .number .given .0 .0) (at-count-new .count-new .result) (at-loop .loop .inv)
+      counting-only value (at-count-new .count-new .result) (at-loop .loop .inv)
           (at-count-new .count-new .ensures .0) (at-count-new .count-new .ensures .1)
-          (list-last (at-loop .loop .inv .here) (at-number .number .given .0 .0) (at-number .number .given .0 .1 .0)
-          (at-number .number .given .1) (at-read-number .read-number .ensures)
-          (c .before .before .before .byte-at .ensures .0) (c .before .before .if1 .left)),
-      c .wipe-list .ensures,
+          (known-last here value past (at-known-number .known-number .ensures .0)
+          (at-known-number .known-number .ensures .1) (c .before .if1 .left)),
+      omega (
+        arith,
+        at-loop .loop .inv .onward,
+        list-later here value past refl
+            (at-known-number .known-number .ensures .0),
+      ),
     )
 
-returns-3 : tie.Need-returns-3 Inv-loop μ-loop
-returns-3 c = absurd (omega (arith, c .loop-test .left, list-there (c .before .loop .inv .here)))
+returns : tie.Need-returns Inv-loop μ-loop
+returns c =
+    let at-count-new = c .before .before .before .before in
+    let at-known-number = at-count-new .before .before in
+    let at-loop = at-known-number .before in
+    let here = at-loop .loop .inv .here in
+    let value = at-known-number .known-number .result .value in
+    let past = at-known-number .known-number .result .next in (
+      counting-done value (at-count-new .count-new .result) (at-loop .loop .inv)
+          (at-count-new .count-new .ensures .0) (at-count-new .count-new .ensures .1)
+          (known-last here value past (at-known-number .known-number .ensures .0)
+          (at-known-number .known-number .ensures .1) (c .before .before .if1 .left)),
+      (
+        at-loop .loop .inv .line ∙ known-line here value past (at-known-number .known-number .ensures .0)
+            (at-known-number .known-number .ensures .1),
+        c .empty-list .ensures,
+      ),
+    )
 
 pub count-list-spec : {M : Type 1} → statement M
 count-list-spec =
@@ -123,15 +114,11 @@ count-list-spec =
     Inv-loop
     μ-loop
     loop-holds
-    read-number-requires
-    enum-known-number
-    enum-told
-    returns
+    known-number-requires
     count-new-requires
-    byte-at-requires
+    shared-slice-read-if1
     add-place
     loop-less
     loop-again
-    wipe-list-requires
-    returns-2
-    returns-3)
+    empty-list-requires
+    returns)

@@ -3,7 +3,7 @@ use mathlib.Core.Path.{refl, _∙_}
 use mathlib.Core.Bool.{true≢false, false≢true}
 use native.Mathlib.Omega.{arith}
 use denote.Ref.{now}
-use Rattle.pgsolver_check.proofs.Windowing.{noted-out, noted-new, noted-old}
+use Rattle.pgsolver_check.proofs.Collecting.{noted-out, noted-new, noted-old}
 use Rattle.pgsolver_check.proofs.seen_before.Statement.{statement}
 use Rattle.pgsolver_check.proofs.seen_before.Tie as tie
 
@@ -42,11 +42,9 @@ returns-4 c =
     let start′ = at-meet .before .before .before .before in (
       λ e. absurd (true≢false e),
       (
-        λ e. (
-          c .before .before .before .before .if1 .left,
-          noted-old (start′ .args .base) (start′ .args .number) _
-              (now (start′ .args .bits)) (at-meet .meet .result) refl (at-meet .meet .ensures .0) (c .if3 .left),
-        ),
+        λ e. noted-old (start′ .args .base) (start′ .args .number) _ (now (start′ .args .bits)) (at-meet .meet .result)
+            (c .before .before .before .before .if1 .left) refl (omega (arith, c .before .before .before .if2 .left))
+            (at-meet .meet .ensures .0) (c .if3 .left),
         at-meet .meet .ensures .1 .long ∙ start′ .pre .0,
       ),
     )

@@ -42,7 +42,7 @@ seen-before-requires : tie.Need-seen-before-requires Inv-loop μ-loop
 seen-before-requires c κs =
     let at-loop = c .before .before .before .before .before .before in
     let start′ = at-loop .before .before .before .before in
-    (at-loop .loop .inv .long, start′ .pre .1)
+    (at-loop .loop .inv .noted .long, start′ .pre .1)
 
 returns-2 : tie.Need-returns-2 Inv-loop μ-loop
 returns-2 c =
@@ -51,15 +51,15 @@ returns-2 c =
     let at-read-field = at-field .before .before in
     let at-loop-test = at-read-field .before in
     let at-loop = at-loop-test .before in
-    let start′ = at-loop .before .before .before .before in
-    let a = at-seen-before .seen-before .ensures .1 .0 (c .if1 .taken) in (
+    let start′ = at-loop .before .before .before .before in (
       λ e. absurd (false≢true e),
       (
         λ e. window-twice (start′ .pre .0) (at-loop .loop .inv)
             (at-loop-test .loop-test .taken) (at-field .field .given .0 .0)
             (walk-number (start′ .pre .0) (at-loop .loop .inv .walk) (at-loop-test .loop-test .taken)
             (at-read-field .read-field .ensures) (at-field .field .given .0 .0) (at-field .field .given .0 .1 .0)
-            (at-field .field .given .1) .0) (a .0) (a .1),
+            (at-field .field .given .1) .0)
+            (at-seen-before .seen-before .ensures .1 .0 (c .if1 .taken)),
         at-seen-before .seen-before .ensures .1 .1,
       ),
     )
@@ -97,7 +97,7 @@ returns-3 : tie.Need-returns-3 Inv-loop μ-loop
 returns-3 c =
     let at-loop = c .before in (
       λ e. window-done (at-loop .loop .inv) (c .loop-test .left),
-      (λ e. absurd (true≢false e), at-loop .loop .inv .long),
+      (λ e. absurd (true≢false e), at-loop .loop .inv .noted .long),
     )
 
 pub window-differs-spec : {M : Type 1} → statement M

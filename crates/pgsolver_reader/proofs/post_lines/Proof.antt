@@ -4,7 +4,7 @@ use mathlib.Core.Path.{_≡_, refl, _∙_}
 use native.Mathlib.Omega.{arith}
 use denote.Ref.{now}
 use lib.ListN.{length}
-use Rattle.pgsolver_reader.proofs.Posting.{Posting, posting-start, posting-broken, posting-below, posting-later}
+use Rattle.pgsolver_reader.proofs.Posting.{Posting, posting-start, posting-stands, posting-below, posting-later}
 use Rattle.pgsolver_reader.proofs.Posting.{posting-more, posting-done}
 use borrow.Author.Needs.{needs}
 use Rattle.pgsolver_reader.proofs.post_lines.Statement.{statement}
@@ -23,33 +23,20 @@ loop-holds c =
     let start′ = c .before .before in
     (refl, posting-start (now (start′ .args .game)) (start′ .pre .1) (start′ .pre .2))
 
-read-field-requires : tie.Need-read-field-requires Inv-loop μ-loop
-read-field-requires c κs = c .before .loop .inv .1 .walk .within
-
-enum-known-field : tie.Need-enum-known-field Inv-loop μ-loop
-enum-known-field c = search needs
-
-enum-told : tie.Need-enum-told Inv-loop μ-loop
-enum-told c = search needs
-
-same-length : tie.Need-same-length Inv-loop μ-loop
-same-length c = c .before .before .before .before .loop .inv .0
-
-returns : tie.Need-returns Inv-loop μ-loop
-returns c =
-    let start′ = c .before .before .before .before .before .before .before in
-    absurd (posting-broken (start′ .pre .0) (start′ .pre .1) (c .before .before .before .before .loop .inv .1)
-    (c .before .before .before .loop-test .taken) (c .before .before .read-field .ensures) (c .enum-told .given .1))
+known-field-requires : tie.Need-known-field-requires Inv-loop μ-loop
+known-field-requires c κs =
+    let start′ = c .before .before .before .before in
+    posting-stands (start′ .pre .0) (start′ .pre .1) (c .before .loop .inv .1) (c .loop-test .taken)
 
 post-requires : tie.Need-post-requires Inv-loop μ-loop
 post-requires c κs =
-    let at-field = c .before .before in
-    let at-loop-test = at-field .before .before .before in
+    let at-field = c .before in
+    let number = at-field .known-field .result in
+    let at-loop-test = at-field .before in
     let at-loop = at-loop-test .before in
     let start′ = at-loop .before .before .before in (
       posting-below (start′ .pre .0) (start′ .pre .1) (at-loop .loop .inv .1) (at-loop-test .loop-test .taken)
-          (c .before .before .before .before .read-field .ensures) (at-field .field .given .0 .0)
-          (at-field .field .given .0 .1 .0) (at-field .field .given .1),
+          (number .value) (number .next) (at-field .known-field .ensures),
       start′ .pre .0 .few,
       at-loop .loop .inv .1 .long,
     )
@@ -59,40 +46,38 @@ past-line-requires c κs = search needs
 
 loop-less : tie.Need-loop-less Inv-loop μ-loop
 loop-less c =
-    let at-field = c .before .before .before .before .before .before in
-    let at-read-field = at-field .before .before in
-    let at-loop-test = at-read-field .before in
+    let at-field = c .before .before .before .before .before in
+    let number = at-field .known-field .result in
+    let at-loop-test = at-field .before in
     let at-loop = at-loop-test .before in
     let start′ = at-loop .before .before .before in
     omega (
       arith,
       at-loop-test .loop-test .taken,
       c .past-line .ensures,
-      posting-later (start′ .pre .0)
-          (start′ .pre .1) (at-loop .loop .inv .1) (at-loop-test .loop-test .taken) (at-read-field .read-field .ensures)
-          (at-field .field .given .0 .0) (at-field .field .given .0 .1 .0) (at-field .field .given .1),
+      posting-later (start′ .pre .0) (start′ .pre .1) (at-loop .loop .inv .1) (at-loop-test .loop-test .taken)
+          (number .value) (number .next) (at-field .known-field .ensures),
     )
 
 loop-again : tie.Need-loop-again Inv-loop μ-loop
 loop-again c =
     let at-post = c .before .before .before in
-    let at-field = at-post .before .before .before in
-    let at-read-field = at-field .before .before in
-    let at-loop-test = at-read-field .before in
+    let at-field = at-post .before .before in
+    let number = at-field .known-field .result in
+    let at-loop-test = at-field .before in
     let at-loop = at-loop-test .before in
     let start′ = at-loop .before .before .before in (
       at-post .post .kept .0 ∙ at-loop .loop .inv .0,
-      posting-more (start′ .pre .0) (start′ .pre .1)
-          (at-loop .loop .inv .1) (at-loop-test .loop-test .taken) (at-read-field .read-field .ensures)
-          (at-field .field .given .0 .0) (at-field .field .given .0 .1 .0) (at-field .field .given .1)
-          (at-post .post .ensures) (c .past-line .ensures),
+      posting-more (start′ .pre .0) (start′ .pre .1) (at-loop .loop .inv .1) (at-loop-test .loop-test .taken)
+          (number .value) (number .next) (at-field .known-field .ensures) (at-post .post .ensures)
+          (c .past-line .ensures),
     )
 
-same-length-2 : tie.Need-same-length-2 Inv-loop μ-loop
-same-length-2 c = c .before .loop .inv .0
+same-length : tie.Need-same-length Inv-loop μ-loop
+same-length c = c .before .loop .inv .0
 
-returns-2 : tie.Need-returns-2 Inv-loop μ-loop
-returns-2 c = posting-done (c .before .before .before .before .pre .1) (c .before .loop .inv .1) (c .loop-test .left)
+returns : tie.Need-returns Inv-loop μ-loop
+returns c = posting-done (c .before .before .before .before .pre .1) (c .before .loop .inv .1) (c .loop-test .left)
 
 pub post-lines-spec : {M : Type 1} → statement M
 post-lines-spec =
@@ -101,14 +86,10 @@ post-lines-spec =
     Inv-loop
     μ-loop
     loop-holds
-    read-field-requires
-    enum-known-field
-    enum-told
-    same-length
-    returns
+    known-field-requires
     post-requires
     past-line-requires
     loop-less
     loop-again
-    same-length-2
-    returns-2)
+    same-length
+    returns)

@@ -5,21 +5,21 @@ use mathlib.Core.List.{[]}
 use native.Mathlib.Omega.{arith}
 use lib.ListN.{length}
 use Rattle.bitmap.specs.Marks.{Holds}
-use Rattle.pgsolver_reader.specs.Parts.{Part}
+use Rattle.pgsolver_reader.specs.Parts.{DigitBound, Part}
 use Rattle.pgsolver_reader.proofs.Writing.{part-last, part-at}
-use Rattle.pgsolver_reader.proofs.Ordering.{Ordering, ordering-start, ordering-broken, ordering-turn}
-use Rattle.pgsolver_reader.proofs.Ordering.{ordering-more}
+use Rattle.pgsolver_reader.proofs.Widths.{bound-start}
+use Rattle.pgsolver_reader.proofs.Ordering.{Ordering, ordering-start, ordering-turn, ordering-more}
 use borrow.Author.Needs.{needs}
 use Rattle.pgsolver_reader.proofs.write_in_order.Statement.{statement}
 use Rattle.pgsolver_reader.proofs.write_in_order.Tie as tie
 
 abbrev Inv-loop : tie.InvT-loop
-Inv-loop text first vertices game₀ bits₀ end₀ line₀ vertex₀ game bits end line vertex =
+Inv-loop text first vertices game₀ bits₀ end₀ line₀ vertex₀ digits₀ game bits end line vertex digits =
     (length game ≡ length game₀) × Part text vertices vertex end game × Holds bits []
-    × Ordering text first vertices vertex line
+    × Ordering text first vertices vertex line × DigitBound (digits .count) (digits .bound) vertex
 
 abbrev μ-loop : tie.MeasureT-loop
-μ-loop text first vertices game₀ bits₀ end₀ line₀ vertex₀ game bits end line vertex =
+μ-loop text first vertices game₀ bits₀ end₀ line₀ vertex₀ digits₀ game bits end line vertex digits =
     vertices - vertex
 
 game-words-requires : tie.Need-game-words-requires Inv-loop μ-loop
@@ -33,38 +33,37 @@ loop-holds c =
       start′ .pre .1 .1 .1,
       ordering-start
           (start′ .pre .0 .1) (start′ .pre .1 .0),
+      bound-start,
     )
 
-read-field-requires : tie.Need-read-field-requires Inv-loop μ-loop
-read-field-requires c κs = c .before .loop .inv .3 .walk .within
+digits-of-requires : tie.Need-digits-of-requires Inv-loop μ-loop
+digits-of-requires c κs =
+    let start′ = c .before .before .before .before .before in
+    (c .before .loop .inv .4, omega (arith, c .loop-test .taken, start′ .pre .0 .0 .few))
 
-enum-known-field : tie.Need-enum-known-field Inv-loop μ-loop
-enum-known-field c = search needs
+add-place-2 : tie.Need-add-place-2 Inv-loop μ-loop
+add-place-2 c =
+    let at-digits = c .before in
+    let at-loop-test = at-digits .before in
+    let at-loop = at-loop-test .before in
+    let start′ = at-loop .before .before .before .before in
+    let inside = ordering-turn (start′ .pre .0 .1) (at-loop .loop .inv .3) (at-loop-test .loop-test .taken)
+    (at-digits .digits-of .result .count) (at-digits .digits-of .ensures .1) .within in
+    search needs
 
-enum-told : tie.Need-enum-told Inv-loop μ-loop
-enum-told c = search needs
-
-same-length : tie.Need-same-length Inv-loop μ-loop
-same-length c = c .before .before .before .before .loop .inv .0
-
-returns : tie.Need-returns Inv-loop μ-loop
-returns c =
-    let start′ = c .before .before .before .before .before .before .before .before in
-    absurd (ordering-broken (start′ .pre .0 .1) (c .before .before .before .before .loop .inv .3)
-    (c .before .before .before .loop-test .taken) (c .before .before .read-field .ensures) (c .enum-told .given .1))
+add-place : tie.Need-add-place Inv-loop μ-loop
+add-place c = omega (arith, add-place-2 c)
 
 write-line-requires : tie.Need-write-line-requires Inv-loop μ-loop
 write-line-requires c κs =
-    let at-field = c .before .before .before in
-    let at-read-field = at-field .before .before in
-    let at-loop-test = at-read-field .before in
+    let at-digits = c .before .before .before in
+    let at-loop-test = at-digits .before in
     let at-loop = at-loop-test .before in
     let start′ = at-loop .before .before .before .before in (
       (
         start′ .pre .0 .0,
         ordering-turn (start′ .pre .0 .1) (at-loop .loop .inv .3) (at-loop-test .loop-test .taken)
-            (at-read-field .read-field .ensures) (at-field .field .given .0 .0) (at-field .field .given .0 .1 .0)
-            (at-field .field .given .1),
+            (at-digits .digits-of .result .count) (at-digits .digits-of .ensures .1),
         at-loop-test .loop-test .taken,
       ),
       ((at-loop .loop .inv .1, omega (arith, at-loop .loop .inv .0, start′ .pre .0 .2)), at-loop .loop .inv .2),
@@ -75,37 +74,34 @@ past-line-requires c κs = search needs
 
 add-vertex : tie.Need-add-vertex Inv-loop μ-loop
 add-vertex c =
-    let at-loop-test = c .before .before .before .before .before .before .before .before .before .before in
+    let at-loop-test = c .before .before .before .before .before .before .before .before in
     let start′ = at-loop-test .before .before .before .before .before in
     omega (arith, at-loop-test .loop-test .taken, start′ .pre .0 .0 .few)
 
 loop-less : tie.Need-loop-less Inv-loop μ-loop
-loop-less c =
-    let at-loop-test = c .before .before .before .before .before .before .before .before .before .before in
-    omega (arith, at-loop-test .loop-test .taken)
+loop-less c = omega (arith, c .before .before .before .before .before .before .before .before .loop-test .taken)
 
 loop-again : tie.Need-loop-again Inv-loop μ-loop
 loop-again c =
     let at-write-line = c .before .before .before in
-    let at-field = at-write-line .before .before .before .before in
-    let at-read-field = at-field .before .before in
-    let at-loop-test = at-read-field .before in
+    let at-digits = at-write-line .before .before .before .before in
+    let at-loop-test = at-digits .before in
     let at-loop = at-loop-test .before in
     let start′ = at-loop .before .before .before .before in (
       at-write-line .write-line .kept .1 .1 .1 .1 .1 .0 ∙ at-loop .loop .inv .0,
       at-write-line .write-line .ensures .0,
       at-write-line .write-line .ensures .1 .1 .1,
-      ordering-more (start′ .pre .0 .1) (at-loop .loop .inv .3)
-          (at-loop-test .loop-test .taken) (at-read-field .read-field .ensures) (at-field .field .given .0 .0)
-          (at-field .field .given .0 .1 .0) (at-field .field .given .1) (at-write-line .write-line .result .next)
-          (at-write-line .write-line .ensures .1 .0) (c .past-line .ensures),
+      ordering-more (start′ .pre .0 .1) (at-loop .loop .inv .3) (at-loop-test .loop-test .taken)
+          (at-digits .digits-of .result .count) (at-digits .digits-of .ensures .1)
+          (at-write-line .write-line .result .next) (at-write-line .write-line .ensures .1 .0) (c .past-line .ensures),
+      at-digits .digits-of .ensures .0,
     )
 
-same-length-2 : tie.Need-same-length-2 Inv-loop μ-loop
-same-length-2 c = c .before .loop .inv .0
+same-length : tie.Need-same-length Inv-loop μ-loop
+same-length c = c .before .loop .inv .0
 
-returns-2 : tie.Need-returns-2 Inv-loop μ-loop
-returns-2 c =
+returns : tie.Need-returns Inv-loop μ-loop
+returns c =
     let at-loop = c .before in
     part-last (at-loop .loop .inv .1 .within) (c .loop-test .left) (at-loop .loop .inv .1)
 
@@ -117,15 +113,13 @@ write-in-order-spec =
     μ-loop
     game-words-requires
     loop-holds
-    read-field-requires
-    enum-known-field
-    enum-told
-    same-length
-    returns
+    digits-of-requires
+    add-place
+    add-place-2
     write-line-requires
     past-line-requires
     add-vertex
     loop-less
     loop-again
-    same-length-2
-    returns-2)
+    same-length
+    returns)

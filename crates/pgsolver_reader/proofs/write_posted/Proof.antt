@@ -1,12 +1,13 @@
--- `write_posted` meets its contract. Assumes nothing.
+-- `write_posted` meets its contract: no byte that is looked at is odd, and every block is written. Assumes nothing.
 use Prim.Native.Nat.{_-_}
-use mathlib.Core.Path.{_≡_, refl, _∙_}
+use mathlib.Core.Path.{_≡_, refl, sym, _∙_}
+use mathlib.Core.Bool.{true≢false}
 use mathlib.Core.List.{[]}
 use native.Mathlib.Omega.{arith}
 use lib.ListN.{length}
 use Rattle.bitmap.specs.Marks.{Holds}
 use Rattle.pgsolver_reader.specs.Parts.{Part, PostedFrom}
-use Rattle.pgsolver_reader.proofs.Writing.{part-last, part-at, turn-at, still-posted}
+use Rattle.pgsolver_reader.proofs.Writing.{part-last, part-at}
 use Rattle.pgsolver_reader.proofs.write_posted.Statement.{statement}
 use Rattle.pgsolver_reader.proofs.write_posted.Tie as tie
 
@@ -27,52 +28,57 @@ loop-holds c =
     let start′ = c .before .before .before in
     (refl, part-at (c .game-words .ensures) (start′ .pre .1 .1 .0), start′ .pre .1 .1 .1, start′ .pre .1 .0)
 
-posted-at-requires : tie.Need-posted-at-requires Inv-loop μ-loop
-posted-at-requires c κs =
-    let start′ = c .before .before .before .before .before .before in
-    (c .before .loop-test .taken, start′ .pre .0 .0 .few, omega (arith, c .before .before .loop .inv .1 .room))
+block-end-requires : tie.Need-block-end-requires Inv-loop μ-loop
+block-end-requires c κs = c .loop-test .taken
 
-write-line-requires : tie.Need-write-line-requires Inv-loop μ-loop
-write-line-requires c κs =
-    let at-loop-test = c .before .before .before .before in
-    let at-loop = at-loop-test .before in
+look-ahead-requires : tie.Need-look-ahead-requires Inv-loop μ-loop
+look-ahead-requires c κs =
+    let at-loop = c .before .before .before in
     let start′ = at-loop .before .before .before .before in (
-      (
-        start′ .pre .0 .0,
-        turn-at (c .before .before .posted-at .ensures)
-            (at-loop .loop .inv .3 .posted (at-loop .loop .vertex) (omega arith) (at-loop-test .loop-test .taken)),
-        at-loop-test .loop-test .taken,
-      ),
-      ((at-loop .loop .inv .1, omega (arith, at-loop .loop .inv .0, start′ .pre .0 .1)), at-loop .loop .inv .2),
-    )
-
-add-vertex : tie.Need-add-vertex Inv-loop μ-loop
-add-vertex c =
-    let at-loop-test = c .before .before .before .before .before .before .before in
-    let start′ = at-loop-test .before .before .before .before .before in
-    omega (arith, at-loop-test .loop-test .taken, start′ .pre .0 .0 .few)
-
-loop-less : tie.Need-loop-less Inv-loop μ-loop
-loop-less c =
-    let at-loop-test = c .before .before .before .before .before .before .before in
-    omega (arith, at-loop-test .loop-test .taken)
-
-loop-again : tie.Need-loop-again Inv-loop μ-loop
-loop-again c =
-    let at-write-line = c .before .before in
-    let at-loop = at-write-line .before .before .before .before .before .before in (
-      at-write-line .write-line .kept .1 .1 .1 .1 .1 .0 ∙ at-loop .loop .inv .0,
-      at-write-line .write-line .ensures .0,
-      at-write-line .write-line .ensures .1 .1 .1,
-      still-posted (at-loop .loop .inv .3)
-          (at-write-line .write-line .ensures .1 .1 .0),
+      (at-loop .loop .inv .3, c .before .block-end .ensures .1),
+      (start′ .pre .0 .0 .few, omega (arith, at-loop .loop .inv .1 .room)),
     )
 
 same-length : tie.Need-same-length Inv-loop μ-loop
-same-length c = c .before .loop .inv .0
+same-length c = c .before .before .before .before .before .loop .inv .0
 
 returns : tie.Need-returns Inv-loop μ-loop
-returns c =
+returns c = absurd (true≢false (sym (c .if1 .taken) ∙ c .before .look-ahead .ensures))
+
+write-block-requires : tie.Need-write-block-requires Inv-loop μ-loop
+write-block-requires c κs =
+    let at-block-end = c .before .before .before .before .before in
+    let at-loop = at-block-end .before .before in
+    let start′ = at-loop .before .before .before .before in (
+      (
+        start′ .pre .0 .0,
+        omega (arith, at-loop .loop .inv .0, start′ .pre .0 .1),
+        omega (arith, at-block-end .block-end .ensures .0),
+        at-block-end .block-end .ensures .1,
+      ),
+      (at-loop .loop .inv .3, (at-loop .loop .inv .1, at-loop .loop .inv .2)),
+    )
+
+loop-less : tie.Need-loop-less Inv-loop μ-loop
+loop-less c =
+    let at-block-end = c .before .before .before .before .before .before .before .before in
+    omega (arith, at-block-end .before .loop-test .taken, at-block-end .block-end .ensures .0)
+
+loop-again : tie.Need-loop-again Inv-loop μ-loop
+loop-again c =
+    let at-write-block = c .before .before in
+    let at-loop = at-write-block .before .before .before .before .before .before .before .before in (
+      at-write-block .write-block .kept .1 .1 .1 .1 .1 .0 ∙ at-loop .loop .inv .0,
+      at-write-block .write-block .ensures .0,
+      at-write-block .write-block .ensures .1 .1,
+      at-write-block .write-block .ensures .1 .0,
+    )
+
+same-length-2 : tie.Need-same-length-2 Inv-loop μ-loop
+same-length-2 c = c .before .loop .inv .0
+
+returns-2 : tie.Need-returns-2 Inv-loop μ-loop
+returns-2 c =
     let at-loop = c .before in
     part-last (at-loop .loop .inv .1 .within) (c .loop-test .left) (at-loop .loop .inv .1)
 
@@ -84,10 +90,12 @@ write-posted-spec =
     μ-loop
     game-words-requires
     loop-holds
-    posted-at-requires
-    write-line-requires
-    add-vertex
+    block-end-requires
+    look-ahead-requires
+    same-length
+    returns
+    write-block-requires
     loop-less
     loop-again
-    same-length
-    returns)
+    same-length-2
+    returns-2)

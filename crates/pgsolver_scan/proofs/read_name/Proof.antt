@@ -1,9 +1,9 @@
--- `read_name` meets its contract: `Naming` says what was read up to each byte. Assumes nothing.
+-- `read_name` meets its contract: `Naming` says what was read up to each block and byte. Assumes nothing.
 use Prim.Native.Nat.{_-_}
 use native.Mathlib.Omega.{arith}
 use denote.Ref.{now}
 use lib.ListN.{length}
-use Rattle.pgsolver_scan.proofs.Naming.{Naming, naming-start, naming-more, naming-done, naming-line, naming-end}
+use Rattle.pgsolver_scan.proofs.Naming.{Naming, naming-lacks, naming-more, naming-done, naming-line, naming-end}
 use Rattle.pgsolver_scan.proofs.read_name.Statement.{statement}
 use Rattle.pgsolver_scan.proofs.read_name.Tie as tie
 
@@ -13,8 +13,13 @@ Inv-loop text place next₀ next = Naming text place next
 abbrev μ-loop : tie.MeasureT-loop
 μ-loop text place next₀ next = length text - next
 
+skip-blocks-requires : tie.Need-skip-blocks-requires Inv-loop μ-loop
+skip-blocks-requires c κs = c .before .pre
+
 loop-holds : tie.Need-loop-holds Inv-loop μ-loop
-loop-holds c = naming-start (now (c .args .text)) (c .args .place) (c .pre)
+loop-holds c =
+    let start′ = c .before .before in
+    naming-lacks (now (start′ .args .text)) (start′ .args .place) (c .skip-blocks .result) (c .skip-blocks .ensures)
 
 shared-slice-read-if1 : tie.Need-shared-slice-read-if1 Inv-loop μ-loop
 shared-slice-read-if1 c = c .before .loop-test .taken
@@ -57,6 +62,7 @@ read-name-spec =
     (tie.spec
     Inv-loop
     μ-loop
+    skip-blocks-requires
     loop-holds
     shared-slice-read-if1
     add-t8

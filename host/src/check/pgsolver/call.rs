@@ -21,6 +21,9 @@ pub struct Implementation {
 pub const LIBRARY: Implementation = Implementation { name: "library", write: library_write, read: library_read };
 pub const PLAIN: Implementation =
     Implementation { name: "plain", write: plain::write_pgsolver, read: plain::read_pgsolver };
+/// The plain one that allocates nothing.
+pub const LENT: Implementation =
+    Implementation { name: "lent", write: plain::write_pgsolver_lent, read: plain::read_pgsolver_lent };
 
 // The same as in library.rs, whose functions give the answer's meaning: here its four words are compared, and the
 // words around them.

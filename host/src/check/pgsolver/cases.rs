@@ -328,13 +328,13 @@ fn two_faults() -> Vec<Case> {
 
 #[cfg(test)]
 mod tests {
-    use super::super::call::{LIBRARY, PLAIN, perform, unlawful};
+    use super::super::call::{LENT, LIBRARY, PLAIN, perform, unlawful};
     use super::*;
 
     #[test]
     fn by_library_and_plain() {
         for case in all() {
-            for by in [LIBRARY, PLAIN] {
+            for by in [LIBRARY, LENT, PLAIN] {
                 let got = perform(&case.call, by, 7);
                 let what = format!("{} by {}", case.name, by.name);
                 assert_eq!(got.answer, case.answer, "{what}");

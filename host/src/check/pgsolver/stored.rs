@@ -7,7 +7,8 @@
 //! A line is one of `replay`'s, without map and work: the lent slice stands where a game does, all of it, byte by byte
 //! or word by word.
 use super::call::{Call, Outcome, PLAIN, perform, unlawful};
-use super::{cases, damage, generate};
+use super::generate::Draft;
+use super::{cases, damage, generate, large};
 use crate::check::generate::Random;
 use crate::check::{call, kinds, record};
 use crate::{bytes_of, words_of};
@@ -94,7 +95,7 @@ pub fn not_as_written_down() -> Option<String> {
 
 /// The cases written down by hand; a small text up to each of its bytes, and with bytes changed; random games, written
 /// into slices around the length of their text; the texts, with names and in any order, read into rooms around what
-/// they need.
+/// they need; texts that are read in larger pieces.
 pub fn all() -> Vec<Call> {
     let mut calls: Vec<Call> = cases::all().into_iter().map(|case| case.call).collect();
     let small = damage::truncated(damage::SMALL[1]).chain(damage::changed(damage::SMALL[1]).step_by(29));
@@ -106,7 +107,37 @@ pub fn all() -> Vec<Call> {
         let text = generate::draft(&mut random, &game).spell();
         calls.extend(generate::rooms(&mut random, &text));
     }
+    for text in in_pieces(&mut random) {
+        calls.extend(generate::rooms(&mut random, &text));
+    }
     calls
+}
+
+/// Numbers of one to three digits, in order; the same lines in any order, and one of them in the place of another; a
+/// list with many repeats; names of all lengths around a block of 64 bytes, and with a newline there.
+fn in_pieces(random: &mut Random) -> Vec<Vec<u8>> {
+    let game = large::game(120, 2);
+    let ordered = Draft::of_game(&game);
+    let mut shuffled = ordered.clone();
+    generate::shuffle(random, &mut shuffled.lines);
+    let mut twice = shuffled.clone();
+    twice.lines[3] = twice.lines[77].clone();
+    let mut texts: Vec<Vec<u8>> = [ordered.clone(), shuffled, twice].iter().map(Draft::spell).collect();
+    let mut few = Draft { highest: "11".to_string(), lines: ordered.lines[..12].to_vec() };
+    few.lines.iter_mut().for_each(|line| line.successors = vec!["11".to_string(), "0".to_string()]);
+    few.lines[5].successors = (0..500).map(|i| (i * i % 12).to_string()).collect();
+    texts.push(few.spell());
+    few.lines[5].successors.truncate(1);
+    for (line, length) in few.lines.iter_mut().zip([0, 1, 61, 62, 63, 64, 65, 66, 127, 128, 129, 200]) {
+        line.name = Some(vec![b'x'; length]);
+    }
+    texts.push(few.spell());
+    for place in [0, 63, 64, 199] {
+        let mut broken = few.clone();
+        broken.lines[11].name.as_mut().expect("a name")[place] = b'\n';
+        texts.push(broken.spell());
+    }
+    texts
 }
 
 /// A game with few edges.
