@@ -2,6 +2,7 @@
 //! outside, and verdicts of games against what their formulas mean.
 pub mod call;
 pub mod cases;
+pub mod counts;
 pub mod damage;
 pub mod finished;
 pub mod generate;

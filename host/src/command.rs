@@ -15,7 +15,7 @@ mod sha256;
 mod show;
 
 use crate::{Answer, NoMemory, ReadError, Refusal};
-use options::{ALL, Choice, EDGES, FORMAT, Given, LIMIT, MAP, OUTPUT, VERTICES};
+use options::{ALL, COUNTS, Choice, EDGES, FORMAT, Given, LIMIT, MAP, OUTPUT, VERTICES};
 use std::ffi::OsString;
 use std::io::{self, Write};
 
@@ -101,13 +101,13 @@ struct Command {
 }
 
 /// The options of what builds games and writes them.
-const BUILDING: &[Choice] = &[VERTICES, EDGES, LIMIT, FORMAT, OUTPUT];
+const BUILDING: &[Choice] = &[VERTICES, EDGES, LIMIT, FORMAT, COUNTS, OUTPUT];
 
 const COMMANDS: [Command; 6] = [
     Command { name: "build", options: BUILDING, help: help::BUILD, run: build::run },
     Command { name: "night", options: BUILDING, help: help::NIGHT, run: night::run },
     Command { name: "read", options: &[VERTICES, EDGES, FORMAT, OUTPUT], help: help::READ, run: read::run },
-    Command { name: "restrict", options: &[MAP, FORMAT, OUTPUT], help: help::RESTRICT, run: restrict::run },
+    Command { name: "restrict", options: &[MAP, FORMAT, COUNTS, OUTPUT], help: help::RESTRICT, run: restrict::run },
     Command { name: "show", options: &[ALL], help: help::SHOW, run: show::run },
     Command { name: "dot", options: &[VERTICES, EDGES, LIMIT, OUTPUT], help: help::DOT, run: dot::run },
 ];

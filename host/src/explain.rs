@@ -1,7 +1,7 @@
 //! Refusals told by the thing that is wrong, a transition, an action, a node, with the value found and what is legal:
 //! the number of a word helps nobody who writes models or formulas. Things are counted from 0, as in the words.
 use crate::nodes::{Nodes, at};
-use crate::{Game, Model, Refusal, Room};
+use crate::{Game, Model, Refusal, Room, game_words};
 
 impl Refusal {
     /// What is wrong with the model, the formula or the room of a run that was refused so.
@@ -250,17 +250,24 @@ fn wrong_modality(nodes: Nodes, node: usize, actions: &[u32]) -> String {
 
 fn no_game(game: &[u32]) -> String {
     let (n, m, found) = (at(game, 0), at(game, 1), game.len());
-    let wanted = 4 + 3 * n as u64 + m as u64;
+    let wanted = game_words(n as usize, m as usize);
     let most = Room::MOST;
     match found {
         0..3 => format!("a game begins with three words, vertices, edges and initial vertex, and there are {found}"),
         _ if n == 0 => "the game has no vertex".to_string(),
-        _ if wanted != found as u64 => {
-            format!("{n} vertices and {m} edges make {wanted} words, and there are {found}")
+        _ if wanted != found => {
+            let counts = if lacks_counts(game) { ": the edges' counts are missing" } else { "" };
+            format!("{n} vertices and {m} edges make {wanted} words, and there are {found}{counts}")
         }
         _ if n > most.vertices => format!("the game has {n} vertices, and at most {} are legal", most.vertices),
         _ => format!("the game has {m} edges, and at most {} are legal", most.edges),
     }
+}
+
+/// Whether words have the length of a game as games were before their edges had counts.
+pub(crate) fn lacks_counts(game: &[u32]) -> bool {
+    let (n, m) = (at(game, 0) as usize, at(game, 1) as usize);
+    n > 0 && m > 0 && game.len() == 4 + 3 * n + m
 }
 
 fn stuck(game: &[u32]) -> String {

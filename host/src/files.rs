@@ -1,5 +1,6 @@
 //! Files of words and texts, read within bounds: their size and the lengths at their front are looked at before memory
 //! is asked for, so that a file of any size is refused at once.
+use crate::game::game_words;
 use crate::{FileFault, Group, Model, Room};
 use std::fmt;
 use std::fs::File;
@@ -36,7 +37,7 @@ impl From<FileFault> for ReadError {
 }
 
 /// The most words that a game has.
-const GAME: u64 = 4 + 3 * Room::MOST.vertices as u64 + Room::MOST.edges as u64;
+const GAME: u64 = game_words(Room::MOST.vertices as usize, Room::MOST.edges as usize) as u64;
 
 /// The most bytes of a text: what no game needs, so that names and repeated successors have room as well.
 const TEXT: u64 = 1 << 28;

@@ -1,5 +1,6 @@
-//! A game's words by vertex: owner, priority, successors.
+//! A game's words by vertex: owner, priority, successors and their counts.
 use crate::{Refusal, Room};
+use std::ops::Range;
 
 #[derive(Clone, Copy, Debug, PartialEq, Eq)]
 pub enum Player {
@@ -7,7 +8,13 @@ pub enum Player {
     Odd,
 }
 
-/// A game over its words: vertices n, edges m, initial vertex; n owners, n priorities, n + 1 offsets, m targets.
+/// How many words a game of so many vertices and edges has.
+pub const fn game_words(vertices: usize, edges: usize) -> usize {
+    4 + 3 * vertices + 2 * edges
+}
+
+/// A game over its words: vertices n, edges m, initial vertex; n owners, n priorities, n + 1 offsets, m targets, m
+/// counts: how many transitions of the model stand behind each edge.
 ///
 /// The largest priority that a play sees for ever decides it, an even one for Even. A formula holds in its model
 /// where Even wins vertex 0 of their game.
@@ -24,7 +31,7 @@ impl<'a> Game<'a> {
         let Some((&[vertices, edges, initial], _)) = words.split_first_chunk::<3>() else { return fault(51, 0) };
         let (n, m) = (vertices as usize, edges as usize);
         let in_range = (1..=Room::MOST.vertices).contains(&vertices) && edges <= Room::MOST.edges;
-        if !in_range || words.len() != 4 + 3 * n + m {
+        if !in_range || words.len() != game_words(n, m) {
             return fault(51, 0);
         }
         let game = Game { words, n };
@@ -51,7 +58,7 @@ impl<'a> Game<'a> {
     }
 
     fn wrong_vertex(&self) -> Option<usize> {
-        let (owners, targets) = (&self.words[3..3 + self.n], &self.words[4 + 3 * self.n..]);
+        let (owners, targets) = (&self.words[3..3 + self.n], self.column(0));
         let waits = |v: usize| self.priority(v as u32) == 0 && self.successors(v as u32).is_empty();
         let wrong = |v: &usize| owners[*v] > 2 || owners[*v] == 2 && !waits(*v);
         let owner = (0..self.n).find(wrong).map(|v| 3 + v);
@@ -77,7 +84,7 @@ impl<'a> Game<'a> {
         self.words[2]
     }
 
-    /// Whose vertex it is; nobody's yet if it still waits in a cut game. Panics past the last vertex, as the two
+    /// Whose vertex it is; nobody's yet if it still waits in a cut game. Panics past the last vertex, as the three
     /// functions below do.
     pub fn owner(&self, vertex: u32) -> Option<Player> {
         match self.words[3..3 + self.n][vertex as usize] {
@@ -91,11 +98,27 @@ impl<'a> Game<'a> {
         self.words[3 + self.n..3 + 2 * self.n][vertex as usize]
     }
 
+    /// A column of the edges: 0 the targets, 1 the counts.
+    fn column(&self, column: usize) -> &'a [u32] {
+        let edges = self.edges() as usize;
+        &self.words[4 + 3 * self.n + column * edges..][..edges]
+    }
+
+    fn edges_of(&self, vertex: u32) -> Range<usize> {
+        let offsets = &self.words[3 + 2 * self.n..4 + 3 * self.n];
+        offsets[vertex as usize] as usize..offsets[vertex as usize + 1] as usize
+    }
+
     /// The targets of its edges in order; two edges may be equal.
     pub fn successors(&self, vertex: u32) -> &'a [u32] {
-        let offsets = &self.words[3 + 2 * self.n..4 + 3 * self.n];
-        let (from, to) = (offsets[vertex as usize], offsets[vertex as usize + 1]);
-        &self.words[4 + 3 * self.n..][from as usize..to as usize]
+        &self.column(0)[self.edges_of(vertex)]
+    }
+
+    /// For each of its edges, how many transitions stand behind it: those of the vertex's state that its modality
+    /// matches and that lead to the edge's target. 0 where the vertex is no modality, for a loop added to a vertex
+    /// without targets, and in games read from text.
+    pub fn counts(&self, vertex: u32) -> &'a [u32] {
+        &self.column(1)[self.edges_of(vertex)]
     }
 
     /// The first vertex that a cut game has not settled.

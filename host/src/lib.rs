@@ -24,8 +24,8 @@ mod text_faults;
 
 pub use answer::{Answer, Party, Refusal};
 pub use files::{ReadError, Source};
-pub use game::{Game, Player};
-pub use lines::{game_lines, map_line};
+pub use game::{Game, Player, game_words};
+pub use lines::{counted_lines, game_lines, map_line};
 pub use model::{Built, FileFault, Group, Model, NoMemory, Restricted, Room, Slices};
 pub use model::{bytes_of, restrict, try_restrict, words_of};
 pub use pgsolver::{Written, read_pgsolver, try_read_pgsolver, try_write_pgsolver, write_pgsolver};

@@ -1,4 +1,5 @@
 //! Models and games as words, from files and to the library.
+use crate::game::game_words;
 use crate::pgsolver::{bytes_written, most_bytes};
 use crate::{Answer, Game, Refusal, library};
 use std::alloc::{Layout, alloc_zeroed};
@@ -31,7 +32,7 @@ impl Room {
     /// The lengths of the game and work slices, 0 for a room that is refused: it needs no memory.
     pub(crate) fn lengths(&self) -> (usize, usize) {
         let (v, e) = (self.vertices as usize, self.edges as usize);
-        if self.in_range() { (4 + 3 * v + e, 8 * v + 2 * e) } else { (0, 0) }
+        if self.in_range() { (game_words(v, e), 8 * v + 2 * e) } else { (0, 0) }
     }
 }
 
@@ -176,8 +177,8 @@ impl Model {
     }
 }
 
-/// Restricts a game to what its initial vertex reaches, with the proved library. It panics where there is no memory
-/// for the result.
+/// Restricts a game to what its initial vertex reaches, with the proved library; edges keep their counts. It panics
+/// where there is no memory for the result.
 pub fn restrict(game: &[u32]) -> Restricted {
     try_restrict(game).unwrap_or_else(|error| panic!("{error}"))
 }

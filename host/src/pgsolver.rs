@@ -1,4 +1,5 @@
 //! Games as PGSolver text, by the proved library: slices of the right lengths for both calls.
+use crate::game::game_words;
 use crate::model::zeroed;
 use crate::{Answer, Built, Game, NoMemory, Refusal, Room, library};
 
@@ -9,8 +10,8 @@ pub struct Written {
     pub text: Vec<u8>,
 }
 
-/// Writes a game as PGSolver text with the proved library: of equal edges the first stands there, and where the game
-/// begins is not said. It panics where there is no memory for the text.
+/// Writes a game as PGSolver text with the proved library: of equal edges the first stands there; where the game begins
+/// and how many transitions are behind an edge is not said. It panics where there is no memory for the text.
 pub fn write_pgsolver(game: &[u32]) -> Written {
     try_write_pgsolver(game).unwrap_or_else(|error| panic!("{error}"))
 }
@@ -25,8 +26,8 @@ pub fn try_write_pgsolver(game: &[u32]) -> Result<Written, NoMemory> {
     Ok(Written { answer, text })
 }
 
-/// Reads a game from PGSolver text with the proved library; it begins at vertex 0. It panics where there is no memory
-/// for the room.
+/// Reads a game from PGSolver text with the proved library; it begins at vertex 0, and its counts are 0. It panics
+/// where there is no memory for the room.
 pub fn read_pgsolver(text: &[u8], room: Room) -> Built {
     try_read_pgsolver(text, room).unwrap_or_else(|error| panic!("{error}"))
 }
@@ -74,7 +75,7 @@ pub fn bytes_written(answer: &Answer) -> usize {
 pub fn most_bytes(game: &[u32]) -> usize {
     let Some((&[vertices, edges, _], rest)) = game.split_first_chunk::<3>() else { return 0 };
     let (n, m) = (vertices as usize, edges as usize);
-    if game.len() != 4 + 3 * n + m {
+    if game.len() != game_words(n, m) {
         return 0;
     }
     let vertex = digits(vertices.saturating_sub(1));
@@ -99,7 +100,7 @@ mod tests {
         let ends = (0..n).scan(0, |end, vertex| Some(std::mem::replace(end, *end + each(vertex))));
         let targets = (0..n).flat_map(|vertex| (0..each(vertex)).map(|at| n - 1 - at));
         let head = [n, m, 0].into_iter().chain((0..n).map(|_| 1)).chain((0..n).map(|_| u32::MAX));
-        head.chain(ends).chain([m]).chain(targets).collect()
+        head.chain(ends).chain([m]).chain(targets).chain((0..m).map(|_| 0)).collect()
     }
 
     /// A text is no longer than what is lent for it, and that is no longer than the work slice of the least room.

@@ -115,6 +115,13 @@ fn number_reachable(game: &[u32], map: &mut [u32], queue: &mut [u32]) -> usize {
     reached
 }
 
+/// The transitions behind each edge of a vertex.
+fn counts(game: &[u32], vertex: usize) -> &[u32] {
+    let (n, m) = (game[0] as usize, game[1] as usize);
+    let (from, to) = (game[3 + 2 * n + vertex] as usize, game[4 + 2 * n + vertex] as usize);
+    &game[4 + 3 * n + m + from..4 + 3 * n + m + to]
+}
+
 /// Writes the game on the vertices of `order`, and gives its number of edges.
 fn write_restricted(game: &[u32], out: &mut [u32], map: &[u32], order: &[u32]) -> usize {
     let (n, kept) = (game[0] as usize, order.len());
@@ -130,6 +137,12 @@ fn write_restricted(game: &[u32], out: &mut [u32], map: &[u32], order: &[u32]) -
     }
     out[3 + 3 * kept] = edges as u32;
     out[..3].copy_from_slice(&[kept as u32, edges as u32, 0]);
-    out[4 + 3 * kept + edges..].fill(0);
+    let mut end = 4 + 3 * kept + edges;
+    for &old in order {
+        let counts = counts(game, old as usize);
+        out[end..end + counts.len()].copy_from_slice(counts);
+        end += counts.len();
+    }
+    out[end..].fill(0);
     edges
 }

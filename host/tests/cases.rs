@@ -3,7 +3,7 @@
 use hingrezh::check::call::{LIBRARY, PLAIN, perform, unlawful};
 use hingrezh::check::cases;
 use hingrezh::{Answer, FileFault, Model, Party, Refusal, Room};
-use hingrezh::{game_lines, read_pgsolver, restrict, write_pgsolver};
+use hingrezh::{counted_lines, game_lines, game_words, read_pgsolver, restrict, write_pgsolver};
 
 #[test]
 fn worked_cases_and_readings() {
@@ -37,6 +37,9 @@ fn lines_of_case_1() {
     let mut text = Vec::new();
     game_lines(&mut text, &built.answer, &built.game).unwrap();
     assert_eq!(String::from_utf8(text).unwrap(), "done 3 3 3\n0 0 0 1\n1 0 0 2\n2 1 0 0\n");
+    let mut text = Vec::new();
+    counted_lines(&mut text, &built.answer, &built.game).unwrap();
+    assert_eq!(String::from_utf8(text).unwrap(), "done 3 3 3\n0 0 0 1\n1 0 0 2*1\n2 1 0 0\n");
     assert_eq!(restrict(&built.game).game, built.game);
 }
 
@@ -46,7 +49,10 @@ fn text_of_case_1() {
     let written = write_pgsolver(&built.game);
     assert_eq!(written.answer, Answer::Done { steps: 37, vertices: 0, edges: 0 });
     assert_eq!(String::from_utf8(written.text.clone()).unwrap(), "parity 2;\n0 0 0 1;\n1 0 0 2;\n2 0 1 0;\n");
-    assert_eq!(read_pgsolver(&written.text, Room { vertices: 3, edges: 3 }), built);
+    // The text has no counts.
+    let mut uncounted = built.clone();
+    uncounted.game[game_words(3, 3) - 3..].fill(0);
+    assert_eq!(read_pgsolver(&written.text, Room { vertices: 3, edges: 3 }), uncounted);
 }
 
 #[test]

@@ -1,6 +1,6 @@
 //! The command as people use it: options, exit statuses, messages, bounds, a night's folder.
 use hingrezh::{Answer, Game, Model, Player, Refusal, Room, Slices};
-use hingrezh::{bytes_of, read_pgsolver, words_of, write_pgsolver};
+use hingrezh::{bytes_of, game_words, read_pgsolver, restrict, words_of, write_pgsolver};
 use std::fs;
 use std::io::Write;
 use std::path::{Path, PathBuf};
@@ -71,7 +71,7 @@ fn options_and_statuses() {
         let _ = fs::remove_file(at.join("out"));
         let got = hingrezh(at, &format!("build in.words {written}"));
         assert_eq!((status(&got), out(&got)), (0, "done 6 6 7\n".to_string()), "{written}: {}", err(&got));
-        assert_eq!(fs::metadata(at.join("out")).unwrap().len(), 4 * (4 + 3 * 6 + 7), "{written}");
+        assert_eq!(fs::metadata(at.join("out")).unwrap().len(), 4 * game_words(6, 7) as u64, "{written}");
         assert!(!at.join(".out.part").exists());
     }
     let piped = hingrezh(at, "build in.words -o -");
@@ -107,6 +107,13 @@ fn wrong_usage() {
         ("read in.words -o in.words", "the output in.words is the input in.words"),
         ("build in.words --format dot", "--format wants pgsolver, words or lines, not \"dot\""),
         ("night in.words f -o out --format PGSolver", "--format wants pgsolver, words or lines"),
+        ("build in.words --counts=3", "--counts takes no value"),
+        ("build in.words --counts -o out", "--counts is for lines, and the format is words: add --format lines"),
+        ("build in.words --format pgsolver --counts", "--counts is for lines, and the format is pgsolver"),
+        ("restrict in.words --counts --format words", "--counts is for lines, and the format is words"),
+        ("night in.words f -o out --counts", "--counts is for lines, and the format is pgsolver: add --format lines"),
+        ("read in.words --format lines --counts", "no option --counts"),
+        ("show in.words --counts", "no option --counts"),
         ("restrict in.words --map -o -", "--map is a line"),
         ("restrict in.words --map --format pgsolver", "--map is a line"),
         ("build in.words -o in.words", "the output in.words is the input in.words"),
@@ -282,15 +289,19 @@ fn refusals_of_rooms_and_games() {
     for (game, told) in [
         ("1 1", "refused 51 0: a game begins with three words"),
         ("0 0 0 0", "refused 51 0: the game has no vertex"),
-        ("1 1 0 0 0 0 1", "refused 51 0: 1 vertices and 1 edges make 8 words, and there are 7"),
-        ("1 1 0 0 0 1 1 0", "refused 52 5: the edges of vertex 0 begin at 1 and not at 0"),
-        ("2 2 0 0 0 0 0 0 2 1 0 0", "refused 52 9: the edges of vertex 1 begin at 2 and end before it, at 1"),
-        ("1 1 0 0 0 0 0 0", "refused 52 6: the edges of the last vertex, 0, end at 0, and there are 1"),
-        ("1 1 3 0 0 0 1 0", "refused 53 2: the initial vertex is 3, and there is one vertex, number 0"),
-        ("1 1 0 5 0 0 1 0", "refused 53 3: vertex 0 has owner 5; 0 is Even, 1 is Odd"),
-        ("1 1 0 2 0 0 1 0", "refused 53 3: vertex 0 has owner 2; 0 is Even, 1 is Odd"),
+        ("1 1 0 0 0 0 1", "refused 51 0: 1 vertices and 1 edges make 9 words, and there are 7; to be"),
         (
-            "2 2 0 0 0 0 0 0 1 2 0 7",
+            "1 1 0 0 0 0 1 0",
+            "refused 51 0: 1 vertices and 1 edges make 9 words, and there are 8: the edges' counts are missing",
+        ),
+        ("1 1 0 0 0 1 1 0 0", "refused 52 5: the edges of vertex 0 begin at 1 and not at 0"),
+        ("2 2 0 0 0 0 0 0 2 1 0 0 0 0", "refused 52 9: the edges of vertex 1 begin at 2 and end before it, at 1"),
+        ("1 1 0 0 0 0 0 0 0", "refused 52 6: the edges of the last vertex, 0, end at 0, and there are 1"),
+        ("1 1 3 0 0 0 1 0 0", "refused 53 2: the initial vertex is 3, and there is one vertex, number 0"),
+        ("1 1 0 5 0 0 1 0 0", "refused 53 3: vertex 0 has owner 5; 0 is Even, 1 is Odd"),
+        ("1 1 0 2 0 0 1 0 0", "refused 53 3: vertex 0 has owner 2; 0 is Even, 1 is Odd"),
+        (
+            "2 2 0 0 0 0 0 0 1 2 0 7 9 9",
             "refused 53 11: edge 1, from vertex 1, leads to vertex 7, and there are 2 vertices",
         ),
         ("1 0 0 2 0 0 0", "refused 53 3: the game is cut: vertex 0 is still waiting"),
@@ -321,11 +332,11 @@ fn bounds() {
     }
     let endless = limited(20_000, "build /dev/zero");
     assert_eq!((status(&endless), err(&endless).contains("promise 0 words, and more follow")), (65, true));
-    assert!(err(&limited(64_000, "restrict /dev/zero")).contains("more bytes than the 29360144"));
+    assert!(err(&limited(64_000, "restrict /dev/zero")).contains("more bytes than the 46137360"));
     assert_eq!(status(&limited(64_000, "read /dev/zero")), 71);
     input(at, "in.words");
     let no_memory = limited(20_000, "build in.words");
-    assert_eq!((status(&no_memory), err(&no_memory).contains("no memory for slices of 96469008 bytes")), (71, true));
+    assert_eq!((status(&no_memory), err(&no_memory).contains("no memory for slices of 113246224 bytes")), (71, true));
     assert_eq!(status(&limited(20_000, "build in.words --vertices 100 --edges 100")), 0);
     largest(at);
     let got = limited(125_000, "night largest.model largest.formula -o out");
@@ -439,6 +450,73 @@ fn graphs() {
     assert_eq!((status(&large), err(&large).contains("in.game: the game has 2 vertices")), (2, true));
 }
 
+/// From state 0 by label 0 to 1, 1, 0 and 1, by label 1 to 0; state 1 is stuck. Greatest X, the diamond of label 0, X.
+fn counted_input(at: &Path) {
+    file(at, "in.words", &[LABELS, "2 5 0 5 0 0 0 1 0 0 1 1 0 0 1", "1 2 0", "3 7 5 8 0 0 0"]);
+}
+
+/// Counts in lines where they are wanted, in graphs where there are several transitions; in words always.
+#[test]
+fn counts() {
+    let at = &folder("counts");
+    counted_input(at);
+    let plain = "done 6 6 7\n0 0 0 1\n1 0 0 2 3\n2 1 0 4\n3 1 0 0\n4 0 0 5\n5 0 1 5\n";
+    let counted = "done 6 6 7\n0 0 0 1\n1 0 0 2*3 3*1\n2 1 0 4\n3 1 0 0\n4 0 0 5\n5 0 1 5\n";
+    let told = |line: &str, text: &str| {
+        let got = hingrezh(at, line);
+        assert_eq!((status(&got), out(&got), err(&got)), (0, text.to_string(), String::new()), "{line}");
+    };
+    told("build in.words", plain);
+    told("build in.words --counts", counted);
+    told("build in.words --counts --format lines -o -", counted);
+    told("build in.words --counts --format lines -o lines", "done 6 6 7\n");
+    assert_eq!(fs::read_to_string(at.join("lines")).unwrap(), counted);
+    told("build in.words -o game", "done 6 6 7\n");
+    told("restrict game", plain);
+    told("restrict game --counts", counted);
+    told("restrict game --counts --map", &format!("{counted}map 0 1 2 3 4 5\n"));
+    let game = words_of(&fs::read(at.join("game")).unwrap()).unwrap();
+    assert_eq!(Game::of_words(&game).unwrap().counts(1), [3, 1]);
+    let cut = hingrezh(at, "build in.words --limit 2 --counts");
+    assert_eq!((status(&cut), out(&cut)), (3, "cut 2 4 3\n0 0 0 1\n1 0 0 2*3 3*1\n2 2 0\n3 2 0\n".to_string()));
+    // A text has no counts, and is read with none.
+    told("build in.words --format pgsolver -o text", "done 6 6 7\n");
+    told("read text --format lines", plain);
+    told("read text -o again", "done 6 6 7\n");
+    told("restrict again --counts", plain);
+    // Any number is a count: it is copied and shown.
+    fs::write(at.join("any"), bytes_of(&words("2 3 1 0 1 0 0 0 1 3 0 1 1 5 4294967295 0"))).unwrap();
+    told("restrict any --counts", "done 1 1 2\n0 1 0 0*4294967295 0\n");
+}
+
+#[test]
+fn counts_in_graphs() {
+    let at = &folder("counted-graphs");
+    counted_input(at);
+    let got = hingrezh(at, "dot in.words");
+    assert_eq!((status(&got), err(&got)), (0, String::new()));
+    let edges: Vec<String> = out(&got).lines().filter(|line| line.contains("->")).map(str::to_string).collect();
+    let other = ["  0 -> 1;", "  1 -> 2 [label=3];", "  1 -> 3;", "  2 -> 4;", "  3 -> 0;", "  4 -> 5;", "  5 -> 5;"];
+    assert_eq!((edges[0].as_str(), &edges[1..]), ("  start -> 0;", &other.map(str::to_string)[..]));
+    assert_eq!(status(&hingrezh(at, "build in.words -o game")), 0);
+    assert_eq!(out(&hingrezh(at, "dot game")), out(&got));
+    // A game as it was before edges had counts.
+    let game = fs::read(at.join("game")).unwrap();
+    fs::write(at.join("old"), &game[..game.len() - 4 * 7]).unwrap();
+    let old = hingrezh(at, "dot old");
+    let told =
+        "old: refused 51 0: 6 vertices and 7 edges make 36 words, and there are 29: the edges' counts are missing";
+    assert_eq!((status(&old), err(&old).contains(told)), (2, true), "{}", err(&old));
+}
+
+/// A game's words with all counts 0, as they are read from its text.
+fn uncounted(game: &[u8]) -> Vec<u8> {
+    let mut words = words_of(game).unwrap();
+    let counts = words.len() - words[1] as usize;
+    words[counts..].fill(0);
+    bytes_of(&words)
+}
+
 /// The game of `input`.
 const TEXT: &str = "parity 5;\n0 0 0 1;\n1 0 1 2,3;\n2 0 1 0;\n3 0 1 4;\n4 0 0 5;\n5 0 1 3;\n";
 
@@ -463,9 +541,10 @@ fn formats() {
         fs::write(at.join("game"), &words).unwrap();
         fs::write(at.join("text"), TEXT).unwrap();
         assert_eq!(hingrezh(at, &format!("restrict game --format {format}")).stdout, whole, "{format}");
-        assert_eq!(hingrezh(at, &format!("read text --format {format}")).stdout, whole, "{format}");
+        let read = hingrezh(at, &format!("read text --format {format}")).stdout;
+        assert_eq!(read, if format == "words" { uncounted(whole) } else { whole.to_vec() }, "{format}");
     }
-    assert_eq!(hingrezh(at, "read text").stdout, words);
+    assert_eq!(hingrezh(at, "read text").stdout, uncounted(&words));
     let mapped = hingrezh(at, "restrict game --map --format pgsolver -o out");
     assert_eq!(out(&mapped), "done 6 6 7\nmap 0 1 2 3 4 5\n", "{}", err(&mapped));
     assert_eq!(fs::read_to_string(at.join("out")).unwrap(), TEXT);
@@ -501,7 +580,7 @@ fn texts_that_are_read() {
     assert_eq!(out(&hingrezh(at, "read a.pg --format pgsolver")), "parity 1;\n0 2 0 1;\n1 4294967295 1 0,1;\n");
     let got = hingrezh(at, "read a.pg --vertices 2 --edges 3 -o a.game");
     assert_eq!((status(&got), out(&got)), (0, "done 2 2 3\n".to_string()), "{}", err(&got));
-    assert_eq!(fs::read(at.join("a.game")).unwrap(), bytes_of(&words("2 3 0 0 1 2 4294967295 0 1 3 1 0 1")));
+    assert_eq!(fs::read(at.join("a.game")).unwrap(), bytes_of(&words("2 3 0 0 1 2 4294967295 0 1 3 1 0 1 0 0 0")));
     for command in ["restrict", "dot"] {
         let got = hingrezh(at, &format!("{command} a.pg"));
         let told = "a.pg: this is PGSolver text; `hingrezh read` makes a game's words of it";
@@ -565,7 +644,7 @@ fn refusals_of_rooms_of_texts_and_of_stuck_games() {
         assert!(err(&got).contains(told), "{options}: {}", err(&got));
     }
     assert_eq!(status(&hingrezh(at, "read a.pg --vertices 2 --edges 3 -o a.game")), 0);
-    fs::write(at.join("stuck.game"), bytes_of(&words("3 1 2 0 0 0 0 0 0 0 0 0 1 1"))).unwrap();
+    fs::write(at.join("stuck.game"), bytes_of(&words("3 1 2 0 0 0 0 0 0 0 0 0 1 1 1"))).unwrap();
     let got = hingrezh(at, "restrict stuck.game --format pgsolver -o out");
     assert_eq!((status(&got), out(&got), at.join("out").exists()), (2, String::new(), false));
     let told = "stuck.game: refused 98 0: in the restricted game vertex 1 has no successors, and in PGSolver text";
@@ -623,7 +702,7 @@ fn files_in(folder: &Path) -> Vec<String> {
     names
 }
 
-/// A game's words with the first of equal edges alone.
+/// A game's words with the first of equal edges alone and all counts 0.
 fn without_repeats(words: &[u32]) -> Vec<u32> {
     let game = Game::of_words(words).unwrap();
     let n = game.vertices() as usize;
@@ -633,7 +712,8 @@ fn without_repeats(words: &[u32]) -> Vec<u32> {
         targets.extend(successors.filter(|(at, to)| !game.successors(vertex)[..*at].contains(to)).map(|(_, &to)| to));
         offsets.push(targets.len() as u32);
     }
-    [&[words[0], targets.len() as u32, 0], &words[3..3 + 2 * n], &offsets[..], &targets[..]].concat()
+    let counts = vec![0; targets.len()];
+    [&[words[0], targets.len() as u32, 0], &words[3..3 + 2 * n], &offsets[..], &targets[..], &counts[..]].concat()
 }
 
 /// Each format has its ending, and old games in another one are gone; what was written is read back.
@@ -650,8 +730,12 @@ fn a_night_in_each_format() {
     };
     assert!(night("--format lines").ends_with("; format lines"));
     assert_eq!(files_in(&at.join("out")), ["long.lines", "manifest", "twice.lines"]);
-    let lines = fs::read_to_string(at.join("out/long.lines")).unwrap();
-    assert_eq!(lines, out(&hingrezh(at, "build plan.model long.words")));
+    let lines = || fs::read_to_string(at.join("out/long.lines")).unwrap();
+    assert_eq!(lines(), out(&hingrezh(at, "build plan.model long.words")));
+    assert!(night("--format lines --counts").ends_with("; format lines with counts"));
+    assert_eq!(files_in(&at.join("out")), ["long.lines", "manifest", "twice.lines"]);
+    assert_eq!(lines(), out(&hingrezh(at, "build plan.model long.words --counts")));
+    assert!(lines().contains("\n1 1 0 2*1 3*1\n"), "{}", lines());
     assert!(night("--format=words").ends_with("; format words"));
     assert_eq!(files_in(&at.join("out")), ["long.game", "manifest", "twice.game"]);
     let games = ["long", "twice"].map(|name| fs::read(at.join(format!("out/{name}.game"))).unwrap());
@@ -661,7 +745,7 @@ fn a_night_in_each_format() {
         let got = hingrezh(at, &format!("read out/{name}.pg"));
         let words = words_of(&game).unwrap();
         assert_eq!((status(&got), got.stdout), (0, bytes_of(&without_repeats(&words))), "{name}");
-        assert_eq!(without_repeats(&words) == words, name == "long");
+        assert_eq!(without_repeats(&words)[1] == words[1], name == "long");
     }
     // A formula's own file is not removed, whatever its ending is.
     fs::copy(at.join("long.words"), at.join("out/other.lines")).unwrap();
@@ -785,7 +869,7 @@ fn standard_input() {
     let text = hingrezh(at, "build in.words --format pgsolver -o -");
     let words = fed(at, "read -", &text.stdout);
     assert_eq!((status(&words), err(&words)), (0, "hingrezh: done 6 6 7\n".to_string()));
-    assert_eq!(words.stdout, hingrezh(at, "build in.words -o -").stdout);
+    assert_eq!(words.stdout, uncounted(&hingrezh(at, "build in.words -o -").stdout));
     assert_eq!(fed(at, "restrict -", &words.stdout).stdout, hingrezh(at, "build in.words").stdout);
     assert_eq!(fed(at, "dot -", &words.stdout).stdout, hingrezh(at, "dot in.words").stdout);
     let got = fed(at, "read -", b"parity");
@@ -826,7 +910,7 @@ fn texts_by_the_library() {
     assert_eq!(Room::of_text(&text), Room { vertices: 6, edges: 7 });
     for room in [room, Room::of_text(&text), Room::MOST] {
         let read = read_pgsolver(&text, room);
-        assert_eq!((read.answer, &read.game), (built.answer, &built.game));
+        assert_eq!((read.answer, bytes_of(&read.game)), (built.answer, uncounted(&bytes_of(&built.game))));
     }
     let refused = |number: u32, place: u32| Answer::Refused(Refusal { number, place });
     assert_eq!(read_pgsolver(&text, Room { vertices: 6, edges: 6 }).answer, refused(93, 0));
@@ -857,13 +941,22 @@ fn games_by_vertex() {
     assert_eq!((game.vertices(), game.edges(), game.initial(), game.is_cut()), (4, 5, 0, false));
     assert_eq!((game.owner(0), game.priority(0), game.successors(0)), (Some(Player::Odd), 1, &[1][..]));
     assert_eq!((game.owner(1), game.priority(1), game.successors(1)), (Some(Player::Even), 0, &[2, 3][..]));
+    assert_eq!((game.counts(0), game.counts(1)), (&[0][..], &[0, 0][..]));
     let cut = model.build(Room { vertices: 10, edges: 10 }, 1);
     assert_eq!((cut.view().unwrap().first_waiting(), cut.view().unwrap().owner(1)), (Some(1), None));
     let wrong = |text: &str| Game::of_words(&words(text)).map(|_| ());
-    assert_eq!(wrong("1 1 0 2 0 0 1 0"), Err(Refusal { number: 53, place: 3 }));
-    assert_eq!(wrong("1 1 0 0 0 0 1 1"), Err(Refusal { number: 53, place: 7 }));
-    assert_eq!(wrong("1 1 0 0 0 0 2 0"), Err(Refusal { number: 52, place: 6 }));
-    assert_eq!(wrong("1 1 0 0 0 0 1"), Err(Refusal { number: 51, place: 0 }));
+    assert_eq!(wrong("1 1 0 2 0 0 1 0 0"), Err(Refusal { number: 53, place: 3 }));
+    assert_eq!(wrong("1 1 0 0 0 0 1 1 0"), Err(Refusal { number: 53, place: 7 }));
+    assert_eq!(wrong("1 1 0 0 0 0 2 0 0"), Err(Refusal { number: 52, place: 6 }));
+    assert_eq!(wrong("1 1 0 0 0 0 1 0"), Err(Refusal { number: 51, place: 0 }));
+    assert_eq!(wrong("1 1 0 0 0 0 1 0 4294967295"), Ok(()));
+    // Three transitions from vertex 0 to 1 and one to 0; vertex 1 has an added loop. The restriction keeps the counts.
+    let model = Model { system: words("2 4 0 4 0 0 0 1 0 1 1 0 1"), formula: words("2 5 0 0 0"), ..model };
+    let built = model.build(Room { vertices: 10, edges: 10 }, u32::MAX);
+    for game in [built.view().unwrap(), restrict(&built.game).view().unwrap()] {
+        assert_eq!((game.successors(1), game.counts(1)), (&[2, 3][..], &[3, 1][..]));
+        assert_eq!((game.successors(2), game.counts(2)), (&[2][..], &[0][..]));
+    }
     let error: Box<dyn std::error::Error> = Box::new(Refusal { number: 23, place: 2 });
     assert!(error.to_string().contains("initial state"));
 }

@@ -25,16 +25,18 @@ static void check(int holds, const char *what)
 
 #define CHECK(claim) check((claim), #claim)
 
-/* A state with a loop, and "for ever the action is possible": the game is 0 -> 1 -> 2 -> 0. */
+/* A state with two loops, and "for ever the action is possible": the game is 0 -> 1 -> 2 -> 0, and the diamond's edge,
+ * that from 1 to 2, stands for both loops. */
 static const uint32_t LABELS[HINGREZH_LABEL_WORDS(1)] = {1, 1, 0, 7};
-static const uint32_t SYSTEM[HINGREZH_SYSTEM_WORDS(1, 1)] = {1, 1, 0, 1, 0, 0};
+static const uint32_t SYSTEM[HINGREZH_SYSTEM_WORDS(1, 2)] = {1, 2, 0, 2, 0, 0, 0, 0};
 static const uint32_t ACTIONS[HINGREZH_NODE_WORDS(1)] = {1, 2, 0};
 static const uint32_t FORMULA[HINGREZH_NODE_WORDS(3)] = {3, 7, 5, 8, 0, 0, 0};
-static const uint32_t GAME[HINGREZH_GAME_WORDS(3, 3)] = {3, 3, 0, 0, 0, 1, 0, 0, 0, 0, 1, 2, 3, 1, 2, 0};
+static const uint32_t GAME[HINGREZH_GAME_WORDS(3, 3)] = {3, 3, 0, 0, 0, 1, 0, 0, 0, 0, 1, 2, 3, 1, 2, 0, 0, 2, 0};
 
-/* The same as PGSolver text. */
+/* The same as PGSolver text, and what is read from it: the counts are not in the text. */
 static const char TEXT[] = "parity 2;\n0 0 0 1;\n1 0 0 2;\n2 0 1 0;\n";
 #define TEXT_LEN (sizeof TEXT - 1)
+static const uint32_t UNCOUNTED[HINGREZH_GAME_WORDS(3, 3)] = {3, 3, 0, 0, 0, 1, 0, 0, 0, 0, 1, 2, 3, 1, 2, 0, 0, 0, 0};
 
 static int answered(const uint32_t *answer, uint32_t kind, uint32_t first, uint32_t second, uint32_t third)
 {
@@ -141,6 +143,7 @@ static void the_longest_text(void)
         game[3 + n + v] = UINT32_MAX - v;
         game[3 + 2 * n + v] = v;
         game[4 + 3 * n + v] = n - 1 - v;
+        game[4 + 4 * n + v] = 0;
     }
     game[3 + 3 * n] = n;
     hingrezh_write_pgsolver(game, words, text, most, answer);
@@ -165,19 +168,19 @@ static void a_text_read(void)
     uint32_t answer[HINGREZH_ANSWER_WORDS];
     read_text(TEXT, game, answer);
     CHECK(answered(answer, HINGREZH_DONE, 3, 3, 3));
-    CHECK(memcmp(game, GAME, sizeof GAME) == 0);
+    CHECK(memcmp(game, UNCOUNTED, sizeof UNCOUNTED) == 0);
     CHECK(all_zero(game, HINGREZH_GAME_WORDS(3, 3), HINGREZH_GAME_WORDS(V, E)));
     memset(game, 7, HINGREZH_GAME_WORDS(V, E) * sizeof(uint32_t));
     read_text("parity 2;\n2 0 1 0,0 \"third; and last\";\n0 0 0 1 \"\";\n1 0 0 2;\n", game, answer);
     CHECK(answered(answer, HINGREZH_DONE, 3, 3, 3));
-    CHECK(memcmp(game, GAME, sizeof GAME) == 0);
+    CHECK(memcmp(game, UNCOUNTED, sizeof UNCOUNTED) == 0);
     free(game);
 }
 
 /* Each number of refusals, with the slices as they were. */
 static void refused_texts(void)
 {
-    static const uint32_t stuck[] = {2, 1, 0, 1, 1, 0, 0, 0, 1, 1, 1};
+    static const uint32_t stuck[] = {2, 1, 0, 1, 1, 0, 0, 0, 1, 1, 1, 1};
     static const uint32_t cut[] = {1, 0, 0, 2, 0, 0, 0};
     uint32_t *game = lent(HINGREZH_GAME_WORDS(V, E));
     uint8_t text[64];
@@ -187,6 +190,9 @@ static void refused_texts(void)
     CHECK(answered(answer, HINGREZH_REFUSED, 98, 0, 0));
     hingrezh_write_pgsolver(cut, sizeof cut / 4, text, sizeof text, answer);
     CHECK(answered(answer, HINGREZH_REFUSED, 53, 3, 0));
+    /* A game without its counts. */
+    hingrezh_write_pgsolver(GAME, HINGREZH_GAME_WORDS(3, 3) - 3, text, sizeof text, answer);
+    CHECK(answered(answer, HINGREZH_REFUSED, 51, 0, 0));
     CHECK(text[0] == 7 && text[63] == 7);
     memset(game, 7, HINGREZH_GAME_WORDS(V, E) * sizeof(uint32_t));
     read_text("parity 0;\n0 0 2 0;\n", game, answer);
@@ -244,7 +250,7 @@ static void *many_runs(void *same)
         hingrezh_write_pgsolver(GAME, HINGREZH_GAME_WORDS(3, 3), text, TEXT_LEN, answer);
         *good = *good && answered(answer, HINGREZH_DONE, TEXT_LEN, 0, 0) && memcmp(text, TEXT, TEXT_LEN) == 0;
         read_text(TEXT, game, answer);
-        *good = *good && answered(answer, HINGREZH_DONE, 3, 3, 3) && memcmp(game, GAME, sizeof GAME) == 0;
+        *good = *good && answered(answer, HINGREZH_DONE, 3, 3, 3) && memcmp(game, UNCOUNTED, sizeof UNCOUNTED) == 0;
     }
     free(game);
     free(work);
@@ -281,7 +287,8 @@ static void macros(void)
     CHECK(strcmp(version, HINGREZH_VERSION) == 0);
     CHECK(strcmp(version, EXPECTED) == 0);
     /* Sums beyond 32 bits. */
-    CHECK(HINGREZH_GAME_WORDS(UINT32_MAX, UINT32_MAX) == (size_t)17179869184);
+    CHECK(HINGREZH_GAME_WORDS(UINT32_MAX, UINT32_MAX) == (size_t)21474836479);
+    CHECK(HINGREZH_GAME_WORDS(HINGREZH_MOST_VERTICES, HINGREZH_MOST_EDGES) == (size_t)11534340);
     CHECK(HINGREZH_WORK_WORDS(HINGREZH_MOST_VERTICES, HINGREZH_MOST_EDGES) == (size_t)16777216);
     CHECK(HINGREZH_SYSTEM_WORDS(HINGREZH_MOST_STATES, HINGREZH_MOST_TRANSITIONS) == (size_t)589826);
     CHECK(HINGREZH_LABEL_WORDS(HINGREZH_MOST_ACTIONS) == (size_t)32770);

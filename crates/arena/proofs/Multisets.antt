@@ -1,5 +1,6 @@
--- Multisets: permuting a label's actions or naming an equal label changes no tree, no item, no target and no word of a
--- run; renaming actions changes no tree, item or target of a state. Assumes nothing.
+-- Multisets: permuting a label's actions or naming an equal label changes no tree, no item, no target, no number of
+-- transitions behind an edge and no word of a run; renaming actions changes no tree, item, target or such number of a
+-- state. Assumes nothing.
 use mathlib.Core.Path.{_≡_, refl, sym, _∙_}
 use mathlib.Core.Logic.{_⊎_, inl, inr, _↔_}
 use mathlib.Core.Bool.{true, _&&_}
@@ -20,7 +21,7 @@ use Rattle.rules.specs.Actions.{actionTree}
 use Rattle.rules.specs.Formula.{Formula, formulaTree}
 use Rattle.rules.specs.Depth.{Ranking, byDepth}
 use Rattle.rules.specs.Items.{items, itemNumber}
-use Rattle.rules.specs.Pairs.{Pair, owner, targets}
+use Rattle.rules.specs.Pairs.{Pair, owner, targets, transitionsBehind}
 use Rattle.rules.specs.Run.{run}
 use Rattle.tables.specs.Good.{GoodLabels, GoodActions, GoodInput}
 use Rattle.labels.proofs.Counts.{flags, tally-some}
@@ -28,7 +29,8 @@ use Rattle.labels.proofs.Alike.{same-times, times-same}
 use Rattle.arena.specs.Reworded.{reworded, SameRanks, SameCounts, SameMultisets, SameActions}
 use Rattle.lists.proofs.Ranges.{same-seek}
 use Rattle.arena.proofs.Inside.{transition-inside}
-use Rattle.arena.proofs.SameTrees.{same-actions, same-formulas, same-items, same-numbers, same-owners, same-ranks, same-targets, same-run}
+use Rattle.arena.proofs.SameTrees.{same-actions, same-formulas, same-items, same-numbers, same-owners}
+use Rattle.arena.proofs.SameTrees.{same-ranks, same-targets, same-behind, same-run}
 use Rattle.arena.proofs.SameRefusals.{relabelled-refusal, renamed-refusal}
 use Rattle.lists.proofs.Tests.{and-true}
 
@@ -118,6 +120,14 @@ module _ (x : Input) (good : GoodInput x) (ls′ : List ℕ) (same : SameMultise
       (transition-inside (labelCount (x .labels)) (x .system) (good .system) s h t m .0))
       q
 
+  pub relabelled-behind : (s q : ℕ) (r : Pair) → s < stateCount (x .system)
+      → transitionsBehind (reworded x ls′ (x .actions)) (s, q) r ≡ transitionsBehind x (s, q) r
+  relabelled-behind s q r h =
+      same-behind x ls′ (x .actions) relabelled-actions s
+      (λ t m. same-multisets (x .labels) ls′ same (transitionLabel (x .system) t)
+      (transition-inside (labelCount (x .labels)) (x .system) (good .system) s h t m .0))
+      q r
+
 -- permuting actions within labels changes no word of a run, by any ranking that ranks the equations of both inputs
 -- alike; so by depth
 pub permuted-run : (x : Input) → GoodInput x → (ls′ : List ℕ) → GoodLabels ls′ → SameCounts (x .labels) ls′
@@ -149,6 +159,9 @@ module _ (x : Input) (acts′ : List ℕ) (same : SameActions (x .labels) (x .la
 
   pub renamed-targets : (p : Pair) → targets (reworded x (x .labels) acts′) p ≡ targets x p
   renamed-targets p = same-targets x (x .labels) acts′ renamed-actions (p .0) (λ t m. refl) (p .1)
+
+  pub renamed-behind : (p q : Pair) → transitionsBehind (reworded x (x .labels) acts′) p q ≡ transitionsBehind x p q
+  renamed-behind p q = same-behind x (x .labels) acts′ renamed-actions (p .0) (λ t m. refl) (p .1) q
 
   pub renamed-ranks : SameRanks byDepth x (reworded x (x .labels) acts′)
   renamed-ranks = same-ranks x (x .labels) acts′ renamed-actions

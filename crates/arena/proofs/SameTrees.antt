@@ -1,6 +1,6 @@
 -- Labels and action formulas in other words: if each action formula has the same tree and each label the same multiset,
--- then items, owners, targets and depths are the same, and for every ranking that gives both inputs the same ranks the
--- whole run is. Assumes nothing.
+-- then items, owners, targets with the transitions behind them, and depths are the same, and for every ranking that
+-- gives both inputs the same ranks the whole run is. Assumes nothing.
 use mathlib.Core.Path.{_≡_, refl, sym, ap, ap₂, _∙_}
 use mathlib.Core.Bool.{cond}
 use mathlib.Core.List.{List, [], _∷_, _++_, map}
@@ -10,7 +10,7 @@ use native.Mathlib.Omega.{arith}
 use lib.Dec.{eqb, ltb}
 use lib.ListN.{getD, length}
 use Rattle.rules.specs.declared.Check.{Check}
-use Rattle.rules.specs.Lists.{In, largest, position, once}
+use Rattle.rules.specs.Lists.{In, largest, occurrences, position, once}
 use Rattle.rules.specs.declared.Room.{Room}
 use Rattle.rules.specs.Words.{Input}
 use Rattle.rules.specs.Labels.{multiset}
@@ -24,6 +24,7 @@ use Rattle.rules.specs.Depth.{references, contribution, readingTo, reading, dep
 use Rattle.rules.specs.Items.{alike, Item, equation, subformula, subformulas, items, itemNumber}
 use Rattle.rules.specs.Pairs.{Pair, samePair, initialPair, itemAt, itemOwner, owner, priority, matchingTransitions}
 use Rattle.rules.specs.Pairs.{successors, formulaTargets, itemTargets, targets}
+use Rattle.rules.specs.Pairs.{formulaTransitions, itemTransitions, modalTransitions, transitionsBehind}
 use Rattle.rules.specs.Walk.{Stand, walk}
 use Rattle.rules.specs.Game.{Vertex, vertices}
 use Rattle.rules.specs.Refusal.{refusal}
@@ -172,11 +173,42 @@ module _ (x : Input) (ls′ acts′ : List ℕ) (trees : (v : ℕ) → actionTre
     unfolding targets
     same-targets q = item-targets-same (itemAt (reworded x ls′ acts′) q) ∙ ap (itemTargets x s) (same-item-at q)
 
+    -- and the transitions behind each edge
+
+    formula-transitions-same : (t : Formula) → formulaTransitions (reworded x ls′ acts′) s t ≡ formulaTransitions x s t
+    unfolding formulaTransitions
+    formula-transitions-same truth = refl
+    formula-transitions-same falsity = refl
+    formula-transitions-same (conjunction l r) = refl
+    formula-transitions-same (disjunction l r) = refl
+    formula-transitions-same (box a b) = same-matching a
+    formula-transitions-same (diamond a b) = same-matching a
+    formula-transitions-same (reference j) = refl
+
+    item-transitions-same : (i : Item) → itemTransitions (reworded x ls′ acts′) s i ≡ itemTransitions x s i
+    unfolding itemTransitions
+    item-transitions-same (equation e) = refl
+    item-transitions-same (subformula t) = formula-transitions-same t
+
+    pub same-transitions : (q : ℕ) → modalTransitions (reworded x ls′ acts′) (s, q) ≡ modalTransitions x (s, q)
+    unfolding modalTransitions
+    same-transitions q =
+        item-transitions-same (itemAt (reworded x ls′ acts′) q) ∙ ap (itemTransitions x s) (same-item-at q)
+
+    pub same-behind : (q : ℕ) (r : Pair)
+        → transitionsBehind (reworded x ls′ acts′) (s, q) r ≡ transitionsBehind x (s, q) r
+    unfolding transitionsBehind
+    same-behind q r =
+        ap (λ (ts : List ℕ). occurrences eqb (r .0) (map (transitionTarget (x .system)) ts)) (same-transitions q)
+
   -- ---- runs, where all labels have the same multisets
 
   module _ (names : (l : ℕ) → multiset ls′ l ≡ multiset (x .labels) l) where
     all-targets : targets (reworded x ls′ acts′) ≡ targets x
     all-targets i p = same-targets (p .0) (λ t m. names (transitionLabel (x .system) t)) (p .1) i
+
+    all-behind : transitionsBehind (reworded x ls′ acts′) ≡ transitionsBehind x
+    all-behind i p q = same-behind (p .0) (λ t m. names (transitionLabel (x .system) t)) (p .1) q i
 
     pub same-walk : (k : ℕ) → walkOf (reworded x ls′ acts′) k ≡ walkOf x k
     unfolding walkOf
@@ -187,7 +219,7 @@ module _ (x : Input) (ls′ acts′ : List ℕ) (trees : (v : ℕ) → actionTre
       unfolding verticesOf
       same-vertices st i =
           vertices samePair (all-targets i) (initialPair x) (λ p. same-owners p i)
-          (λ p. same-priorities rank ranks p i) st
+          (λ p. same-priorities rank ranks p i) (all-behind i) st
 
       -- the run is word for word the same, if both are refused or accepted alike
       pub same-run : (r : Room) (k : ℕ) (game work : List ℕ)

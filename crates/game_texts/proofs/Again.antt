@@ -57,8 +57,9 @@ module _ {r : Room} {bytes : List ℕ} {n : ℕ} (t : SolverText) (c : Readable 
       → (ownerIn g (l .number) ≡ l .owner) × (priorityIn g (l .number) ≡ l .priority)
       × (targetsIn g (l .number) ≡ once eqb (l .successors))
   row l i =
+      let (a, b, d, e) = read-row t c [] l i in
       subst (λ (x : List ℕ). (ownerIn x (l .number) ≡ l .owner) × (priorityIn x (l .number) ≡ l .priority)
-      × (targetsIn x (l .number) ≡ once eqb (l .successors))) plain (read-row t c [] l i)
+      × (targetsIn x (l .number) ≡ once eqb (l .successors))) plain (a, b, d)
 
   -- what holds of the vertex of every line holds of every vertex
   each-vertex : (P : ℕ → Type 0) → ((l : SolverLine) → In l (t .lines) → P (l .number)) → (v : ℕ) → v < suc (t .highest)

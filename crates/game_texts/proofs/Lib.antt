@@ -8,6 +8,7 @@ pub mod Saying
 pub mod WritingDemands
 pub mod Readable
 pub mod ReadingDemands
+pub mod Shown
 pub mod Removing
 pub mod RoundTrip
 pub mod Again

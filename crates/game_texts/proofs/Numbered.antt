@@ -6,12 +6,13 @@ use mathlib.Core.Path.{_≡_, refl, sym, ap, _∙_, subst}
 use mathlib.Core.List.{List, [], _∷_, map}
 use mathlib.Core.Logic.{inl, inr}
 use lib.ListN.{length, length-map}
+use lib.Dec.{eqb}
 use borrow.Author.Tests.{eq-eqb, ne-eqb}
-use Rattle.rules.specs.Lists.{In, Distinct, from, sum, one}
+use Rattle.rules.specs.Lists.{In, Distinct, from, sum, one, occurrences}
 use Rattle.rules.specs.Game.{Vertex, edgeCount}
 use Rattle.lists.proofs.Members.{in-map, map-in}
 use Rattle.lists.proofs.Ranges.{from-length, from-in}
-use Rattle.lists.proofs.Occurrences.{count, alike-sums, alike-all}
+use Rattle.lists.proofs.Occurrences.{alike-sums, alike-all, occurs-not}
 use Rattle.rules.specs.Pgsolver.{SolverLine, SolverText}
 use Rattle.rules.specs.PgsolverReading.{vertexOf, vertexNamed, numbersOf}
 use Rattle.restrictions.proofs.Kept.{from-distinct}
@@ -31,16 +32,11 @@ named (l ∷ ls) x d (inr i) =
 
 -- ---- as many edges by line as by vertex
 
-count-none : (z : ℕ) (xs : List ℕ) → (¬ In z xs) → count z xs ≡ 0
-unfolding count
-count-none z [] n = refl
-count-none z (x ∷ xs) n = omega (arith, count-none z xs (λ i. n (inr i)), ap one (ne-eqb x z (λ e. n (inl (sym e)))))
-
-count-one : (z : ℕ) (xs : List ℕ) → Distinct xs → In z xs → count z xs ≡ 1
-unfolding count
+count-one : (z : ℕ) (xs : List ℕ) → Distinct xs → In z xs → occurrences eqb z xs ≡ 1
+unfolding occurrences
 count-one z [] d i = absurd i
 count-one z (x ∷ xs) d (inl e) =
-    omega (arith, count-none z xs (λ j. d .0 (subst (λ (w : ℕ). In w xs) e j)), ap one (eq-eqb x z (sym e)))
+    omega (arith, occurs-not z xs (λ j. d .0 (subst (λ (w : ℕ). In w xs) e j)), ap one (eq-eqb x z (sym e)))
 count-one z (x ∷ xs) d (inr i) =
     omega (arith, count-one z xs (d .1) i, ap one (ne-eqb x z (λ e. d .0 (subst (λ (w : ℕ). In w xs) (sym e) i))))
 

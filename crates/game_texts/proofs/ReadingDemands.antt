@@ -7,9 +7,9 @@ use lib.ListN.{length, replicate}
 use lib.Dec.{eqb}
 use Rattle.rules.specs.declared.Answer.the-variants.{Done}
 use Rattle.rules.specs.declared.Room.{Room}
-use Rattle.rules.specs.Lists.{In, once}
+use Rattle.rules.specs.Lists.{zeros, In, once}
 use Rattle.rules.specs.Game.{Edge, Vertex, waitingVertex, edgeCount, gameOf, padded, vertexCount, edgesIn, initialIn}
-use Rattle.rules.specs.Game.{ownerIn, priorityIn, targetsIn}
+use Rattle.rules.specs.Game.{ownerIn, priorityIn, targetsIn, countsIn}
 use Rattle.rules.specs.Pgsolver.{SolverLine, SolverText}
 use Rattle.rules.specs.PgsolverCalls.{ReadsGame, ReadingDemand}
 use Rattle.rules.specs.PgsolverReading.{vertexOf, readVertices, Readback, readAs, readGame}
@@ -19,6 +19,7 @@ use Rattle.games.proofs.Rewriting.{Whole}
 use Rattle.theorems.proofs.Read.{whole-game}
 use Rattle.restrictions.proofs.Restriction.{padded-length}
 use Rattle.game_texts.proofs.Parsing.{parse-says}
+use Rattle.game_texts.proofs.Saying.{counts-plain}
 use Rattle.game_texts.proofs.ReadingExact.{reading-exact, reading-passed}
 use Rattle.game_texts.proofs.Readable.{Readable, reading-readable, readable-done, reading-refused}
 use Rattle.game_texts.proofs.Readable.{read-passes, read-length, line-of, read-at, read-fits}
@@ -32,6 +33,7 @@ module _ {r : Room} {bytes : List ℕ} {n : ℕ} (t : SolverText) (c : Readable 
       → (ownerIn (gameOf 0 (readVertices t) ++ rest) (l .number) ≡ l .owner)
       × (priorityIn (gameOf 0 (readVertices t) ++ rest) (l .number) ≡ l .priority)
       × (targetsIn (gameOf 0 (readVertices t) ++ rest) (l .number) ≡ once eqb (l .successors))
+      × (countsIn (gameOf 0 (readVertices t) ++ rest) (l .number) ≡ zeros (once eqb (l .successors)))
   unfolding vertexOf
   read-row rest l i =
       let k : l .number < length vs = omega (arith, read-length t c, read-passes t c .inside l i .0) in
@@ -41,6 +43,9 @@ module _ {r : Room} {bytes : List ℕ} {n : ℕ} (t : SolverText) (c : Readable 
         edge-words-read 0 vs rest 0 (l .number) waitingVertex (omega arith) k
             ∙ ap (λ (v : Vertex). map (λ (z : Edge). z .target) (v .edges)) e
             ∙ targets-plain (once eqb (l .successors)),
+        edge-words-read 0 vs rest 1 (l .number) waitingVertex (omega arith) k
+            ∙ ap (λ (v : Vertex). map (λ (z : Edge). z .count) (v .edges)) e
+            ∙ counts-plain (once eqb (l .successors)),
       )
 
   abbrev h : List ℕ
@@ -73,6 +78,7 @@ module _ {r : Room} {bytes : List ℕ} {n : ℕ} (t : SolverText) (c : Readable 
         owners = λ l i. read-row rest l i .0;
         priorities = λ l i. read-row rest l i .1;
         edges = λ l i. read-row rest l i .2;
+        counts = λ l i. read-row rest l i .3;
         given = λ v k. line-of t c v (omega (arith, counts, read-length t c));
         begins = whole .begins;
         follows = whole .follows;

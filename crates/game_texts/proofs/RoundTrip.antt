@@ -1,5 +1,6 @@
 -- The round trip (document 02, #101: "Writing a game that starts at 0 and reading it into room that holds it gives that
--- game with repeated edges removed"): for every game that has no fault in writing. Assumes nothing.
+-- game with repeated edges removed"; #102: "the text's round trip now speaks only of what it shows": every count that
+-- comes back is 0), for every game that has no fault in writing. Assumes nothing.
 use Prim.Native.Nat.{ℕ, suc, _-_, _≤_, _<_}
 use native.Mathlib.Omega.{arith}
 use native.Mathlib.Decide.{ℕ-discrete}
@@ -12,12 +13,12 @@ use borrow.Author.Tests.{lt-ltb, le-ltb}
 use Rattle.rules.specs.declared.Answer.the-variants.{Done}
 use Rattle.rules.specs.declared.Check.the-variants.{Passed}
 use Rattle.rules.specs.declared.Room.{Room}
-use Rattle.rules.specs.Lists.{Distinct}
+use Rattle.rules.specs.Lists.{zeros, Distinct}
 use Rattle.rules.specs.Words.{gameLength, workLength}
 use Rattle.rules.specs.Faulty.{FaultyRoom, wrongGame}
 use Rattle.rules.specs.FaultyText.{FaultyWriting}
 use Rattle.rules.specs.Game.{Vertex, edgeCount, padded, vertexCount}
-use Rattle.rules.specs.Game.{initialIn, priorityIn, targetsIn}
+use Rattle.rules.specs.Game.{initialIn, priorityIn, targetsIn, countsIn}
 use Rattle.rules.specs.Refusal.{refusal1, refusal2}
 use Rattle.rules.specs.Texts.{Written}
 use Rattle.rules.specs.PgsolverReading.{refusal93, Readback, readAs, readGame}
@@ -25,12 +26,13 @@ use Rattle.rules.specs.PgsolverWriting.{lineIn, textIn, gameText, writingRefusa
 use Rattle.tables.proofs.Faults.{if-false, first-passed, then-both, then-passed}
 use Rattle.tables.proofs.Order.{Rising, if-numbered, passed-exact}
 use Rattle.tables.proofs.FaultyWords.{roomChecks, room-sound, room-finds}
-use Rattle.game_texts.specs.Repeats.{withoutRepeats, Held, RepeatsRemoved, RoundTripped}
+use Rattle.game_texts.specs.Repeats.{withoutRepeats, withoutCounts, Held, RepeatsRemoved, RoundTripped}
 use Rattle.game_texts.specs.WritingCheck.{writingCheck}
 use Rattle.game_texts.proofs.Parsing.{says-parse}
 use Rattle.game_texts.proofs.Exact.{all-made, inWord, passes92}
 use Rattle.game_texts.proofs.Saying.{vertices-said, each-line, written-good, game-says}
 use Rattle.game_texts.proofs.Saying.{said-passes, read-said}
+use Rattle.game_texts.proofs.Shown.{shown-same}
 use Rattle.game_texts.proofs.Removing.{once-length, repeats-removed, none-removed}
 use Rattle.game_texts.proofs.WritingExact.{writing-passed}
 use Rattle.game_texts.proofs.WritingDemands.{writing-done, writing-fits, padded-front}
@@ -63,7 +65,7 @@ module _ (g : List ℕ) (passed : writingRefusal g ≡ Passed) (r : Room) (held 
         sized = fits;
       }
 
-  -- also of a game that starts elsewhere: only where it starts is lost
+  -- also of a game that starts elsewhere: then where it starts is lost, too
   pub written-read : (text game : List ℕ) → length (gameText g) ≤ length text → length game ≡ gameLength r
       → (writtenGame g text .answer ≡ Done (length (gameText g)) 0 0)
       × (readGame r (take (length (gameText g)) (writtenGame g text .text)) game ≡ readAs (withoutRepeats g) game)
@@ -120,8 +122,16 @@ module _ (g text : List ℕ) (r : Room) (game : List ℕ) (sound : (n p : ℕ) �
         removed = subst (λ (k : Readback). RepeatsRemoved g (k .game)) (sym b) (repeats-removed g (length game) start);
       }
 
-  -- a game without repeated edges comes back as it was
-  pub round-trip-same : ((v : ℕ) → v < vertexCount g → Distinct (targetsIn g v))
-      → readGame r (take (round-trip .size) (writtenGame g text .text)) game .game ≡ padded (length game) g
-  round-trip-same single =
+  -- a game without repeated edges comes back as the text shows it: every word is as it was, but for the counts
+  pub round-trip-shown : ((v : ℕ) → v < vertexCount g → Distinct (targetsIn g v))
+      → readGame r (take (round-trip .size) (writtenGame g text .text)) game .game
+      ≡ padded (length game) (withoutCounts g)
+  round-trip-shown single =
       round-trip .leaves ∙ ap (padded (length game)) (none-removed g (written-good g accepted) start single)
+
+  -- so if besides every count is 0, as in a game that was read from text, it comes back as it was
+  pub round-trip-same : ((v : ℕ) → v < vertexCount g → Distinct (targetsIn g v))
+      → ((v : ℕ) → v < vertexCount g → countsIn g v ≡ zeros (targetsIn g v))
+      → readGame r (take (round-trip .size) (writtenGame g text .text)) game .game ≡ padded (length game) g
+  round-trip-same single none =
+      round-trip-shown single ∙ ap (padded (length game)) (shown-same g (written-good g accepted) none)

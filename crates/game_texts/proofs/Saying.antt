@@ -10,8 +10,8 @@ use lib.ListN.{length, length-map}
 use lib.Dec.{eqb}
 use borrow.Author.Tests.{eq-eqb, ne-eqb}
 use Rattle.rules.specs.declared.Check.the-variants.{Passed}
-use Rattle.rules.specs.Lists.{word, In, Distinct, from, once}
-use Rattle.rules.specs.Game.{Vertex, edgeTo, vertexCount, ownerIn, priorityIn, targetsIn}
+use Rattle.rules.specs.Lists.{word, zeros, In, Distinct, from, once}
+use Rattle.rules.specs.Game.{Edge, Vertex, edgeTo, vertexCount, ownerIn, priorityIn, targetsIn}
 use Rattle.rules.specs.Pgsolver.{SolverLine, ProperLine, HasForm}
 use Rattle.rules.specs.PgsolverWriting.{lineIn, textIn, gameText, writingRefusal}
 use Rattle.rules.specs.PgsolverReading.{vertexOf, vertexNamed, readVertices, numbersOf}
@@ -45,6 +45,12 @@ once-some xs h = go (once eqb xs) (once-in number-equality xs (word xs 0) .1 (in
 pub map-same : (f h : ℕ → Vertex) (vs : List ℕ) → ((v : ℕ) → In v vs → f v ≡ h v) → map f vs ≡ map h vs
 map-same f h [] e = refl
 map-same f h (v ∷ vs) e = ap₂ _∷_ (e v (inl refl)) (map-same f h vs (λ u i. e u (inr i)))
+
+-- the counts of edges that lead to these numbers
+pub counts-plain : (ts : List ℕ) → map (λ (e : Edge). e .count) (map (λ t. edgeTo t) ts) ≡ zeros ts
+unfolding zeros
+counts-plain [] = refl
+counts-plain (t ∷ ts) = ap (λ (l : List ℕ). 0 ∷ l) (counts-plain ts)
 
 -- ---- the lines
 

@@ -5,6 +5,7 @@ use compiled::kind_of;
 use compiled::priority_of;
 use kinds::owner_of;
 use pairs::item_of;
+use parity_game::edge_columns;
 use parity_game::vertex_columns;
 use parity_game::write_header;
 use player::Player;
@@ -12,25 +13,26 @@ use player::Priority;
 use player::VertexIndex;
 use player::opponent;
 use player::to_index;
-use words::COUNTS;
+use rules::Room;
+use words::DEGREES;
 use words::REGIONS;
 use words::STARTS;
-use words::copy;
 use words::fill;
 use words::region_word;
 ghost use mathlib.Core.Path.{_≡_};
 ghost use mathlib.Core.Bool.{true};
 ghost use mathlib.Core.List.{List, map};
-ghost use Prim.Native.Nat.{ℕ, _+_, _*_, _≤_, _<_};
+ghost use Prim.Native.Nat.{ℕ, suc, _+_, _-_, _*_, _≤_, _<_};
 ghost use lib.ListN.{length};
-ghost use Rattle.rules.specs.Lists.{from};
-ghost use Rattle.rules.specs.Game.{stuckPriority, vertexColumns, offsets, columns, gameOf, padded};
-ghost use Rattle.games.specs.Columns.{edgeColumnOf};
+ghost use Rattle.rules.specs.Lists.{word, from};
+ghost use Rattle.rules.specs.Words.{mostVertices, mostEdges};
+ghost use Rattle.rules.specs.Game.{stuckPriority, vertexColumns, edgeColumns, offsets, allEdges, columns, gameOf, padded};
+ghost use Rattle.games.specs.Columns.{edgeColumn, edgeColumnOf};
 ghost use Rattle.words.specs.Stretches.{Wrote};
 ghost use Rattle.compiled.specs.Stretches.{kindsIn, prioritiesIn};
-ghost use Rattle.settling.specs.Stand.{settledIn, startIn, countIn, degreesIn};
-ghost use Rattle.game_writer.specs.Shown.{loopsIn, shownOwner, shownPriority, shownEdges, shownWord};
-ghost use Rattle.game_writer.specs.Shown.{shownVertices, Placed, EdgesWithin, Showing, Showable};
+ghost use Rattle.settling.specs.Stand.{settledIn, startIn, degreeIn, degreesIn};
+ghost use Rattle.game_writer.specs.Shown.{loopsIn, shownOwner, shownPriority, bufferEnd, shownEdges, shownWord};
+ghost use Rattle.game_writer.specs.Shown.{shownVertices, Placed, Showing, Showable};
 
 // ---- one vertex
 
@@ -47,52 +49,55 @@ fn owner_word(work: &[u32], compiled: &Compiled, vertices: u32, vertex: VertexIn
     requires { ⌜ (8 * vertices ≤ length (now work)) × (vertex .0 < vertices) ⌝ }
     ensures { λ r. ⌜ r ≡ shownOwner (kindsIn (now (compiled .entry))) (now (work .entry)) vertices (vertex .0) ⌝ }
 {
-    if region_word(work, vertices, COUNTS, vertex.0) == 0 {
+    if region_word(work, vertices, DEGREES, vertex.0) == 0 {
         return 2;
     }
     let item = item_of(work, vertices, vertex);
     to_index(owner_of(kind_of(compiled, item)))
 }
 
-// Does the first edge of a settled vertex lead to itself?
-fn first_loops(work: &[u32], vertices: u32, vertex: VertexIndex) -> bool
-    requires { ⌜ (8 * vertices ≤ length (now work)) × (vertex .0 < vertices) ⌝ }
-    requires { ⌜ 8 * vertices + (startIn (now work) vertices (vertex .0) + countIn (now work) vertices (vertex .0))
-        ≤ length (now work) ⌝ }
-    ensures { λ r. ⌜ r ≡ loopsIn (now (work .entry)) vertices (vertex .0) ⌝ }
+// Where a column of the edges ends in the work slice: it is filled from there downwards.
+fn buffer_end(room: Room, column: usize) -> usize
+    requires { ⌜ (room .vertices ≤ mostVertices) × (room .edges ≤ mostEdges) × (column < length edgeColumns) ⌝ }
+    ensures { λ r. ⌜ r ≡ bufferEnd (room .vertices) (room .edges) column ⌝ }
 {
-    if region_word(work, vertices, COUNTS, vertex.0) <= 1 {
+    REGIONS * (room.vertices as usize) + (column + 1) * (room.edges as usize)
+}
+
+// Does the first edge of a settled vertex lead to itself?
+fn first_loops(work: &[u32], room: Room, vertex: VertexIndex) -> bool
+    requires { ⌜ Showing (now work) (room .vertices) (room .edges) (vertex .0 + 1) ⌝ }
+    ensures { λ r. ⌜ r ≡ loopsIn (now (work .entry)) (room .vertices) (room .edges) (vertex .0) ⌝ }
+{
+    if region_word(work, room.vertices, DEGREES, vertex.0) <= 1 {
         return false;
     }
-    let start = region_word(work, vertices, STARTS, vertex.0) as usize;
-    work[REGIONS * (vertices as usize) + start] == vertex.0
+    let start = region_word(work, room.vertices, STARTS, vertex.0) as usize;
+    work[buffer_end(room, 0) - 1 - start] == vertex.0
 }
 
 // The priority that is shown of a vertex.
-fn shown_priority(work: &[u32], compiled: &Compiled, vertices: u32, vertex: VertexIndex) -> Priority
-    requires { ⌜ (8 * vertices ≤ length (now work)) × (vertex .0 < vertices) ⌝ }
-    requires { ⌜ (settledIn (now work) vertices (vertex .0) ≡ true
-        → 8 * vertices + (startIn (now work) vertices (vertex .0) + countIn (now work) vertices (vertex .0))
-        ≤ length (now work)) ⌝ }
+fn shown_priority(work: &[u32], compiled: &Compiled, room: Room, vertex: VertexIndex) -> Priority
+    requires { ⌜ Showing (now work) (room .vertices) (room .edges) (vertex .0 + 1) ⌝ }
     ensures { λ r. ⌜ r .0 ≡ shownPriority (kindsIn (now (compiled .entry))) (prioritiesIn (now (compiled .entry)))
-        (now (work .entry)) vertices (vertex .0) ⌝ }
+        (now (work .entry)) (room .vertices) (room .edges) (vertex .0) ⌝ }
 {
-    if region_word(work, vertices, COUNTS, vertex.0) == 0 {
+    if region_word(work, room.vertices, DEGREES, vertex.0) == 0 {
         return Priority(0);
     }
-    let item = item_of(work, vertices, vertex);
-    if first_loops(work, vertices, vertex) {
+    let item = item_of(work, room.vertices, vertex);
+    if first_loops(work, room, vertex) {
         return stuck_priority(owner_of(kind_of(compiled, item)));
     }
     priority_of(compiled, item)
 }
 
 // How many edges a vertex has: none before it is settled.
-fn count_of(work: &[u32], vertices: u32, vertex: VertexIndex) -> u32
+fn degree_of(work: &[u32], vertices: u32, vertex: VertexIndex) -> u32
     requires { ⌜ (8 * vertices ≤ length (now work)) × (vertex .0 < vertices) ⌝ }
-    ensures { λ r. ⌜ r ≡ countIn (now (work .entry)) vertices (vertex .0) ⌝ }
+    ensures { λ r. ⌜ r ≡ degreeIn (now (work .entry)) vertices (vertex .0) ⌝ }
 {
-    let held = region_word(work, vertices, COUNTS, vertex.0);
+    let held = region_word(work, vertices, DEGREES, vertex.0);
     if held == 0 {
         return 0;
     }
@@ -103,70 +108,86 @@ fn count_of(work: &[u32], vertices: u32, vertex: VertexIndex) -> u32
 fn column_word(
     work: &[u32],
     compiled: &Compiled,
-    vertices: u32,
+    room: Room,
     vertex: VertexIndex,
     column: usize,
 ) -> u32
-    requires { ⌜ Showing (now work) vertices (vertex .0 + 1) ⌝ }
+    requires { ⌜ Showing (now work) (room .vertices) (room .edges) (vertex .0 + 1) ⌝ }
     requires { ⌜ column < length vertexColumns ⌝ }
     ensures { λ r. ⌜ r ≡ shownWord (kindsIn (now (compiled .entry))) (prioritiesIn (now (compiled .entry)))
-        (now (work .entry)) vertices column (vertex .0) ⌝ }
+        (now (work .entry)) (room .vertices) (room .edges) column (vertex .0) ⌝ }
 {
     if column == 0 {
-        return owner_word(work, compiled, vertices, vertex);
+        return owner_word(work, compiled, room.vertices, vertex);
     }
-    let shown = shown_priority(work, compiled, vertices, vertex);
+    let shown = shown_priority(work, compiled, room, vertex);
     shown.0
 }
 
-// Appends the targets of a vertex.
+// So many words below the place `past`, the last one first, are appended.
+fn copy_down(src: &[u32], past: usize, count: usize, out: &mut [u32], start: usize) -> usize
+    requires { ⌜ (count ≤ past) × (past ≤ length (now src)) × (start + count ≤ length (now out)) ⌝ }
+    ensures { λ r. ⌜ Wrote start (map (λ i. word (now (src .entry)) (past - suc i)) (from 0 count))
+        (now (out .entry)) (now (out .exit)) r ⌝ }
+{
+    let mut index = 0;
+    let mut place = start;
+    while index < count {
+        index += 1;
+        out[place] = src[past - index];
+        place += 1;
+    }
+    place
+}
+
+// Appends the words of a vertex's edges in a column.
 fn write_edges(
     work: &[u32],
-    vertices: u32,
+    room: Room,
+    column: usize,
     vertex: VertexIndex,
     game: &mut [u32],
     start: usize,
 ) -> usize
-    requires { ⌜ (8 * vertices ≤ length (now work)) × (vertex .0 < vertices)
-        × (start + countIn (now work) vertices (vertex .0) ≤ length (now game)) ⌝ }
-    requires { ⌜ (settledIn (now work) vertices (vertex .0) ≡ true
-        → 8 * vertices + (startIn (now work) vertices (vertex .0) + countIn (now work) vertices (vertex .0))
-        ≤ length (now work)) ⌝ }
-    ensures { λ r. ⌜ Wrote start (shownEdges (now (work .entry)) vertices (vertex .0))
+    requires { ⌜ Showing (now work) (room .vertices) (room .edges) (vertex .0 + 1) ⌝ }
+    requires { ⌜ (column < length edgeColumns)
+        × (start + degreeIn (now work) (room .vertices) (vertex .0) ≤ length (now game)) ⌝ }
+    ensures { λ r. ⌜ Wrote start (map (edgeColumn column)
+        (shownEdges (now (work .entry)) (room .vertices) (room .edges) (vertex .0)))
         (now (game .entry)) (now (game .exit)) r ⌝ }
 {
-    let held = region_word(work, vertices, COUNTS, vertex.0);
+    let held = region_word(work, room.vertices, DEGREES, vertex.0);
     if held == 0 {
         return start;
     }
     let count = (held - 1) as usize;
-    let first = REGIONS * (vertices as usize)
-        + region_word(work, vertices, STARTS, vertex.0) as usize;
-    copy(work, first, first + count, game, start)
+    let past = buffer_end(room, column)
+        - region_word(work, room.vertices, STARTS, vertex.0) as usize;
+    copy_down(work, past, count, game, start)
 }
 
 // ---- all vertices
 
-// A column.
+// A column of the vertices.
 fn write_column(
     work: &[u32],
     compiled: &Compiled,
-    vertices: u32,
+    room: Room,
     known: u32,
     column: usize,
     game: &mut [u32],
     start: usize,
 ) -> usize
-    requires { ⌜ Showing (now work) vertices known ⌝ }
+    requires { ⌜ Showing (now work) (room .vertices) (room .edges) known ⌝ }
     requires { ⌜ (column < length vertexColumns) × (start + known ≤ length (now game)) ⌝ }
     ensures { λ r. ⌜ Wrote start (map (shownWord (kindsIn (now (compiled .entry)))
-        (prioritiesIn (now (compiled .entry))) (now (work .entry)) vertices column) (from 0 known))
+        (prioritiesIn (now (compiled .entry))) (now (work .entry)) (room .vertices) (room .edges) column) (from 0 known))
         (now (game .entry)) (now (game .exit)) r ⌝ }
 {
     let mut vertex: u32 = 0;
     let mut place = start;
     while vertex < known {
-        let shown = column_word(work, compiled, vertices, VertexIndex(vertex), column);
+        let shown = column_word(work, compiled, room, VertexIndex(vertex), column);
         game[place] = shown;
         place += 1;
         vertex += 1;
@@ -174,68 +195,92 @@ fn write_column(
     place
 }
 
-// All columns, one after another.
+// All of them, one after another.
 fn write_columns(
     work: &[u32],
     compiled: &Compiled,
-    vertices: u32,
+    room: Room,
     known: u32,
     game: &mut [u32],
     start: usize,
 ) -> usize
-    requires { ⌜ Showing (now work) vertices known ⌝ }
+    requires { ⌜ Showing (now work) (room .vertices) (room .edges) known ⌝ }
     requires { ⌜ start + length vertexColumns * known ≤ length (now game) ⌝ }
     ensures { λ r. ⌜ Wrote start (columns vertexColumns (shownVertices (kindsIn (now (compiled .entry)))
-        (prioritiesIn (now (compiled .entry))) (now (work .entry)) vertices known))
+        (prioritiesIn (now (compiled .entry))) (now (work .entry)) (room .vertices) (room .edges) known))
         (now (game .entry)) (now (game .exit)) r ⌝ }
 {
     let all = vertex_columns();
     let mut column: usize = 0;
     let mut place = start;
     while column < all {
-        place = write_column(work, compiled, vertices, known, column, game, place);
+        place = write_column(work, compiled, room, known, column, game, place);
         column += 1;
     }
     place
 }
 
 // Where the edges of each vertex begin, and where the last ones end. They are the same whatever the item table says.
-fn write_offsets(work: &[u32], vertices: u32, known: u32, game: &mut [u32], start: usize) -> usize
-    requires { ⌜ Placed (now work) vertices known ⌝ }
-    requires { ⌜ EdgesWithin (now work) vertices known ⌝ }
-    requires { ⌜ (degreesIn (now work) vertices known < 4294967296) × (start + known < length (now game)) ⌝ }
+fn write_offsets(work: &[u32], room: Room, known: u32, game: &mut [u32], start: usize) -> usize
+    requires { ⌜ Placed (now work) (room .vertices) (room .edges) known ⌝ }
+    requires { ⌜ (degreesIn (now work) (room .vertices) known < 4294967296) × (start + known < length (now game)) ⌝ }
     ensures { λ r. ⌜ ((kinds priorities : List ℕ) → Wrote start
-        (offsets 0 (shownVertices kinds priorities (now (work .entry)) vertices known))
+        (offsets 0 (shownVertices kinds priorities (now (work .entry)) (room .vertices) (room .edges) known))
         (now (game .entry)) (now (game .exit)) r) ⌝ }
 {
     let mut vertex: u32 = 0;
     let mut edges: u32 = 0;
     let mut place = start;
     while vertex < known {
-        let count = count_of(work, vertices, VertexIndex(vertex));
+        let degree = degree_of(work, room.vertices, VertexIndex(vertex));
         game[place] = edges;
         place += 1;
-        edges += count;
+        edges += degree;
         vertex += 1;
     }
     game[place] = edges;
     place + 1
 }
 
-// The targets of all vertices. They are the same whatever the item table says.
-fn write_targets(work: &[u32], vertices: u32, known: u32, game: &mut [u32], start: usize) -> usize
-    requires { ⌜ Placed (now work) vertices known ⌝ }
-    requires { ⌜ EdgesWithin (now work) vertices known ⌝ }
-    requires { ⌜ start + degreesIn (now work) vertices known ≤ length (now game) ⌝ }
+// A column of the edges of all vertices. It is the same whatever the item table says.
+fn write_edge_column(
+    work: &[u32],
+    room: Room,
+    known: u32,
+    column: usize,
+    game: &mut [u32],
+    start: usize,
+) -> usize
+    requires { ⌜ Showing (now work) (room .vertices) (room .edges) known ⌝ }
+    requires { ⌜ (column < length edgeColumns)
+        × (start + degreesIn (now work) (room .vertices) known ≤ length (now game)) ⌝ }
     ensures { λ r. ⌜ ((kinds priorities : List ℕ) → Wrote start
-        (edgeColumnOf 0 (shownVertices kinds priorities (now (work .entry)) vertices known))
+        (edgeColumnOf column (shownVertices kinds priorities (now (work .entry)) (room .vertices) (room .edges) known))
         (now (game .entry)) (now (game .exit)) r) ⌝ }
 {
     let mut vertex: u32 = 0;
     let mut place = start;
     while vertex < known {
-        place = write_edges(work, vertices, VertexIndex(vertex), game, place);
+        place = write_edges(work, room, column, VertexIndex(vertex), game, place);
         vertex += 1;
+    }
+    place
+}
+
+// All of them, one after another.
+fn write_edge_columns(work: &[u32], room: Room, known: u32, game: &mut [u32], start: usize) -> usize
+    requires { ⌜ Showing (now work) (room .vertices) (room .edges) known ⌝ }
+    requires { ⌜ start + length edgeColumns * degreesIn (now work) (room .vertices) known ≤ length (now game) ⌝ }
+    ensures { λ r. ⌜ ((kinds priorities : List ℕ) → Wrote start (columns edgeColumns
+        (allEdges (shownVertices kinds priorities (now (work .entry)) (room .vertices) (room .edges) known)))
+        (now (game .entry)) (now (game .exit)) r) ⌝ }
+{
+    let all = edge_columns();
+    let mut column: usize = 0;
+    let mut place = start;
+    while column < all {
+        place = write_edge_column(work, room, known, column, game, place);
+        column += 1;
     }
     place
 }
@@ -245,18 +290,18 @@ pub fn write_game(
     game: &mut [u32],
     work: &[u32],
     compiled: &Compiled,
-    vertices: u32,
+    room: Room,
     known: u32,
     edges: u32,
 )
-    requires { ⌜ Showable (now work) vertices known edges (length (now game)) ⌝ }
+    requires { ⌜ Showable (now work) (room .vertices) (room .edges) known edges (length (now game)) ⌝ }
     ensures { λ _. ⌜ now (game .exit) ≡ padded (length (now (game .entry))) (gameOf 0 (shownVertices
         (kindsIn (now (compiled .entry))) (prioritiesIn (now (compiled .entry)))
-        (now (work .entry)) vertices known)) ⌝ }
+        (now (work .entry)) (room .vertices) (room .edges) known)) ⌝ }
 {
     let header = write_header(known, edges, game);
-    let places = write_columns(work, compiled, vertices, known, game, header);
-    let targets = write_offsets(work, vertices, known, game, places);
-    let end = write_targets(work, vertices, known, game, targets);
+    let places = write_columns(work, compiled, room, known, game, header);
+    let targets = write_offsets(work, room, known, game, places);
+    let end = write_edge_columns(work, room, known, game, targets);
     fill(game, end, 0);
 }

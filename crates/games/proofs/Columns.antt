@@ -17,9 +17,10 @@ each-vertex-column P owner priority zero h = owner
 each-vertex-column P owner priority (suc zero) h = priority
 each-vertex-column P owner priority (suc (suc c)) h = absurd (omega arith)
 
-pub each-edge-column : (P : ℕ → Type 0) → P 0 → (c : ℕ) → c < length edgeColumns → P c
-each-edge-column P target zero h = target
-each-edge-column P target (suc c) h = absurd (omega arith)
+pub each-edge-column : (P : ℕ → Type 0) → P 0 → P 1 → (c : ℕ) → c < length edgeColumns → P c
+each-edge-column P target count zero h = target
+each-edge-column P target count (suc zero) h = count
+each-edge-column P target count (suc (suc c)) h = absurd (omega arith)
 
 -- the targets of edges that lead to these numbers
 pub targets-edges : {A : Type 0} (f : A → ℕ) (xs : List A)

@@ -163,7 +163,7 @@ fn run_input(
     requires { λ x. ⌜ gateTextLength ≤ length (now text) ⌝ }
     ensures { λ x r. ⌜ Wrote 0 (reported (gateRun x)) (now (text .entry)) (now (text .exit)) r ⌝ }
 {
-    let mut game = [0u32; 2564];
+    let mut game = [0u32; 3588];
     let mut work = [0u32; 6144];
     let answer = translate::translate(
         labels,

@@ -1,5 +1,5 @@
--- What is read off the tables: owner and targets of a pair off its item's entry, one law for each kind that code tests;
--- its priority. Assumes nothing.
+-- What is read off the tables: owner, targets and matching transitions of a pair off its item's entry, one law for each
+-- kind that code tests; its priority. Assumes nothing.
 use mathlib.Core.Path.{_≡_, refl, sym, ap, ap₂}
 use mathlib.Core.List.{List, [], _∷_, map}
 use Prim.Native.Nat.{ℕ, zero, suc, _≤_, _<_, _%_}
@@ -14,6 +14,7 @@ use Rattle.rules.specs.Formula.{Operator, least, greatest, equationOf, Formula,
 use Rattle.rules.specs.Depth.{Ranking}
 use Rattle.rules.specs.Items.{Item, equation, subformula, items}
 use Rattle.rules.specs.Pairs.{itemAt, operatorOwner, formulaOwner, itemOwner, owner, priority, successors, formulaTargets, itemTargets, targets}
+use Rattle.rules.specs.Pairs.{matchingTransitions, formulaTransitions, itemTransitions, modalTransitions}
 use Rattle.tables.specs.Good.{GoodInput}
 use Rattle.arena.specs.Arena.{Parts}
 use Rattle.arena.proofs.ItemNumbers.{items-count, item-below}
@@ -115,6 +116,30 @@ module _ (x : Input) (k l r s : ℕ) where
   one (subformula (diamond t f)) (a, b, c) p = absurd (omega arith)
   one (subformula (reference i)) (a, b, c) p = ap (λ (n : ℕ). (s, n) ∷ []) (sym b)
 
+  -- the transitions of a modality; where it is none there are none
+  still : (i : Item) → ItemShown x i k l r → (4 ≤ k → 6 ≤ k) → itemTransitions x s i ≡ []
+  unfolding itemTransitions formulaTransitions
+  still (equation e) (a, b, c) h = refl
+  still (subformula truth) (a, b, c) h = refl
+  still (subformula falsity) (a, b, c) h = refl
+  still (subformula (conjunction f g)) (a, b, c) h = refl
+  still (subformula (disjunction f g)) (a, b, c) h = refl
+  still (subformula (box t f)) (a, b, c) h = absurd (omega (arith, a, h (omega arith)))
+  still (subformula (diamond t f)) (a, b, c) h = absurd (omega (arith, a, h (omega arith)))
+  still (subformula (reference i)) (a, b, c) h = refl
+
+  moving : (i : Item) → ItemShown x i k l r → 4 ≤ k → k ≤ 5
+      → itemTransitions x s i ≡ matchingTransitions x (actionTree (x .labels) (x .actions) r) s
+  unfolding itemTransitions formulaTransitions
+  moving (equation e) (a, b, c) p q = absurd (omega (arith, operator-kind (e .operator)))
+  moving (subformula truth) (a, b, c) p q = absurd (omega arith)
+  moving (subformula falsity) (a, b, c) p q = absurd (omega arith)
+  moving (subformula (conjunction f g)) (a, b, c) p q = absurd (omega arith)
+  moving (subformula (disjunction f g)) (a, b, c) p q = absurd (omega arith)
+  moving (subformula (box t f)) (a, b, c) p q = ap (λ (u : Action). matchingTransitions x u s) (sym (c .1))
+  moving (subformula (diamond t f)) (a, b, c) p q = ap (λ (u : Action). matchingTransitions x u s) (sym (c .1))
+  moving (subformula (reference i)) (a, b, c) p q = absurd (omega arith)
+
   owned : (i : Item) → ItemShown x i k l r → itemOwner i ≡ kindOwner k
   unfolding itemOwner formulaOwner kindOwner
   owned (equation e) (a, b, c) = operator-owner (e .operator) k a
@@ -180,6 +205,16 @@ module _ (x : Input) (q k l r s : ℕ) (e : Entry x q k l r) where
   pub entry-one : 6 ≤ k → targets x (s, q) ≡ (s, l) ∷ []
   unfolding targets
   entry-one a = one x k l r s (itemAt x q) e a
+
+  -- the matching transitions: of kinds 4 and 5 alone
+  pub entry-still : (4 ≤ k → 6 ≤ k) → modalTransitions x (s, q) ≡ []
+  unfolding modalTransitions
+  entry-still h = still x k l r s (itemAt x q) e h
+
+  pub entry-moving : 4 ≤ k → k ≤ 5
+      → modalTransitions x (s, q) ≡ matchingTransitions x (actionTree (x .labels) (x .actions) r) s
+  unfolding modalTransitions
+  entry-moving a b = moving x k l r s (itemAt x q) e a b
 
   module _ (good : GoodInput x) (h : q < length (items x)) where
     pub entry-left : 2 ≤ k → l < length (items x)

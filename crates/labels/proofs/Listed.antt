@@ -7,8 +7,8 @@ use Prim.Native.Nat.{ℕ, zero, suc, _+_, _≤_, _<_}
 use native.Mathlib.Omega.{arith}
 use lib.Dec.{eqb}
 use lib.ListN.{length}
-use Rattle.rules.specs.Lists.{In, one, sum, tally}
-use Rattle.lists.proofs.Occurrences.{count, alike-sums, alike-all}
+use Rattle.rules.specs.Lists.{In, one, sum, tally, occurrences}
+use Rattle.lists.proofs.Occurrences.{alike-sums, alike-all}
 use Rattle.labels.specs.Marks.{sumOver}
 
 -- the value at the last place first
@@ -22,8 +22,8 @@ ones p zero = refl
 ones p (suc n) = omega (arith, ones p n)
 
 module _ (g : ℕ → ℕ) where
-  values-count : (z p n : ℕ) → tally (λ i. eqb (g i) z) p n ≡ count z (values g p n)
-  unfolding values tally count
+  values-count : (z p n : ℕ) → tally (λ i. eqb (g i) z) p n ≡ occurrences eqb z (values g p n)
+  unfolding values tally occurrences
   values-count z p zero = refl
   values-count z p (suc n) = ap (λ (k : ℕ). k + one (eqb (g (p + n)) z)) (values-count z p n)
 
@@ -64,7 +64,7 @@ module _ (g : ℕ → ℕ) where
         ∙ alike-all (values g p n) (values g q k) (values-length p n ∙ e ∙ sym (values-length q k)) there z
         ∙ sym (values-count z q k)
       where
-        there : (x : ℕ) → In x (values g p n) → count x (values g p n) ≡ count x (values g q k)
+        there : (x : ℕ) → In x (values g p n) → occurrences eqb x (values g p n) ≡ occurrences eqb x (values g q k)
         there x m =
             let r = values-in x p n m in
             let a = h (r .0) (r .1) (r .2) in

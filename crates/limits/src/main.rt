@@ -14,7 +14,7 @@ fn run_in(
     vertices: u32,
     edges: u32,
 ) {
-    let mut game = [0u32; 30];
+    let mut game = [0u32; 38];
     let mut work = [0u32; 64];
     let answer = translate::translate(
         labels,

@@ -6,10 +6,9 @@ use mathlib.Core.List.{List, [], _∷_, _++_, map, append-nil, append-assoc}
 use mathlib.Core.Logic.{_⊎_, inl, inr, ⊎-elim, _↔_}
 use Prim.Native.Nat.{suc, _+_, _≤_}
 use native.Mathlib.Omega.{arith}
-use lib.ListN.{length, drop, length-append, length-map}
-use lib.Seq.{drop-append-seam, drop-length}
+use lib.ListN.{length, length-append, length-map}
 use Rattle.rules.specs.Lists.{In, Distinct, has, position, insert, insertAll, once}
-use Rattle.lists.specs.Shapes.{Equality, Begins, added, positions}
+use Rattle.lists.specs.Shapes.{Equality, Begins, positions}
 use Rattle.lists.proofs.Members.{in-either, in-last, in-map, map-in, map-append, distinct-snoc, has-in, no-in, position-begins}
 use Rattle.lists.proofs.Shapes.{begins-refl, begins-trans, begins-in}
 
@@ -123,26 +122,6 @@ module _ {A : Type 0} {same : A → A → Bool} (eq : Equality same) where
   pub once-append : (xs ys : List A) → once same (xs ++ ys) ≡ insertAll same (once same xs) ys
   unfolding once
   once-append xs ys = inserts-append same [] xs ys
-
-  -- ---- what a list adds to another
-
-  pub added-split : (xs ys : List A) → xs ++ added same xs ys ≡ insertAll same xs ys
-  unfolding added
-  added-split xs ys =
-      let b = inserts-begins xs ys in
-      ap (λ (l : List A). xs ++ drop (length xs) l) (b .1) ∙ ap (λ (l : List A). xs ++ l) (drop-append-seam xs (b .0)) ∙ sym (b .1)
-
-  pub added-none : (xs : List A) → added same xs [] ≡ []
-  unfolding added insertAll
-  added-none xs = drop-length xs
-
-  pub added-old : (xs : List A) (y : A) → In y xs → added same xs (y ∷ []) ≡ []
-  unfolding added insertAll
-  added-old xs y m = ap (drop (length xs)) (insert-old xs y m) ∙ drop-length xs
-
-  pub added-new : (xs : List A) (y : A) → (¬ In y xs) → added same xs (y ∷ []) ≡ y ∷ []
-  unfolding added insertAll
-  added-new xs y n = ap (drop (length xs)) (insert-new xs y n) ∙ drop-append-seam xs (y ∷ [])
 
   -- ---- the positions of several elements
 

@@ -3,8 +3,7 @@ use mathlib.Core.Path.{_≡_}
 use mathlib.Core.Bool.{Bool, true}
 use mathlib.Core.List.{List, [], _∷_, _++_, map}
 use Prim.Native.Nat.{ℕ, _<_}
-use lib.ListN.{length, drop}
-use Rattle.rules.specs.Lists.{position, insertAll}
+use Rattle.rules.specs.Lists.{position}
 
 -- the test of two elements tells whether they are equal
 pub record Equality {A : Type 0} (same : A → A → Bool) : Type 0 where
@@ -19,10 +18,6 @@ Falling n (x ∷ xs) = (x < n) × Falling x xs
 -- the list `long` begins with the list `short`
 abbrev pub Begins : {A : Type 0} → List A → List A → Type 0
 Begins {A = A} short long = (rest : List A) × (long ≡ short ++ rest)
-
--- what ys add to xs, each once
-unfoldable pub added : {A : Type 0} → (A → A → Bool) → List A → List A → List A
-added same xs ys = drop (length xs) (insertAll same xs ys)
 
 -- the places of the elements ts
 unfoldable pub positions : {A : Type 0} → (A → A → Bool) → List A → List A → List ℕ

@@ -7,24 +7,37 @@ use native.Mathlib.Omega.{arith}
 use lib.Dec.{eqb}
 use lib.ListN.{length}
 use Rattle.rules.specs.Lists.{from, once}
-use Rattle.lists.proofs.Ranges.{from-append, from-snoc}
+use Rattle.rules.specs.Words.{mostTransitions}
+use Rattle.rules.specs.declared.Room.{Room}
+use Rattle.rules.specs.System.{stateCount, transitionTarget}
+use Rattle.lists.proofs.Ranges.{from-length, from-append, from-snoc, in-from}
 use Rattle.settling.specs.declared.Counters.{Counters}
+use Rattle.settling.specs.declared.Operand.{Operand}
 use Rattle.settling.specs.declared.Stepped.the-variants.{Fits, Full}
-use Rattle.settling.specs.Made.{Marks, Ready, Made, TooMany, Marked, Gathered}
-use Rattle.settling.proofs.Marking.{marked-none, made-first, gathered-made, gathered-marked, gathered-many}
-use Rattle.modalities.specs.Matched.{answeredKeys}
-use Rattle.modalities.proofs.Matches.{answered-none, answered-append}
+use Rattle.settling.specs.Made.{Ready, Made, TooMany, tallies, Gathering, Gathered, Raisable}
+use Rattle.settling.proofs.Marking.{gathering-none, gathering-marks, gathering-counts, gathered-many}
+use Rattle.modalities.specs.Matched.{Spacious, answeredKeys}
+use Rattle.modalities.proofs.Matches.{answered-none, answered-append, answered-most, answered-once}
 
--- the transitions from `first` up to t have given their targets, each once
-pub record Gathering (ss answers : List ℕ) (v e item first end : ℕ) (w₀ : List ℕ) (c₀ : Counters) (w : List ℕ)
-    (c : Counters) (t : ℕ) : Type 0 where
+-- the transitions from `first` up to t were followed: they have given their targets, each once
+pub record Following (ss answers : List ℕ) (room : Room) (o : Operand) (first end : ℕ) (w₀ : List ℕ) (c₀ : Counters)
+    (w : List ℕ) (c : Counters) (t : ℕ) : Type 0 where
   pub since : first ≤ t
   pub until : t ≤ end
   pub same : length w ≡ length w₀
-  pub made : Made w₀ v e c₀ w c (once eqb (answeredKeys ss answers item (from first (t - first))))
-  pub marked : Marked w v c (once eqb (answeredKeys ss answers item (from first (t - first))))
+  pub gathering : Gathering w₀ (room .vertices) (room .edges) c₀ o
+      (answeredKeys ss answers (o .item) (from first (t - first))) w c
 
-module _ (ss answers : List ℕ) (v e item first end : ℕ) (w₀ : List ℕ) (c₀ : Counters) where
+module _ (ss answers : List ℕ) (room : Room) (o : Operand) (first end : ℕ) (w₀ : List ℕ) (c₀ : Counters) where
+  abbrev v : ℕ
+  v = room .vertices
+
+  abbrev e : ℕ
+  e = room .edges
+
+  abbrev item : ℕ
+  item = o .item
+
   given : ℕ → List ℕ
   given t = answeredKeys ss answers item (from first (t - first))
 
@@ -32,19 +45,42 @@ module _ (ss answers : List ℕ) (v e item first end : ℕ) (w₀ : List ℕ) (c
   unfolding given from
   nothing = let z : first - first ≡ 0 = omega arith in rw z (answered-none ss answers item)
 
-  pub gathering-start : first ≤ end → Ready w₀ v e c₀ → Marks w₀ v (c₀ .settled)
-      → Gathering ss answers v e item first end w₀ c₀ w₀ c₀ first
+  pub following-start : first ≤ end → Ready w₀ v e c₀ → Spacious w₀ ss room o c₀
+      → Following ss answers room o first end w₀ c₀ w₀ c₀ first
   unfolding given
-  gathering-start h r k =
+  following-start h r k =
       record {
         since = omega arith;
         until = h;
         same = refl;
-        made = subst (λ (l : List ℕ). Made w₀ v e c₀ w₀ c₀ (once eqb l)) (sym nothing) (made-first w₀ v e c₀ r);
-        marked = subst (λ (l : List ℕ). Marked w₀ v c₀ (once eqb l)) (sym nothing) (marked-none w₀ v c₀ k);
+        gathering =
+            subst (λ (l : List ℕ). Gathering w₀ v e c₀ o l w₀ c₀) (sym nothing)
+            (gathering-none w₀ v e c₀ o r (k .marks));
       }
 
-  module _ (w w′ : List ℕ) (c : Counters) (t : ℕ) (k : Gathering ss answers v e item first end w₀ c₀ w c t)
+  -- A count is at most the number of the transitions so far, so that it can rise by one. The step has
+  -- at most one edge for each state, so that the next one does not meet the marks
+  pub following-raisable : (w : List ℕ) (c : Counters) (t : ℕ) → Following ss answers room o first end w₀ c₀ w c t
+      → end ≤ mostTransitions → ((i : ℕ) → i < end → transitionTarget ss i < stateCount ss)
+      → o .start ≡ c₀ .edges → Spacious w₀ ss room o c₀ → Raisable w v e o c
+  following-raisable w c t k few below start wide =
+      let ts = from first (t - first) in
+      let ks = answeredKeys ss answers item ts in
+      let short : length ks < 4_294_967_295 =
+      omega (arith, answered-most ss answers item ts, from-length first (t - first), k .until) in
+      let once-few : length (once eqb ks) ≤ stateCount ss =
+      answered-once ss answers item ts (stateCount ss)
+      (λ i m. let (p, q) = in-from i first (t - first) m in below i (omega (arith, k .since, k .until))) in
+      record {
+        marks = gathering-marks w₀ v e c₀ o ks w c (wide .least) (wide .vertices) (k .gathering);
+        apart = (
+          wide .least,
+          λ h. omega (arith, wide .apart h .1, once-few, k .gathering .made .row-length),
+        );
+        counts = λ i h l. gathering-counts w₀ v e c₀ ks w c short (k .gathering .made) i (omega (arith, start)) l;
+      }
+
+  module _ (w w′ : List ℕ) (c : Counters) (t : ℕ) (k : Following ss answers room o first end w₀ c₀ w c t)
       (h : t < end) where
     -- one transition more
     more : given t ++ answeredKeys ss answers item (t ∷ []) ≡ given (t + 1)
@@ -68,35 +104,35 @@ module _ (ss answers : List ℕ) (v e item first end : ℕ) (w₀ : List ℕ) (c
         (ap (λ (i : ℕ). from first (t + 1 - first) ++ from i (end - (t + 1))) (sym y)
         ∙ sym (from-append first (t + 1 - first) (end - (t + 1))) ∙ ap (from first) d)
 
-    pub gathering-on : (c′ : Counters) → length w′ ≡ length w
-        → Gathered w v e c (once eqb (answeredKeys ss answers item (from first (t - first))))
-        (answeredKeys ss answers item (t ∷ [])) w′ (Fits c′)
-        → Gathering ss answers v e item first end w₀ c₀ w′ c′ (t + 1)
+    pub following-on : (c′ : Counters) → length w′ ≡ length w
+        → Gathered w₀ v e c₀ o (answeredKeys ss answers item (from first (t - first))
+        ++ answeredKeys ss answers item (t ∷ [])) w′ (Fits c′)
+        → Following ss answers room o first end w₀ c₀ w′ c′ (t + 1)
     unfolding given
-    gathering-on c′ l b =
+    following-on c′ l b =
         record {
           since = omega (arith, k .since);
           until = omega arith;
           same = l ∙ k .same;
-          made = subst (λ (l : List ℕ). Made w₀ v e c₀ w′ c′ (once eqb l)) more
-              (gathered-made v e w₀ c₀ w w′ c (given t) (answeredKeys ss answers item (t ∷ [])) (k .made) c′ b);
-          marked = subst (λ (l : List ℕ). Marked w′ v c′ (once eqb l)) more
-              (gathered-marked v e w₀ c₀ w w′ c (given t) (answeredKeys ss answers item (t ∷ [])) (k .made) c′ b);
+          gathering = subst (λ (l : List ℕ). Gathering w₀ v e c₀ o l w′ c′) more b;
         }
 
-    pub gathering-many : Gathered w v e c (once eqb (answeredKeys ss answers item (from first (t - first))))
-        (answeredKeys ss answers item (t ∷ [])) w′ Full
+    -- too many at this turn are too many at the end
+    pub following-many : Gathered w₀ v e c₀ o (answeredKeys ss answers item (from first (t - first))
+        ++ answeredKeys ss answers item (t ∷ [])) w′ Full
         → TooMany w₀ v e c₀ (once eqb (answeredKeys ss answers item (from first (end - first))))
     unfolding given
-    gathering-many b =
+    following-many b =
+        let ks = given t ++ answeredKeys ss answers item (t ∷ []) in
         let later = answeredKeys ss answers item (from (t + 1) (end - (t + 1))) in
         subst (λ (l : List ℕ). TooMany w₀ v e c₀ (once eqb l)) (ap (λ (l : List ℕ). l ++ later) more ∙ rest)
-        (gathered-many v e w₀ c₀ w w′ c (given t) (answeredKeys ss answers item (t ∷ [])) (k .made) later b)
+        (gathered-many w₀ v e c₀ ks later b)
 
-  pub gathering-end : (w : List ℕ) (c : Counters) (t : ℕ) → Gathering ss answers v e item first end w₀ c₀ w c t
+  pub following-end : (w : List ℕ) (c : Counters) (t : ℕ) → Following ss answers room o first end w₀ c₀ w c t
       → end ≤ t
       → Made w₀ v e c₀ w c (once eqb (answeredKeys ss answers item (from first (end - first))))
-  gathering-end w c t k h =
+      (tallies (answeredKeys ss answers item (from first (end - first))))
+  following-end w c t k h =
       let z : t ≡ end = omega (arith, k .until) in
-      subst (λ (y : ℕ). Made w₀ v e c₀ w c (once eqb (answeredKeys ss answers item (from first (y - first))))) z
-      (k .made)
+      subst (λ (y : ℕ). Made w₀ v e c₀ w c (once eqb (answeredKeys ss answers item (from first (y - first))))
+      (tallies (answeredKeys ss answers item (from first (y - first))))) z (k .gathering .made)

@@ -1,3 +1,4 @@
 pub mod Matches
 pub mod Gathering
+pub mod Spaces
 pub mod Deciding

@@ -1,22 +1,25 @@
 -- The targets that a modality's transitions give, as keys, and what matching their labels asks of the words. Assumes
 -- nothing: these are definitions.
 use mathlib.Core.Path.{_≡_}
+use mathlib.Core.Bool.{true, false, cond}
 use mathlib.Core.List.{List, map}
 use Prim.Native.Nat.{ℕ, _+_, _-_, _≤_, _<_}
-use lib.Dec.{eqb}
+use lib.Dec.{eqb, leb, ltb}
 use lib.ListN.{length}
 use Rattle.rules.specs.declared.Room.{Room}
-use Rattle.rules.specs.Lists.{word, one, from, filter}
+use Rattle.rules.specs.Lists.{word, one, from, filter, occurrences}
 use Rattle.rules.specs.Words.{Input}
 use Rattle.rules.specs.Labels.{labelCount, multiset}
 use Rattle.rules.specs.System.{stateCount, transitionCount, transitionLabel, transitionTarget, firstTransition, degree}
 use Rattle.rules.specs.Table.{size}
 use Rattle.rules.specs.Actions.{Action, actionTree, matches}
-use Rattle.rules.specs.Pairs.{successors}
+use Rattle.rules.specs.Pairs.{matchingTransitions, successors}
 use Rattle.tables.specs.Good.{GoodLabels, GoodSystem, GoodActions}
 use Rattle.labels.specs.Classes.{Classes}
 use Rattle.pairs.specs.Slot.{keyOf}
 use Rattle.settling.specs.declared.Counters.{Counters}
+use Rattle.settling.specs.declared.Operand.{Operand}
+use Rattle.settling.specs.Stand.{marksOf}
 use Rattle.settling.specs.Made.{Marks, Ready}
 use Rattle.modalities.specs.declared.Modality.{Modality}
 use Rattle.modalities.specs.declared.Moves.{Moves}
@@ -28,10 +31,25 @@ pub record Labelled (ls ss acts classes : List ℕ) : Type 0 where
   pub actions : GoodActions (labelCount ls) acts
   pub table : Classes ls classes
 
--- there is a vertex to settle, and no vertex has the mark of this step yet
+-- no mark is past the edges, so that no vertex has the mark of an edge that is made from here on
 abbrev pub Unmarked : List ℕ → Room → Counters → Type 0
-Unmarked w room c =
-    Ready w (room .vertices) (room .edges) c × (c .settled < c .known) × Marks w (room .vertices) (c .settled)
+Unmarked w room c = Ready w (room .vertices) (room .edges) c × Marks w (room .vertices) (c .edges)
+
+-- how many marks a step has: of v vertices and e edges that fit, beside so many edges, states and transitions
+unfoldable pub markCount : (v e edges states transitions : ℕ) → ℕ
+markCount v e edges states transitions =
+    cond (leb states v) v
+    (cond (ltb transitions (states - v)) v (cond (ltb (edges + states + (states - v)) e) states v))
+
+-- no mark is past the edges; marks by state have one for each state, and where that is more than the region has, they
+-- and the edges of a step, at most one for each state, have different words
+pub record Spacious (w ss : List ℕ) (room : Room) (o : Operand) (c : Counters) : Type 0 where
+  pub marks : (i : ℕ) → i < o .marks → word (marksOf w (room .vertices) (o .marks)) i ≤ c .edges
+  pub least : room .vertices ≤ o .marks
+  pub states : o .«by_state» ≡ true → stateCount ss ≤ o .marks
+  pub apart : room .vertices < o .marks
+      → (o .marks ≡ stateCount ss) × (o .marks + (c .edges + stateCount ss) < room .vertices + room .edges)
+  pub vertices : o .«by_state» ≡ false → o .marks ≡ room .vertices
 
 -- ---- a modality at a state
 
@@ -43,6 +61,13 @@ Inside x m = (m .state < stateCount (x .system)) × (m .action < size (x .action
 abbrev pub modalityKeys : Input → Modality → List ℕ
 modalityKeys x m =
     map (λ s. keyOf s (m .operand)) (successors x (actionTree (x .labels) (x .actions) (m .action)) (m .state))
+
+-- the count of each: how many of the matching transitions lead to the successor
+abbrev pub modalityCounts : Input → Modality → List ℕ
+modalityCounts x m =
+    let a = actionTree (x .labels) (x .actions) (m .action) in
+    map (λ s. occurrences eqb s (map (transitionTarget (x .system)) (matchingTransitions x a (m .state))))
+    (successors x a (m .state))
 
 -- ---- transitions, and those of them that match
 

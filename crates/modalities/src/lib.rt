@@ -4,26 +4,29 @@ use labels::LABELS;
 use match_table::MatchBytes;
 use rules::Room;
 use settling::Counters;
+use settling::Operand;
 use settling::Stepped;
 use words::at;
 ghost use mathlib.Core.Path.{_≡_};
-ghost use mathlib.Core.List.{List, [], _∷_};
-ghost use Prim.Native.Nat.{ℕ, _<_};
+ghost use mathlib.Core.Bool.{true};
+ghost use mathlib.Core.List.{List, [], _∷_, _++_};
+ghost use Prim.Native.Nat.{ℕ, _≤_, _<_};
 ghost use lib.Dec.{eqb};
 ghost use lib.ListN.{length};
 ghost use Rattle.rules.specs.Lists.{once};
-ghost use Rattle.rules.specs.Words.{Input, inputOf};
+ghost use Rattle.rules.specs.Words.{mostStates, mostVertices, mostEdges, Input, inputOf};
 ghost use Rattle.rules.specs.System.{stateCount, transitionLabel, transitionTarget, transitionCount};
 ghost use Rattle.rules.specs.Table.{size};
 ghost use Rattle.rules.specs.Actions.{actionTree};
 ghost use Rattle.compiled.specs.Stretches.{classesIn, samplesIn, multiplesIn};
 ghost use Rattle.pairs.specs.Slot.{Multiples, Scaled};
-ghost use Rattle.settling.specs.Made.{Ready, Answer, Marked, Gathered};
+ghost use Rattle.settling.specs.declared.Counters.{Counters};
+ghost use Rattle.settling.specs.Made.{Ready, Answer, tallies, Gathering, Gathered, Raisable};
 ghost use Rattle.transitions.specs.Samples.{System, Samples};
 ghost use Rattle.match_table.specs.Rows.{MatchTable};
 ghost use Rattle.modalities.specs.Matched.{Labelled, Unmarked, Within, OfState, Inside, numbersOf};
-ghost use Rattle.modalities.specs.Matched.{answerCount, HaveBytes, Answered};
-ghost use Rattle.modalities.specs.Matched.{answeredKeys, matchedKeys, modalityKeys};
+ghost use Rattle.modalities.specs.Matched.{answerCount, HaveBytes, Answered, markCount, Spacious};
+ghost use Rattle.modalities.specs.Matched.{answeredKeys, matchedKeys, modalityKeys, modalityCounts};
 
 // A byte for each label that a system can have.
 type Answers = [u8; LABELS];
@@ -42,12 +45,6 @@ pub struct Moves {
     pub end: usize,
     pub labels: usize,
     pub targets: usize,
-}
-
-// The item of a modality's operand and its multiple, from which the slots of all its targets are told.
-struct Operand {
-    item: u32,
-    scaled: u32,
 }
 
 // The label of a transition.
@@ -96,36 +93,107 @@ fn follow(
     answers: &[u8],
     moves: Moves,
     transition: usize,
+    target: u32,
     operand: Operand,
 ) -> Stepped
     requires { ⌜ Scaled (now multiples) (operand .item) (operand .scaled) × System (now system)
         × Within (now system) moves ⌝ }
-    requires { ⌜ Ready (now work) (room .vertices) (room .edges) counters × (counters .settled < counters .known) ⌝ }
+    requires { ⌜ Ready (now work) (room .vertices) (room .edges) counters
+        × Raisable (now work) (room .vertices) (room .edges) operand counters ⌝ }
+    requires { ⌜ (operand .«by_state» ≡ true → stateCount (now system) ≤ operand .marks) ⌝ }
     requires { ⌜ (transition < transitionCount (now system)) × (operand .item < 2048)
-        × (transitionLabel (now system) transition < length (now answers)) ⌝ }
-    ensures { λ r. ⌜ ((ts : List ℕ) → Marked (now (work .entry)) (room .vertices) counters ts
-        → Gathered (now (work .entry)) (room .vertices) (room .edges) counters ts (answeredKeys (now (system .entry))
-        (now (answers .entry)) (operand .item) (transition ∷ [])) (now (work .exit)) r) ⌝ }
+        × (transitionLabel (now system) transition < length (now answers))
+        × (target ≡ transitionTarget (now system) transition) ⌝ }
+    ensures { λ r. ⌜ ((w : List ℕ) (c : Counters) (ks : List ℕ) → operand .start ≡ c .edges
+        → Gathering w (room .vertices) (room .edges) c operand ks (now (work .entry)) counters
+        → Gathered w (room .vertices) (room .edges) c operand
+        (ks ++ answeredKeys (now (system .entry)) (now (answers .entry)) (operand .item) (transition ∷ []))
+        (now (work .exit)) r) ⌝ }
 {
     let label = label_of(system, moves, transition);
     if answers[label] == 1 {
-        let target = target_of(system, moves, transition);
-        return settling::target_once(
-            counters,
-            multiples,
-            work,
-            room,
-            target,
-            operand.item,
-            operand.scaled,
-        );
+        return settling::target_once(counters, multiples, work, room, target, operand);
     }
     Stepped::Fits(counters)
 }
 
-// The transitions give their targets, each once. This is where a walk spends its time: no label is decided here, and
-// the words of labels and action formulas are no parameters, so that the compiler can keep what the loop needs in
-// registers.
+// How many marks the targets of a step have: one for each vertex that fits, or for each state of the system where the
+// marks past the vertices' are cheap to clear, beside so many transitions, and do not meet the edges of this step, of
+// which there is at most one for each state.
+fn mark_count(room: Room, edges: u32, states: u32, transitions: usize) -> u32
+    requires { ⌜ (room .vertices ≤ mostVertices) × (room .edges ≤ mostEdges) × (edges ≤ room .edges)
+        × (states ≤ mostStates) ⌝ }
+    ensures { λ r. ⌜ r ≡ markCount (room .vertices) (room .edges) edges states transitions ⌝ }
+{
+    if states <= room.vertices {
+        return room.vertices;
+    }
+    let more = states - room.vertices;
+    if transitions < more as usize {
+        return room.vertices;
+    }
+    if edges + states + more < room.edges {
+        return states;
+    }
+    room.vertices
+}
+
+// The transitions give their targets, each once, with the number of its transitions. This is where a walk spends its
+// time: no label is decided here, and the words of labels and action formulas are no parameters, so that the compiler can
+// keep what the loop needs in registers. The target of the next transition is read before the count of this one's is
+// raised: on some machines a read waits for the place of the store before it.
+fn follow_all(
+    counters: Counters,
+    multiples: &[u32],
+    work: &mut [u32],
+    room: Room,
+    system: &[u32],
+    answers: &[u8],
+    moves: Moves,
+    operand: Operand,
+) -> Stepped
+    requires { ⌜ Scaled (now multiples) (operand .item) (operand .scaled) × System (now system)
+        × Within (now system) moves × (operand .item < 2048) ⌝ }
+    requires { ⌜ Ready (now work) (room .vertices) (room .edges) counters × (operand .start ≡ counters .edges)
+        × Spacious (now work) (now system) room operand counters ⌝ }
+    requires { ⌜ HaveBytes (now system) (now answers) (moves .first) (moves .end) ⌝ }
+    ensures { λ r. ⌜ Answer (now (work .entry)) (room .vertices) (room .edges) counters
+        (once eqb (answeredKeys (now (system .entry)) (now (answers .entry)) (operand .item) (numbersOf moves)))
+        (tallies (answeredKeys (now (system .entry)) (now (answers .entry)) (operand .item) (numbersOf moves)))
+        (now (work .exit)) r ⌝ }
+{
+    let mut so_far = counters;
+    let mut ahead: u32 = 0;
+    let mut t = moves.first;
+    if t < moves.end {
+        ahead = target_of(system, moves, t);
+    }
+    while t < moves.end {
+        let target = ahead;
+        if t + 1 < moves.end {
+            ahead = target_of(system, moves, t + 1);
+        }
+        let Stepped::Fits(next) = follow(
+            so_far,
+            multiples,
+            work,
+            room,
+            system,
+            answers,
+            moves,
+            t,
+            target,
+            operand,
+        ) else {
+            return Stepped::Full;
+        };
+        so_far = next;
+        t += 1;
+    }
+    Stepped::Fits(so_far)
+}
+
+// The same with marks for the step, and with what its targets share.
 fn settle_matched(
     counters: Counters,
     compiled: &Compiled,
@@ -138,32 +206,32 @@ fn settle_matched(
 ) -> Stepped
     requires { ⌜ Multiples (multiplesIn (now compiled)) × System (now system) × Within (now system) moves × (item < 2048) ⌝ }
     requires { ⌜ Unmarked (now work) room counters × HaveBytes (now system) (now answers) (moves .first) (moves .end) ⌝ }
-    ensures { λ r. ⌜ Answer (now (work .entry)) (room .vertices) (room .edges) counters (once eqb
-        (answeredKeys (now (system .entry)) (now (answers .entry)) item (numbersOf moves))) (now (work .exit)) r ⌝ }
+    ensures { λ r. ⌜ Answer (now (work .entry)) (room .vertices) (room .edges) counters
+        (once eqb (answeredKeys (now (system .entry)) (now (answers .entry)) item (numbersOf moves)))
+        (tallies (answeredKeys (now (system .entry)) (now (answers .entry)) item (numbersOf moves)))
+        (now (work .exit)) r ⌝ }
 {
+    let states = system[0];
+    let marks = mark_count(room, counters.edges, states, moves.end - moves.first);
+    settling::clear_marks(work, room, marks);
     let multiples = compiled::multiples(compiled);
-    let scaled = pairs::product(multiples, item);
-    let operand = Operand { item, scaled };
-    let mut so_far = counters;
-    let mut t = moves.first;
-    while t < moves.end {
-        let Stepped::Fits(next) = follow(
-            so_far,
-            multiples,
-            work,
-            room,
-            system,
-            answers,
-            moves,
-            t,
-            operand,
-        ) else {
-            return Stepped::Full;
-        };
-        so_far = next;
-        t += 1;
-    }
-    Stepped::Fits(so_far)
+    let operand = Operand {
+        item,
+        scaled: pairs::product(multiples, item),
+        start: counters.edges,
+        by_state: states <= marks,
+        marks,
+    };
+    follow_all(
+        counters,
+        multiples,
+        work,
+        room,
+        system,
+        answers,
+        moves,
+        operand,
+    )
 }
 
 // For the labels of the transitions it is decided whether the action formula at the node matches them. This stands in
@@ -215,6 +283,8 @@ fn settle_decided(
     requires { ⌜ Within (now system) moves × (modality .action < size (now actions)) × (modality .operand < 2048) ⌝ }
     ensures { λ r. ⌜ Answer (now (work .entry)) (room .vertices) (room .edges) counters
         (once eqb (matchedKeys (now (labels .entry)) (now (system .entry)) (actionTree (now (labels .entry))
+        (now (actions .entry)) (modality .action)) (modality .operand) (numbersOf moves)))
+        (tallies (matchedKeys (now (labels .entry)) (now (system .entry)) (actionTree (now (labels .entry))
         (now (actions .entry)) (modality .action)) (modality .operand) (numbersOf moves))) (now (work .exit)) r ⌝ }
 {
     let mut answers = [0u8; LABELS];
@@ -234,7 +304,8 @@ fn settle_decided(
     )
 }
 
-// The targets of a modality are met and get their edges. The formula is no parameter: successors do not depend on it.
+// The targets of a modality are met and get their edges, each with its count of matching transitions. The formula is no
+// parameter: successors do not depend on it.
 pub fn settle_modality(
     counters: Counters,
     compiled: &Compiled,
@@ -253,7 +324,7 @@ pub fn settle_modality(
         × MatchTable (x .labels) (x .actions) (now matched) ⌝ }
     requires { λ x. ⌜ Unmarked (now work) room counters × Inside x modality ⌝ }
     ensures { λ x r. ⌜ Answer (now (work .entry)) (room .vertices) (room .edges) counters (modalityKeys x modality)
-        (now (work .exit)) r ⌝ }
+        (modalityCounts x modality) (now (work .exit)) r ⌝ }
 {
     let answers = match_table::row(labels, actions, matched, modality.action as usize);
     let moves = moves_of(system, compiled, modality.state);

@@ -1,21 +1,26 @@
--- A game of n vertices and m edges that four calls write, one after the other: what is left of it behind each call, and
--- that the next one has room. Assumes nothing.
+-- A game of n vertices and m edges that calls write, one after the other: what is left of it behind each call, and that
+-- the next one has room. The columns of the edges are written by one call, or the targets by one and the others by
+-- another. Assumes nothing.
 use Prim.Native.Nat.{ℕ, _+_, _-_, _*_, _≤_}
 use native.Mathlib.Omega.{arith}
-use mathlib.Core.Path.{_≡_}
-use mathlib.Core.List.{List, [], _∷_, _++_}
-use lib.ListN.{length, take, replicate, length-append}
-use Rattle.rules.specs.Game.{Vertex, vertexColumns, gameWords, edgeCount, offsets, columns, gameOf, padded}
+use mathlib.Core.Path.{_≡_, sym}
+use mathlib.Core.List.{List, [], _∷_, _++_, append-nil}
+use lib.ListN.{length, take, drop, replicate, length-append}
+use Rattle.rules.specs.Game.{Vertex, vertexColumns, edgeColumns, gameWords, edgeCount, offsets, allEdges, columns}
+use Rattle.rules.specs.Game.{gameOf, padded}
 use Rattle.words.specs.Stretches.{Wrote}
 use Rattle.words.proofs.Stretches.{Writing, start, turn, called, done}
-use Rattle.games.specs.Columns.{edgeColumn, edgeColumnOf}
+use Rattle.games.specs.Columns.{edgeColumnOf}
 use Rattle.games.proofs.Columns.{length-columns}
-use Rattle.games.proofs.Reading.{length-offsets, length-edge-column, length-read}
-use Rattle.parity_game.proofs.Stretches.{game-stretches, game-padded}
+use Rattle.games.proofs.Reading.{length-offsets, length-edges, length-read}
+use Rattle.parity_game.proofs.Stretches.{game-stretches, targets-first, game-padded}
 
--- what is left behind the offsets, behind the columns, behind the header
+-- what is left behind the targets, behind the offsets, behind the columns of the vertices, behind the header
+abbrev pub behindTargets : List Vertex → List ℕ
+behindTargets vs = columns (drop 1 edgeColumns) (allEdges vs)
+
 abbrev pub behindOffsets : List Vertex → List ℕ
-behindOffsets vs = edgeColumnOf 0 vs ++ []
+behindOffsets vs = columns edgeColumns (allEdges vs)
 
 abbrev pub behindColumns : List Vertex → List ℕ
 behindColumns vs = offsets 0 vs ++ behindOffsets vs
@@ -52,19 +57,45 @@ module _ (vs : List Vertex) (n m : ℕ) (many : n ≡ length vs) (most : m ≡ e
           length-offsets 0 vs,
         )
 
-    pub targets-fit : Writing at (behindOffsets vs) out 0 (gameOf 0 vs) out₀ → at + m ≤ length out
-    targets-fit w =
+    pub edges-fit : Writing at (behindOffsets vs) out 0 (gameOf 0 vs) out₀ → at + length edgeColumns * m ≤ length out
+    edges-fit w =
         omega (
           arith,
           w .long,
           w .last,
           length-read 0 vs,
-          length-append (edgeColumnOf 0 vs) [],
-          length-edge-column (edgeColumn 0) vs,
+          length-columns edgeColumns (allEdges vs),
+          length-edges vs,
+        )
+
+    pub targets-fit : Writing at (behindOffsets vs) out 0 (gameOf 0 vs) out₀ → at + m ≤ length out
+    targets-fit w = omega (arith, edges-fit w)
+
+    pub others-fit : Writing at (behindTargets vs) out 0 (gameOf 0 vs) out₀
+        → at + (length edgeColumns - 1) * m ≤ length out
+    others-fit w =
+        omega (
+          arith,
+          w .long,
+          w .last,
+          length-read 0 vs,
+          length-columns (drop 1 edgeColumns) (allEdges vs),
+          length-edges vs,
         )
 
     pub game-fits : Writing at [] out 0 (gameOf 0 vs) out₀ → at ≤ length out
     game-fits w = omega (arith, w .long, w .last, length-read 0 vs)
+
+-- the targets are written
+pub targets-done : (vs : List Vertex) {at r at₀ : ℕ} {stretch out out′ out₀ : List ℕ} → length out′ ≡ length out
+    → Wrote at (edgeColumnOf 0 vs) out out′ r → Writing at (behindOffsets vs) out at₀ stretch out₀
+    → Writing r (behindTargets vs) out′ at₀ stretch out₀
+targets-done vs l c w = called l c (turn (targets-first vs) w)
+
+-- a call writes all that is left
+pub last-done : {at r at₀ : ℕ} {left stretch out out′ out₀ : List ℕ} → length out′ ≡ length out
+    → Wrote at left out out′ r → Writing at left out at₀ stretch out₀ → Writing r [] out′ at₀ stretch out₀
+last-done {left = left} l c w = called l c (turn (sym (append-nil left)) w)
 
 -- all is written, and zeros past it
 pub game-done : {at : ℕ} {stretch out out₀ out′ : List ℕ} → Writing at [] out 0 stretch out₀

@@ -18,6 +18,11 @@ const MOST_VERTICES: usize = 1_048_576;
 
 const MOST_EDGES: usize = 4_194_304;
 
+// The columns of the vertices are owners and priorities, those of the edges targets and counts.
+const VERTEX_COLUMNS: usize = 2;
+
+const EDGE_COLUMNS: usize = 2;
+
 // ---- where the words stand
 
 // The place where a column of the vertices begins, in a game of so many.
@@ -32,7 +37,14 @@ pub fn vertex_column_at(vertices: usize, column: usize) -> usize
 pub fn vertex_columns() -> usize
     ensures { λ r. ⌜ r ≡ length vertexColumns ⌝ }
 {
-    2
+    VERTEX_COLUMNS
+}
+
+// How many columns the edges have.
+pub fn edge_columns() -> usize
+    ensures { λ r. ⌜ r ≡ length edgeColumns ⌝ }
+{
+    EDGE_COLUMNS
 }
 
 // The place where the offsets begin.
@@ -51,12 +63,12 @@ fn edge_column_at(vertices: usize, edges: usize, column: usize) -> usize
     offsets_at(vertices) + vertices + 1 + column * edges
 }
 
-// How many words a game of so many vertices and edges has: it ends behind one column of the edges.
+// How many words a game of so many vertices and edges has: it ends behind the columns of the edges.
 pub fn game_words(vertices: usize, edges: usize) -> usize
     requires { ⌜ (vertices < 4294967296) × (edges < 4294967296) ⌝ }
     ensures { λ r. ⌜ r ≡ gameWords vertices edges ⌝ }
 {
-    edge_column_at(vertices, edges, 1)
+    edge_column_at(vertices, edges, edge_columns())
 }
 
 // The word of a vertex in a column.

@@ -2,18 +2,20 @@
 use Prim.Native.Nat.{ℕ, suc, _+_, _-_, _≤_, _<_}
 use native.Mathlib.Omega.{arith}
 use mathlib.Core.Path.{_≡_, refl, sym, ap, _∙_, subst}
-use mathlib.Core.Bool.{Bool}
+use mathlib.Core.Bool.{Bool, true, false, cond}
 use mathlib.Core.List.{List, [], _∷_, _++_, map, append-nil, append-assoc}
-use lib.ListN.{length, take, set, replicate, length-set, length-map, take-append-drop}
+use lib.ListN.{length, take, drop, set, replicate, length-set, length-map, take-append-drop}
 use lib.Seq.{slice, slice-empty, take-take, take-set-le, length-take-le}
+use lib.Dec.{eqb}
 use Rattle.rules.specs.declared.Check.{Check}
 use Rattle.rules.specs.declared.Check.the-variants.{Passed, Fault}
 use Rattle.rules.specs.declared.Answer.the-variants.{Done, Refused}
 use Rattle.rules.specs.declared.Room.{Room}
-use Rattle.rules.specs.Lists.{In, from, sum}
+use Rattle.rules.specs.Lists.{In, from, sum, once}
 use Rattle.rules.specs.Words.{gameLength, roomOf}
 use Rattle.rules.specs.Answers.{faultIf, andThen, firstFault}
-use Rattle.rules.specs.Game.{Vertex, vertexColumns, gameWords, edgeCount, offsets, allEdges, columns, gameOf, padded}
+use Rattle.rules.specs.Game.{Vertex, waitingVertex, vertexColumns, edgeColumns, gameWords, edgeCount, offsets}
+use Rattle.rules.specs.Game.{allEdges, columns, gameOf, padded}
 use Rattle.rules.specs.Refusal.{differ, outside, refusal1}
 use Rattle.rules.specs.Pgsolver.{SolverLine, SolverText}
 use Rattle.rules.specs.PgsolverParse.{parse}
@@ -25,7 +27,9 @@ use Rattle.lists.proofs.Tests.{or-false}
 use Rattle.tables.proofs.Faults.{if-true, if-false, if-passed, then-both, then-fault, then-passed}
 use Rattle.tables.proofs.Choices.{outside-false, differ-yes, differ-no, differ-false}
 use Rattle.games.specs.Columns.{edgeColumnOf}
-use Rattle.parity_game.proofs.Stretches.{three, game-stretches}
+use Rattle.games.proofs.Reading.{length-read}
+use Rattle.parity_game.proofs.Stretches.{three, game-stretches, targets-first, Plain, plain-to, plain-none, plain-more}
+use Rattle.parity_game.proofs.Stretches.{plain-padded}
 use Rattle.game_texts.proofs.Numbered.{as-many}
 use Rattle.game_texts.proofs.Exact.{Passes92, passed92, none-missing}
 use Rattle.pgsolver_check.specs.declared.Plan.{Plan}
@@ -40,7 +44,7 @@ use Rattle.pgsolver_reader.proofs.Writing.{slice-below, slice-above, sl
 -- ---- the first vertex
 
 pub part-start : {text : List ℕ} {n : ℕ} {game : List ℕ}
-    → edgesBegin n + edgeCount (vertsTo (linesIn text) n) ≤ length game → Part text n 0 (edgesBegin n) game
+    → gameWords n (edgeCount (vertsTo (linesIn text) n)) ≤ length game → Part text n 0 (edgesBegin n) game
 unfolding vertsTo from starts allEdges edgeCount sum
 part-start {text} {n} {game} r =
     let x : columnAt n 0 + 0 ≡ columnAt n 0 = omega arith in
@@ -82,6 +86,24 @@ offsets-starts e (v ∷ vs) =
 verts-length : (ls : List SolverLine) (n : ℕ) → length (vertsTo ls n) ≡ n
 unfolding vertsTo
 verts-length ls n = length-map (from 0 n) (vertexNamed ls) ∙ from-length 0 n
+
+-- the text gives no counts
+named-plain : (ls : List SolverLine) (v : ℕ) → Plain (vertexNamed ls v .edges)
+unfolding vertexNamed vertexOf waitingVertex
+named-plain [] v = refl
+named-plain (l ∷ ls) v = go (eqb (l .number) v) (named-plain ls v)
+  where
+    go : (b : Bool) → Plain (vertexNamed ls v .edges) → Plain (cond b (vertexOf l) (vertexNamed ls v) .edges)
+    go true e = plain-to (λ t. t) (once eqb (l .successors))
+    go false e = e
+
+verts-plain : (ls : List SolverLine) (n : ℕ) → Plain (allEdges (vertsTo ls n))
+unfolding vertsTo
+verts-plain ls n = each (from 0 n)
+  where
+    each : (us : List ℕ) → Plain (allEdges (map (vertexNamed ls) us))
+    each [] = plain-none
+    each (u ∷ us) = plain-more (vertexNamed ls u) (map (vertexNamed ls) us) (named-plain ls u) (each us)
 
 module _ {text : List ℕ} {n m q : ℕ} {g : List ℕ} (p : Part text n n q g) (size : m ≡ q - edgesBegin n) where
   abbrev vs : List Vertex
@@ -142,7 +164,11 @@ module _ {text : List ℕ} {n m q : ℕ} {g : List ℕ} (p : Part text n n q g) 
   unfolding columns
   two-columns = refl
 
-  whole : take q G ≡ gameOf 0 vs
+  -- the columns behind the targets
+  abbrev more : List ℕ
+  more = columns (drop 1 edgeColumns) (allEdges vs)
+
+  whole : take q G ++ more ≡ gameOf 0 vs
   whole =
       let a : 3 ≡ columnAt n 0 = omega arith in
       let b : columnAt n 0 + n ≡ columnAt n 1 = omega arith in
@@ -159,32 +185,40 @@ module _ {text : List ℕ} {n m q : ℕ} {g : List ℕ} (p : Part text n n q g) 
       ∙ ap (λ (l : List ℕ). l ++ slice (columnAt n 1) (columnAt n 1 + n) G) (ap (λ (k : ℕ). take k G) (sym b)
       ∙ cut-off G (columnAt n 0) (columnAt n 0 + n) (omega arith)
       ∙ ap (λ (k : ℕ). take k G ++ slice (columnAt n 0) (columnAt n 0 + n) G) (sym a))))) in
-      one-by-one
+      ap (λ (l : List ℕ). l ++ more) one-by-one
       ∙ rw (head, owners, priorities, starts-read, last-read, targets-read) refl
       ∙ regroup (n ∷ m ∷ 0 ∷ []) (map (λ x. x .owner) vs) (map (λ x. x .priority) vs) (starts 0 vs) (m ∷ [])
-      (edgeColumnOf 0 vs)
-      ∙ ap (λ (l : List ℕ). (n ∷ m ∷ 0 ∷ []) ++ (l ++ ((starts 0 vs ++ (m ∷ [])) ++ (edgeColumnOf 0 vs ++ []))))
+      (edgeColumnOf 0 vs) more
+      ∙ ap (λ (l : List ℕ). (n ∷ m ∷ 0 ∷ []) ++ (l ++ ((starts 0 vs ++ (m ∷ [])) ++ (edgeColumnOf 0 vs ++ more))))
       (sym two-columns)
-      ∙ ap (λ (l : List ℕ). (n ∷ m ∷ 0 ∷ []) ++ (columns vertexColumns vs ++ (l ++ (edgeColumnOf 0 vs ++ []))))
+      ∙ ap (λ (l : List ℕ). (n ∷ m ∷ 0 ∷ []) ++ (columns vertexColumns vs ++ (l ++ (edgeColumnOf 0 vs ++ more))))
       (ap (λ (k : ℕ). starts 0 vs ++ (k ∷ [])) (sym e) ∙ sym (offsets-starts 0 vs))
+      ∙ ap (λ (l : List ℕ). (n ∷ m ∷ 0 ∷ []) ++ (columns vertexColumns vs ++ (offsets 0 vs ++ l)))
+      (sym (targets-first vs))
       ∙ sym (game-stretches vs n m (sym (verts-length (linesIn text) n)) assembled-count)
     where
-      regroup : (a b c d e f : List ℕ)
-          → ((((a ++ b) ++ c) ++ d) ++ e) ++ f ≡ a ++ ((b ++ (c ++ [])) ++ ((d ++ e) ++ (f ++ [])))
-      regroup a b c d e f = simp (append-assoc, append-nil)
+      regroup : (a b c d e f h : List ℕ)
+          → (((((a ++ b) ++ c) ++ d) ++ e) ++ f) ++ h ≡ a ++ ((b ++ (c ++ [])) ++ ((d ++ e) ++ (f ++ h)))
+      regroup a b c d e f h = simp (append-assoc, append-nil)
 
-  long : length (gameOf 0 vs) ≡ q
-  long = ap length (sym whole) ∙ length-take-le q G (omega (arith, length-set g3 last m, long3, p .place, p .room))
+  long : length (take q G) ≡ q
+  long = length-take-le q G (omega (arith, length-set g3 last m, long3, p .place, p .room))
 
+  -- the zeros behind the targets are the counts, and past them those that follow every game
   pub assembled : (g₀ g₄ : List ℕ) {g₁ : List ℕ} → length g ≡ length g₀ → g₁ ≡ G → g₄
       ≡ take q g₁ ++ replicate (length g₁ - q) 0
       → g₄ ≡ padded (length g₀) (gameOf 0 vs)
-  unfolding padded
   assembled g₀ g₄ {g₁} l f e =
-      let z : length g₁ - q ≡ length g₀ - length (gameOf 0 vs) =
-      omega (arith, ap length f, length-set g3 last m, long3, l, long) in
-      e ∙ ap (λ (x : List ℕ). take q x ++ replicate (length g₁ - q) 0) f
-      ∙ ap (λ (x : List ℕ). x ++ replicate (length g₁ - q) 0) whole ∙ ap (λ (k : ℕ). gameOf 0 vs ++ replicate k 0) z
+      e ∙ padding
+      ∙ plain-padded vs (take q G) (length g₀) (verts-plain (linesIn text) n) (sym whole)
+      (omega (arith, length-read 0 vs, verts-length (linesIn text) n, p .room, l))
+    where
+      padding : take q g₁ ++ replicate (length g₁ - q) 0 ≡ padded (length g₀) (take q G)
+      padding = unfold padded in
+          let z : length g₁ - q ≡ length g₀ - length (take q G)
+          = omega (arith, ap length f, length-set g3 last m, long3, l, long) in
+          ap (λ (x : List ℕ). take q x ++ replicate (length g₁ - q) 0) f
+          ∙ ap (λ (k : ℕ). take q G ++ replicate k 0) z
 
 pub assembled-place : {text : List ℕ} {n q : ℕ} {g : List ℕ} → Part text n n q g → (edgesBegin n ≤ q) × (q ≤ length g)
 assembled-place p = (omega (arith, p .place), omega (arith, p .place, p .room))

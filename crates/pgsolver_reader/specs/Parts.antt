@@ -97,7 +97,7 @@ starts e (v ∷ vs) = e ∷ starts (e + length (v .edges)) vs
 
 -- the vertices below v are written, their targets up to place q
 pub record Part (text : List ℕ) (n v q : ℕ) (game : List ℕ) : Type 0 where
-  pub room : edgesBegin n + edgeCount (vertsTo (linesIn text) n) ≤ length game
+  pub room : gameWords n (edgeCount (vertsTo (linesIn text) n)) ≤ length game
   pub within : v ≤ n
   pub place : q ≡ edgesBegin n + edgeCount (vertsTo (linesIn text) v)
   pub owners : slice (columnAt n 0) (columnAt n 0 + v) game ≡ map (λ x. x .owner) (vertsTo (linesIn text) v)
@@ -111,7 +111,7 @@ pub record Ready (text : List ℕ) (first n : ℕ) (ordered : Bool) (size : ℕ)
   pub begins : Begins text first
   pub given : (u : ℕ) → u < n → In u (numbersOf (linesIn text))
   pub order : ordered ≡ true → numbersOf (linesIn text) ≡ from 0 n
-  pub room : edgesBegin n + edgeCount (vertsTo (linesIn text) n) ≤ size
+  pub room : gameWords n (edgeCount (vertsTo (linesIn text) n)) ≤ size
   pub short : size < 4_294_967_296
 
 -- "after 1 and 2": what is refused before the text is looked at

@@ -340,7 +340,7 @@ fn write_vertices(
     write_posted(text, vertices, game, bits)
 }
 
-// The words that belong to no vertex: the counts, the initial vertex, the last offset.
+// The words that belong to no vertex and no edge: how many there are of each, the initial vertex, the last offset.
 fn write_counts(game: &mut [u32], vertices: usize, edges: usize)
     requires { ⌜ (vertices ≤ mostVertices) × (edges < 4294967296) × (edgesBegin vertices ≤ length (now game)) ⌝ }
     ensures { λ _. ⌜ now (game .exit)
@@ -353,7 +353,8 @@ fn write_counts(game: &mut [u32], vertices: usize, edges: usize)
         edges as u32;
 }
 
-// The game of a text that passed the check, and zeros past it. The answer is how many edges it has.
+// The game of a text that passed the check, and zeros past it. The zeros begin behind the targets, where the counts
+// stand: "games read from text carry 0" (#102). The answer is how many edges the game has.
 fn write_game(
     text: &[u8],
     first: usize,
@@ -427,7 +428,7 @@ fn read_text(text: &[u8], room: Room, game: &mut [u32]) -> Answer
 // - `equals` gives the answer and the game slice afterwards by the rules' reading;
 // - `coded`: the answer's words (`said`) are those of the rules' answer;
 // - `demand` says when a text is refused, by which number, and else what the slice holds: the game that the text says,
-//   and zeros past it.
+//   each edge with the count 0, and zeros past it.
 pub fn read_pgsolver(text: &[u8], vertices: u32, edges: u32, game: &mut [u32]) -> Answer
     ensures equals { λ r. ⌜ _≡_ {A = Readback} (record { answer = r; game = now (game .exit) })
         (readGame (roomOf vertices edges) (now (text .entry)) (now (game .entry))) ⌝ }

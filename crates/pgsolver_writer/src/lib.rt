@@ -1,5 +1,5 @@
-// Parity games written as PGSolver text (#101). `write_pgsolver` is the one function for users; the others are its
-// parts.
+// Parity games written as PGSolver text (#101), which does not show the counts of a game's edges (#102).
+// `write_pgsolver` is the one function for users; the others are its parts.
 use bitmap::Bitmap;
 use bitmap::WORDS;
 use rules::Answer;

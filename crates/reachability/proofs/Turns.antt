@@ -15,7 +15,7 @@ use Rattle.rules.specs.Restrict.{searchFrom, reachedVertices}
 use Rattle.lists.proofs.Inserts.{inserts-none, inserts-cons, insert-new}
 use Rattle.lists.proofs.Equalities.{number-equality}
 use Rattle.reachability.specs.Search.{Knows}
-use Rattle.reachability.proofs.Edges.{targets-between}
+use Rattle.reachability.proofs.Edges.{edges-between}
 use Rattle.reachability.proofs.Meeting.{length-known}
 
 -- ---- the targets that are left
@@ -69,7 +69,7 @@ search-step g count i v a b mapping work met′ whole k n h p q r s w =
     at-v = getD-take count work i 0 h ∙ sym p
 
     same : slice a b g ≡ targetsIn g (getD (take count work) i 0)
-    same = rw (q, r) (sym (targets-between g v)) ∙ ap (targetsIn g) (sym at-v)
+    same = rw (q, r) (sym (edges-between g 0 v)) ∙ ap (targetsIn g) (sym at-v)
 
 pub search-done : (g : List ℕ) (count i : ℕ) (mapping work whole : List ℕ) → Knows count mapping work → count ≤ i
     → whole ≡ searchFrom g (vertexCount g - i) i (take count work) → take count work ≡ whole

@@ -6,13 +6,14 @@ use rules::Check;
 ghost use mathlib.Core.Path.{_≡_};
 ghost use mathlib.Core.List.{List, map};
 ghost use Prim.Native.Nat.{ℕ, _+_, _-_, _*_, _<_, _≤_};
-ghost use lib.ListN.{length, take};
+ghost use lib.ListN.{length, take, drop};
 ghost use lib.Seq.{slice};
 ghost use lib.Dec.{eqb};
 ghost use Rattle.rules.specs.declared.Check.the-variants.{Passed};
 ghost use Rattle.rules.specs.Lists.{word, insert, insertAll};
 ghost use Rattle.rules.specs.Answers.{said, Accepted};
-ghost use Rattle.rules.specs.Game.{Vertex, vertexColumns, edgeCount, offsets, columns, gameOf, padded};
+ghost use Rattle.rules.specs.Game.{Vertex, vertexColumns, edgeColumns, edgeCount, offsets, allEdges, columns};
+ghost use Rattle.rules.specs.Game.{gameOf, padded};
 ghost use Rattle.rules.specs.Game.{vertexCount, edgesFrom};
 ghost use Rattle.rules.specs.Restrict.{reachedVertices, keptVertices, restrictionRefusal, restrictedTo, restriction};
 ghost use Rattle.rules.specs.Restricts.{Restricts, RestrictionDemand1};
@@ -64,22 +65,25 @@ fn new_number(mapping: &[u32], vertex: VertexIndex) -> VertexIndex
     vertex_at(mapping, vertex.0 as usize)
 }
 
-// The place where a vertex's targets begin.
-fn targets_from(game: &[u32], vertex: VertexIndex) -> usize
+// The targets: the first column of the edges. The others are copied as they are.
+const TARGETS: usize = 0;
+
+// The place where the words of a vertex's edges begin in a column.
+fn edges_from(game: &[u32], column: usize, vertex: VertexIndex) -> usize
     requires { ⌜ GoodGame (now game) ⌝ }
-    requires { ⌜ vertex .0 < vertexCount (now game) ⌝ }
-    ensures { λ r. ⌜ r ≡ edgesFrom (now (game .entry)) 0 (vertex .0) ⌝ }
+    requires { ⌜ (column < length edgeColumns) × (vertex .0 < vertexCount (now game)) ⌝ }
+    ensures { λ r. ⌜ r ≡ edgesFrom (now (game .entry)) column (vertex .0) ⌝ }
 {
-    parity_game::edges_from(game, 0, vertex.0 as usize)
+    parity_game::edges_from(game, column, vertex.0 as usize)
 }
 
 // The place past them.
-fn targets_end(game: &[u32], vertex: VertexIndex) -> usize
+fn edges_end(game: &[u32], column: usize, vertex: VertexIndex) -> usize
     requires { ⌜ GoodGame (now game) ⌝ }
-    requires { ⌜ vertex .0 < vertexCount (now game) ⌝ }
-    ensures { λ r. ⌜ r ≡ edgesFrom (now (game .entry)) 0 (vertex .0 + 1) ⌝ }
+    requires { ⌜ (column < length edgeColumns) × (vertex .0 < vertexCount (now game)) ⌝ }
+    ensures { λ r. ⌜ r ≡ edgesFrom (now (game .entry)) column (vertex .0 + 1) ⌝ }
 {
-    parity_game::edges_from(game, 0, vertex.0 as usize + 1)
+    parity_game::edges_from(game, column, vertex.0 as usize + 1)
 }
 
 // ---- the search
@@ -140,8 +144,8 @@ fn explore(game: &[u32], mapping: &mut [u32], work: &mut [u32]) -> usize
     let mut i = 0;
     while i < count {
         let vertex = vertex_at(work, i);
-        let from = targets_from(game, vertex);
-        let end = targets_end(game, vertex);
+        let from = edges_from(game, TARGETS, vertex);
+        let end = edges_end(game, TARGETS, vertex);
         count = discover_all(game, from, end, mapping, work, count);
         i += 1;
     }
@@ -159,8 +163,8 @@ fn count_edges(game: &[u32], work: &[u32], count: usize) -> usize
     let mut i = 0;
     while i < count {
         let vertex = vertex_at(work, i);
-        let from = targets_from(game, vertex);
-        let end = targets_end(game, vertex);
+        let from = edges_from(game, TARGETS, vertex);
+        let end = edges_end(game, TARGETS, vertex);
         edges += end - from;
         i += 1;
     }
@@ -201,8 +205,8 @@ fn write_offsets(game: &[u32], work: &[u32], count: usize, out: &mut [u32], star
         out[next] = edges as u32;
         next += 1;
         let vertex = vertex_at(work, i);
-        let from = targets_from(game, vertex);
-        let end = targets_end(game, vertex);
+        let from = edges_from(game, TARGETS, vertex);
+        let end = edges_end(game, TARGETS, vertex);
         edges += end - from;
         i += 1;
     }
@@ -256,10 +260,62 @@ fn write_targets(
     let mut next = start;
     while i < count {
         let vertex = vertex_at(work, i);
-        let from = targets_from(game, vertex);
-        let end = targets_end(game, vertex);
+        let from = edges_from(game, TARGETS, vertex);
+        let end = edges_end(game, TARGETS, vertex);
         next = write_numbers(game, from, end, mapping, out, next);
         i += 1;
+    }
+    next
+}
+
+// A column of the edges of the vertices reached that is copied as it is.
+fn write_copied(
+    game: &[u32],
+    work: &[u32],
+    count: usize,
+    column: usize,
+    out: &mut [u32],
+    start: usize,
+) -> usize
+    ghost { List Vertex }
+    requires { λ kept. ⌜ keptVertices (now game) (take count (now work)) ≡ kept ⌝ }
+    requires { λ kept. ⌜ Chosen (now game) count (now work) ⌝ }
+    requires { λ kept. ⌜ (0 < column) × (column < length edgeColumns) × (start + edgeCount kept ≤ length (now out)) ⌝ }
+    ensures { λ kept r. ⌜ Wrote start (edgeColumnOf column kept) (now (out .entry)) (now (out .exit)) r ⌝ }
+{
+    let mut i = 0;
+    let mut next = start;
+    while i < count {
+        let vertex = vertex_at(work, i);
+        let from = edges_from(game, column, vertex);
+        let end = edges_end(game, column, vertex);
+        next = words::copy(game, from, end, out, next);
+        i += 1;
+    }
+    next
+}
+
+// All of them, one after another.
+fn write_all_copied(
+    game: &[u32],
+    work: &[u32],
+    count: usize,
+    out: &mut [u32],
+    start: usize,
+) -> usize
+    ghost { List Vertex }
+    requires { λ kept. ⌜ keptVertices (now game) (take count (now work)) ≡ kept ⌝ }
+    requires { λ kept. ⌜ Chosen (now game) count (now work) ⌝ }
+    requires { λ kept. ⌜ start + (length edgeColumns - 1) * edgeCount kept ≤ length (now out) ⌝ }
+    ensures { λ kept r. ⌜ Wrote start (columns (drop 1 edgeColumns) (allEdges kept))
+        (now (out .entry)) (now (out .exit)) r ⌝ }
+{
+    let all = parity_game::edge_columns();
+    let mut column: usize = TARGETS + 1;
+    let mut next = start;
+    while column < all {
+        next = write_copied(game, work, count, column, out, next);
+        column += 1;
     }
     next
 }
@@ -278,7 +334,8 @@ fn write_game(game: &[u32], mapping: &[u32], work: &[u32], count: usize, out: &m
     let header = parity_game::write_header(count as u32, edges as u32, out);
     let places = write_columns(game, work, count, out, header);
     let targets = write_offsets(game, work, count, out, places);
-    let end = write_targets(game, mapping, work, count, out, targets);
+    let counts = write_targets(game, mapping, work, count, out, targets);
+    let end = write_all_copied(game, work, count, out, counts);
     words::fill(out, end, 0);
     edges
 }

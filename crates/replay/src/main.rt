@@ -50,9 +50,9 @@ fn lend_build(
     game_length: usize,
     work_length: usize,
 )
-    requires { ⌜ («game_length» ≤ 85) × («work_length» ≤ 193) ⌝ }
+    requires { ⌜ («game_length» ≤ 117) × («work_length» ≤ 193) ⌝ }
 {
-    let mut game = [fill; 85];
+    let mut game = [fill; 117];
     let mut work = [fill; 193];
     run_build(
         labels,
@@ -84,7 +84,7 @@ fn replay_build(stored: &[u32])
     let end = actions_end + length_at(stored, 7);
     let game_length = length_at(stored, 8);
     let work_length = length_at(stored, 10);
-    if end > 76 || game_length > 85 || work_length > 193 {
+    if end > 76 || game_length > 117 || work_length > 193 {
         bad_record();
         return;
     }

@@ -1,18 +1,18 @@
--- A game that is not refused is good, and what its offsets and targets are then. Assumes nothing.
-use mathlib.Core.Path.{_≡_, refl, sym, _∙_, subst}
-use mathlib.Core.List.{List}
+-- A game that is not refused is good, and what its offsets, edges and targets are then. Assumes nothing.
+use mathlib.Core.Path.{_≡_, refl, sym, ap, _∙_, subst}
+use mathlib.Core.List.{List, map}
 use mathlib.Core.Logic.{_⊎_, ⊎-elim}
 use Prim.Native.Nat.{ℕ, zero, suc, _+_, _-_, _≤_, _<_}
 use native.Mathlib.Omega.{arith}
-use lib.ListN.{length}
+use lib.ListN.{length, length-map}
 use lib.Seq.{slice, slice-empty, slice-cons, length-slice}
 use lib.Dec.{eqb, ltb}
 use borrow.Author.Tests.{ltb-false, leb-false, eqb-false}
 use Rattle.rules.specs.declared.Check.the-variants.{Passed}
 use Rattle.rules.specs.Lists.{word, In}
 use Rattle.rules.specs.Words.{mostVertices, mostEdges}
-use Rattle.rules.specs.Game.{vertexCount, edgesIn, initialIn, vertexColumnAt, offsetsAt, edgeColumnAt, gameEnd}
-use Rattle.rules.specs.Game.{offsetIn, edgesFrom, targetsIn}
+use Rattle.rules.specs.Game.{Edge, edgeColumns, vertexCount, edgesIn, initialIn, vertexColumnAt, offsetsAt}
+use Rattle.rules.specs.Game.{edgeColumnAt, gameEnd, offsetIn, edgesFrom, edgeWordsIn, targetsIn, edgesAt}
 use Rattle.rules.specs.Refusal.{differ, tooLarge}
 use Rattle.rules.specs.GameRefusal.{aboveRoom, refusal51, falls, refusal52, refusal53, gameRefusal}
 use Rattle.rules.specs.Restrict.{restrictionRefusal}
@@ -20,7 +20,9 @@ use Rattle.tables.proofs.Faults.{if-passed, if-false, from-passed, first-passed
 use Rattle.restrictions.specs.GoodGame.{GoodGame}
 use Rattle.lists.proofs.Tests.{or-false}
 use Rattle.tables.proofs.Choices.{differ-no, differ-false}
+use Rattle.games.specs.Columns.{edgeColumn}
 use Rattle.games.proofs.Offsets.{offset-within}
+use Rattle.games.proofs.Stretches.{edges-words}
 
 module _ (g : List ℕ) (r51 : refusal51 g ≡ Passed) (r52 : refusal52 g ≡ Passed) (r53 : refusal53 g ≡ Passed) where
   sizes : (length g ≡ gameEnd g) × (1 ≤ vertexCount g) × (vertexCount g ≤ 1_048_576) × (edgesIn g ≤ 4_194_304)
@@ -127,6 +129,16 @@ module _ (g : List ℕ) (good : GoodGame g) where
   pub degree : (v : ℕ) → v < vertexCount g → offsetIn g (suc v) ≡ offsetIn g v + length (targetsIn g v)
   degree v h =
       omega (arith, good .rises v h, length-slice (edgesFrom g 0 v) (edgesFrom g 0 (suc v)) g (targets-end v h))
+
+  -- the edges of a vertex one by one, and the words of a column
+  pub edges-column : (c v : ℕ) → c < length edgeColumns → v < vertexCount g
+      → map (edgeColumn c) (edgesAt g v) ≡ edgeWordsIn g c v
+  edges-column c v b h =
+      edges-words g c v b (good .rises v h) (most-offset (suc v) h) (omega (arith, good .sized))
+
+  pub edges-many : (v : ℕ) → v < vertexCount g → length (edgesAt g v) ≡ length (targetsIn g v)
+  edges-many v h =
+      sym (length-map (edgesAt g v) (λ (e : Edge). e .target)) ∙ ap length (edges-column 0 v (omega arith) h)
 
   -- what holds of the words from a to b holds of the slice's members
   in-slice : (P : ℕ → Type 0) (d a b : ℕ) → b ≤ length g → a + d ≡ b → ((p : ℕ) → a ≤ p → p < b → P (word g p)) → (t : ℕ) → In t (slice a b g) → P t

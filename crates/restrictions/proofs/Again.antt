@@ -12,7 +12,7 @@ use Rattle.rules.specs.declared.Answer.{Answer}
 use Rattle.rules.specs.declared.Answer.the-variants.{Done}
 use Rattle.rules.specs.Lists.{word, In, from, position}
 use Rattle.rules.specs.Reach.{onward}
-use Rattle.rules.specs.Game.{edgesIn, initialIn, ownerIn, priorityIn, targetsIn}
+use Rattle.rules.specs.Game.{edgesIn, initialIn, ownerIn, priorityIn, targetsIn, countsIn}
 use Rattle.rules.specs.Demands.{Numbers, numbered, old, new}
 use Rattle.rules.specs.Restricts.{Searched, begun, gone, Restricts}
 use Rattle.lists.specs.Shapes.{Begins}
@@ -118,6 +118,7 @@ module _ (g : List ℕ) (a : Answer) (h ns met : List ℕ) (r : Restricts g a h 
         priorities = λ u l. ap (λ (k : ℕ). priorityIn h k) (sym (from-word n u (omega arith)));
         edges = λ u l.
             sym (ap (λ (k : ℕ). map (λ t. word (from 0 n) t) (targetsIn h k)) (from-word n u (omega arith)) ∙ kept-numbers n (targetsIn h u) (edge-below u (omega arith)));
+        counts = λ u l. ap (λ (k : ℕ). countsIn h k) (sym (from-word n u (omega arith)));
         begins = r .begins;
         follows = r .follows;
         ends = r .ends;

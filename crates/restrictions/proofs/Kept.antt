@@ -2,19 +2,20 @@
 -- the game. Assumes nothing.
 use mathlib.Core.Path.{_≡_, refl, sym, ap, ap₂, _∙_, subst}
 use mathlib.Core.List.{List, [], _∷_, map}
+use mathlib.Core.Logic.{inl, inr}
 use Prim.Native.Nat.{ℕ, zero, suc, _+_, _-_, _≤_, _<_}
 use native.Mathlib.Omega.{arith}
 use lib.ListN.{length, getD, length-map}
 use lib.Dec.{eqb}
 use Rattle.rules.specs.Lists.{word, In, Distinct, from, sum, position}
-use Rattle.rules.specs.Game.{Vertex, edgeTo, edgeCount, gameOf, vertexCount, edgesIn, offsetIn, targetsIn}
-use Rattle.rules.specs.Restrict.{newNumber, keptVertex, keptVertices, vertexMap}
+use Rattle.rules.specs.Game.{Vertex, edgeCount, gameOf, vertexCount, edgesIn, offsetIn, targetsIn, edgesAt}
+use Rattle.rules.specs.Restrict.{newNumber, keptEdge, keptVertex, keptVertices, vertexMap}
 use Rattle.lists.proofs.Members.{in-at, in-has, not-in, map-at, position-below, position-of}
 use Rattle.lists.proofs.Equalities.{number-equality}
 use Rattle.lists.proofs.Ranges.{from-length, from-in, in-from, from-at}
 use Rattle.games.proofs.Reading.{length-read}
 use Rattle.restrictions.specs.GoodGame.{GoodGame}
-use Rattle.restrictions.proofs.Accepted.{degree}
+use Rattle.restrictions.proofs.Accepted.{degree, edges-many}
 use Rattle.restrictions.proofs.Weights.{sum-within}
 
 pub from-distinct : (i n : ℕ) → Distinct (from i n)
@@ -64,13 +65,15 @@ kept-at g met u d h = map-at (keptVertex g met) met u 0 d h
 
 -- ---- their edges
 
-degrees : (g met xs : List ℕ) → sum (map (λ v. length (v .edges)) (map (keptVertex g met) xs)) ≡ sum (map (λ v. length (targetsIn g v)) xs)
-unfolding keptVertex sum
-degrees g met [] = refl
-degrees g met (x ∷ xs) =
-    ap₂ (λ (m n : ℕ). m + n) (length-map (targetsIn g x) (λ t. edgeTo (newNumber met t))) (degrees g met xs)
-
 module _ (g : List ℕ) (good : GoodGame g) where
+  degrees : (met xs : List ℕ) → ((v : ℕ) → In v xs → v < vertexCount g)
+      → sum (map (λ v. length (v .edges)) (map (keptVertex g met) xs)) ≡ sum (map (λ v. length (targetsIn g v)) xs)
+  unfolding keptVertex sum
+  degrees met [] b = refl
+  degrees met (x ∷ xs) b =
+      ap₂ (λ (m n : ℕ). m + n) (length-map (edgesAt g x) (keptEdge met) ∙ edges-many g good x (b x (inl refl)))
+      (degrees met xs (λ v m. b v (inr m)))
+
   -- the edges of the n vertices from v on
   degrees-from : (n v : ℕ) → v + n ≤ vertexCount g → offsetIn g v + sum (map (λ u. length (targetsIn g u)) (from v n)) ≡ offsetIn g (v + n)
   unfolding from sum
@@ -86,7 +89,7 @@ module _ (g : List ℕ) (good : GoodGame g) where
       let e : 0 + vertexCount g ≡ vertexCount g = omega arith in
       omega (
         arith,
-        degrees g met met,
+        degrees met met b,
         sum-within (λ v. length (targetsIn g v)) met (from 0 (vertexCount g)) d (λ v m. let l = b v m in from-in v 0 (vertexCount g) (omega arith) (omega arith)),
         degrees-from (vertexCount g) 0 (omega arith),
         ap (λ (n : ℕ). offsetIn g n) e,
@@ -101,7 +104,7 @@ module _ (g : List ℕ) (good : GoodGame g) where
       omega (
         arith,
         edges-fit met d b,
-        degrees g met met,
+        degrees met met b,
         sum-within (λ v. length (targetsIn g v)) (from 0 (vertexCount g)) met (from-distinct 0 (vertexCount g))
             (λ v m. let l = in-from v 0 (vertexCount g) m .1 in all v (omega arith)),
         degrees-from (vertexCount g) 0 (omega arith),

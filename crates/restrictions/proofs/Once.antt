@@ -11,7 +11,7 @@ use lib.Seq.{ext-getD}
 use Rattle.rules.specs.declared.Answer.{Answer}
 use Rattle.rules.specs.declared.Answer.the-variants.{Done}
 use Rattle.rules.specs.Lists.{word, In}
-use Rattle.rules.specs.Game.{vertexCount, edgesIn, vertexWord, edgeWordsIn, ownerIn, priorityIn, targetsIn}
+use Rattle.rules.specs.Game.{vertexCount, edgesIn, vertexWord, edgeWordsIn, ownerIn, priorityIn, targetsIn, countsIn}
 use Rattle.rules.specs.Restricts.{Restricts}
 use Rattle.lists.proofs.Members.{in-or, distinct-positions}
 use Rattle.lists.proofs.Equalities.{number-equality}
@@ -58,7 +58,8 @@ module _ (g : List ℕ) (a : Answer) (h ns met : List ℕ) (b : Answer) (k ms me
         initial = r .first .1 ∙ sym (s .first .1);
         vertex =
             each-vertex-column (λ c. (u : ℕ) → u < vertexCount h → vertexWord h c u ≡ vertexWord k c u) owner priority;
-        edges = each-edge-column (λ c. (u : ℕ) → u < vertexCount h → edgeWordsIn h c u ≡ edgeWordsIn k c u) targets;
+        edges =
+            each-edge-column (λ c. (u : ℕ) → u < vertexCount h → edgeWordsIn h c u ≡ edgeWordsIn k c u) targets behind;
       })
     where
       owner : (u : ℕ) → u < vertexCount h → ownerIn h u ≡ ownerIn k u
@@ -76,6 +77,12 @@ module _ (g : List ℕ) (a : Answer) (h ns met : List ℕ) (b : Answer) (k ms me
           r .edges u (omega (arith, r .first .0)) ∙ ap (λ (v : ℕ). map (λ t. word ns t) (targetsIn g v)) (old-vertex u)
           ∙ ap (λ (m : List ℕ). map (λ t. word m t) (targetsIn g (getD met′ u 0))) map-once
           ∙ sym (s .edges u (omega (arith, counts, s .first .0)))
+
+      -- the counts of the edges
+      behind : (u : ℕ) → u < vertexCount h → countsIn h u ≡ countsIn k u
+      behind u l =
+          r .counts u (omega (arith, r .first .0)) ∙ ap (λ (v : ℕ). countsIn g v) (old-vertex u)
+          ∙ sym (s .counts u (omega (arith, counts, s .first .0)))
 
   -- all four
   pub restricts-once : length h ≡ length k → (a ≡ b) × (h ≡ k) × (ns ≡ ms) × (met ≡ met′)

@@ -1,7 +1,7 @@
 -- What a restriction leaves satisfies `Restricts`, for all words and lent slices that are not refused; a refusal alters
 -- nothing. Assumes nothing.
 use mathlib.Core.Path.{_≡_, refl, sym, ap, ap₂, _∙_, subst}
-use mathlib.Core.List.{List, [], _∷_, map}
+use mathlib.Core.List.{List, [], _∷_, map, map-map}
 use mathlib.Core.Logic.{inl, inr, _↔_}
 use Prim.Native.Nat.{ℕ, _-_, _≤_, _<_}
 use native.Mathlib.Omega.{arith}
@@ -13,17 +13,17 @@ use Rattle.rules.specs.Lists.{word, In, Distinct, zeros}
 use Rattle.rules.specs.Answers.{Accepted}
 use Rattle.rules.specs.Reach.{Reachable}
 use Rattle.rules.specs.Game.{Edge, Vertex, waitingVertex, edgeCount, gameOf, padded, vertexCount, edgesIn, initialIn}
-use Rattle.rules.specs.Game.{ownerIn, priorityIn, targetsIn}
-use Rattle.rules.specs.Restrict.{reachedVertices, newNumber, keptVertex, keptVertices, vertexMap, restrictionRefusal, Restricted, restrictedTo, restrictedOr, restriction}
+use Rattle.rules.specs.Game.{ownerIn, priorityIn, targetsIn, countsIn, edgesAt}
+use Rattle.rules.specs.Restrict.{reachedVertices, newNumber, keptEdge, keptVertex, keptVertices, vertexMap}
+use Rattle.rules.specs.Restrict.{restrictionRefusal, Restricted, restrictedTo, restrictedOr, restriction}
 use Rattle.rules.specs.Restricts.{Restricts}
 use Rattle.lists.proofs.Members.{in-at, position-at}
 use Rattle.lists.proofs.Equalities.{number-equality}
-use Rattle.games.proofs.Columns.{targets-edges}
 use Rattle.games.proofs.Reading.{count-read, vertex-read, edge-words-read}
 use Rattle.games.proofs.Rewriting.{Whole}
 use Rattle.theorems.proofs.Read.{whole-game}
 use Rattle.restrictions.specs.GoodGame.{GoodGame}
-use Rattle.restrictions.proofs.Accepted.{good-game, accepted-slices, target-below}
+use Rattle.restrictions.proofs.Accepted.{good-game, accepted-slices, edges-column, target-below}
 use Rattle.restrictions.proofs.Searching.{met-first, met-exactly, met-distinct, reached-searched, reached-below, reached-few}
 use Rattle.restrictions.proofs.Kept.{number-in, number-out, number-below, map-length, map-word, kept-length, kept-at, words-fit}
 
@@ -103,18 +103,39 @@ module _ (g : List ℕ) (good : GoodGame g) (n : ℕ) where
   unfolding padded gameOf
   initial-is = refl
 
+  -- the words of the kept edges of vertex v
+  kept-targets : (v : ℕ) → v < vertexCount g
+      → map (λ (z : Edge). z .target) (map (keptEdge met) (edgesAt g v)) ≡ map (newNumber met) (targetsIn g v)
+  unfolding keptEdge
+  kept-targets v l =
+      map-map (λ (z : Edge). z .target) (keptEdge met) (edgesAt g v)
+      ∙ sym (map-map (newNumber met) (λ (z : Edge). z .target) (edgesAt g v))
+      ∙ ap (map (newNumber met)) (edges-column g good 0 v (omega arith) l)
+
+  kept-counts : (v : ℕ) → v < vertexCount g
+      → map (λ (z : Edge). z .count) (map (keptEdge met) (edgesAt g v)) ≡ countsIn g v
+  unfolding keptEdge
+  kept-counts v l =
+      map-map (λ (z : Edge). z .count) (keptEdge met) (edgesAt g v) ∙ edges-column g good 1 v (omega arith) l
+
   -- what is read of vertex u
-  row : (u : ℕ) → u < length met → (ownerIn h u ≡ ownerIn g (getD met u 0)) × (priorityIn h u ≡ priorityIn g (getD met u 0)) × (targetsIn h u ≡ map (newNumber met) (targetsIn g (getD met u 0)))
+  row : (u : ℕ) → u < length met
+      → (ownerIn h u ≡ ownerIn g (getD met u 0)) × (priorityIn h u ≡ priorityIn g (getD met u 0))
+      × (targetsIn h u ≡ map (newNumber met) (targetsIn g (getD met u 0))) × (countsIn h u ≡ countsIn g (getD met u 0))
   unfolding padded keptVertex
   row u l =
       let rest : List ℕ = replicate (n - length (gameOf 0 vs)) 0 in
       let k : u < length vs = omega (arith, kept-length g met) in
+      let b = reached-below g good (getD met u 0) (in-at met u 0 l) in
       let e : getD vs u waitingVertex ≡ keptVertex g met (getD met u 0) = kept-at g met u waitingVertex l in (
         vertex-read 0 vs rest 0 u waitingVertex (omega arith) k ∙ ap (λ (v : Vertex). v .owner) e,
         vertex-read 0 vs rest 1 u waitingVertex (omega arith) k ∙ ap (λ (v : Vertex). v .priority) e,
         edge-words-read 0 vs rest 0 u waitingVertex (omega arith) k
             ∙ ap (λ (v : Vertex). map (λ (z : Edge). z .target) (v .edges)) e
-            ∙ targets-edges (newNumber met) (targetsIn g (getD met u 0)),
+            ∙ kept-targets (getD met u 0) b,
+        edge-words-read 0 vs rest 1 u waitingVertex (omega arith) k
+            ∙ ap (λ (v : Vertex). map (λ (z : Edge). z .count) (v .edges)) e
+            ∙ kept-counts (getD met u 0) b,
       )
 
   sent : (v : ℕ) → In v met → (word ns v < length met) × (getD met (word ns v) 0 ≡ v)
@@ -145,6 +166,7 @@ module _ (g : List ℕ) (good : GoodGame g) (n : ℕ) where
         owners = λ u l. row u l .0;
         priorities = λ u l. row u l .1;
         edges = λ u l. row u l .2 ∙ renumbered (getD met u 0) (in-at met u 0 l);
+        counts = λ u l. row u l .3;
         begins = whole .begins;
         follows = whole .follows;
         ends = whole .ends;

@@ -10,17 +10,18 @@ use Rattle.rules.specs.declared.Answer.the-variants.{Done}
 use Rattle.rules.specs.declared.Check.the-variants.{Passed}
 use Rattle.rules.specs.Lists.{In, from, zeros}
 use Rattle.rules.specs.Answers.{Accepted}
-use Rattle.rules.specs.Game.{Edge, Vertex, edgeTo, waitingVertex, edgeCount, gameOf, padded}
-use Rattle.rules.specs.Game.{vertexCount, targetsIn, gameEnd}
+use Rattle.rules.specs.Game.{Edge, Vertex, waitingVertex, edgeCount, gameOf, padded}
+use Rattle.rules.specs.Game.{vertexCount, targetsIn, edgesAt, gameEnd}
 use Rattle.rules.specs.GameRefusal.{gameRefusal}
-use Rattle.rules.specs.Restrict.{reachedVertices, newNumber, keptVertex, keptVertices, vertexMap, restrictionRefusal, Restricted, restrictedTo, restriction}
+use Rattle.rules.specs.Restrict.{reachedVertices, newNumber, keptEdge, keptVertex, keptVertices, vertexMap}
+use Rattle.rules.specs.Restrict.{restrictionRefusal, Restricted, restrictedTo, restriction}
 use Rattle.rules.specs.Restricts.{Restricts}
-use Rattle.lists.proofs.Members.{in-at, in-map}
+use Rattle.lists.proofs.Members.{in-at, in-map, map-in}
 use Rattle.games.proofs.Reading.{length-read}
 use Rattle.games.proofs.Handed.{owned-passes}
 use Rattle.restrictions.specs.GoodGame.{GoodGame}
 use Rattle.restrictions.specs.Trimmed.{trimmed}
-use Rattle.restrictions.proofs.Accepted.{good-game, accepted-slices, slices-accepted}
+use Rattle.restrictions.proofs.Accepted.{good-game, accepted-slices, slices-accepted, edges-column}
 use Rattle.restrictions.proofs.Searching.{met-first, met-closed, met-distinct, reached-searched, reached-below, reached-few}
 use Rattle.restrictions.proofs.Kept.{number-below, kept-length, kept-at, edges-fit}
 use Rattle.restrictions.proofs.Restriction.{restriction-passed, passed-accepted, accepted-passed, kept-restricts}
@@ -58,13 +59,18 @@ module _ (g : List ℕ) (passed : gameRefusal g ≡ Passed) where
   good = good-game g passed
 
   inside : (u : ℕ) → u < length vs → (f : Edge) → In f (getD vs u waitingVertex .edges) → f .target < length vs
-  unfolding keptVertex
+  unfolding keptVertex keptEdge
   inside u l f m =
       let k : u < length met = omega (arith, kept-length g met) in
-      let (q, i, e) = in-map (λ t. edgeTo (newNumber met t)) f (targetsIn g (getD met u 0))
+      let w : ℕ = getD met u 0 in
+      let j = in-at met u 0 k in
+      let (q, i, e) = in-map (keptEdge met) f (edgesAt g w)
       (subst (λ (v : Vertex). In f (v .edges)) (kept-at g met u waitingVertex k) m) in
-      let z : f .target ≡ newNumber met q = ap (λ (y : Edge). y .target) e in
-      let b = number-below met q (met-closed g met (reached-searched g good) (getD met u 0) (in-at met u 0 k) q i) in
+      let z : f .target ≡ newNumber met (q .target) = ap (λ (y : Edge). y .target) e in
+      let t : In (q .target) (targetsIn g w)
+      = subst (In (q .target)) (edges-column g good 0 w (omega arith) (reached-below g good w j))
+      (map-in (λ (y : Edge). y .target) q (edgesAt g w) i) in
+      let b = number-below met (q .target) (met-closed g met (reached-searched g good) w j (q .target) t) in
       omega (arith, kept-length g met)
 
   owned : (u : ℕ) → u < length vs → getD vs u waitingVertex .owner < 2

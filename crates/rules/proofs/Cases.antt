@@ -1,7 +1,8 @@
 -- Document 01, "Small games to check by": the cases marked * as one list with a theorem of its own, and beside it lists
 -- of other cases, which tell the rules from wrong ones (each file in rules/must-fail is a wrong rule that a case, or a
 -- theorem of FaultCases, refuses). A theorem says that the rules give what is said of each case of its list, and is
--- proved by computation. Inputs, games and texts are quoted as 01 prints them. Assumes nothing.
+-- proved by computation. Inputs, games and texts are quoted as 01 prints them, each game with the counts of its edges
+-- behind its targets (document 02, #102: "01's expected games grow by them"). Assumes nothing.
 use mathlib.Core.Path.{_≡_, refl}
 use Prim.Native.Nat.{ℕ}
 use Prim.Native.String.{String, _++_ as _and_}
@@ -66,13 +67,13 @@ abbrev pub formula1 : String
 formula1 = "3; 7 5 8; 0 0 0"
 
 abbrev pub game1 : String
-game1 = "3 3 0, 0 0 1, 0 0 0, 0 1 2 3, 1 2 0"
+game1 = "3 3 0, 0 0 1, 0 0 0, 0 1 2 3, 1 2 0, 0 1 0"
 
 abbrev pub formula5 : String
 formula5 = "6; 3 5 0 2 1 0; 3 0 0 5 0 0"
 
 abbrev pub game5 : String
-game5 = "6 8 0, 1 0 0 1 0 1, 1 0 0 0 1 0, 0 1 3 4 6 7 8, 1 2 3 5 4 5 4 5"
+game5 = "6 8 0, 1 0 0 1 0 1, 1 0 0 0 1 0, 0 1 3 4 6 7 8, 1 2 3 5 4 5 4 5, 0 0 0 1 0 0 0 0"
 
 -- ---- what is said of a case
 
@@ -160,23 +161,24 @@ All cs = map given cs ≡ map expected cs
 abbrev pub starred : List Case
 starred =
     -- 1
-    runs (looping "3; 7 5 8; 0 0 0") (roomOf 512 1_024) 512 (Done 3 3 3) "3 3 0, 0 0 1, 0 0 0, 0 1 2 3, 1 2 0"
+    runs (looping "3; 7 5 8; 0 0 0") (roomOf 512 1_024) 512 (Done 3 3 3) "3 3 0, 0 0 1, 0 0 0, 0 1 2 3, 1 2 0, 0 1 0"
     -- 2
-    ∷ runs (stuck "2; 5 0; 0 0") (roomOf 6 8) 512 (Done 2 2 2) "2 2 0, 1 0, 1 1, 0 1 2, 1 1"
+    ∷ runs (stuck "2; 5 0; 0 0") (roomOf 6 8) 512 (Done 2 2 2) "2 2 0, 1 0, 1 1, 0 1 2, 1 1, 0 0"
     -- 3
-    ∷ runs (stuck "2; 4 0; 0 0") (roomOf 6 8) 512 (Done 2 2 2) "2 2 0, 1 1, 1 0, 0 1 2, 1 1"
+    ∷ runs (stuck "2; 4 0; 0 0") (roomOf 6 8) 512 (Done 2 2 2) "2 2 0, 1 1, 1 0, 0 1 2, 1 1, 0 0"
     -- 4
-    ∷ runs (looping "3; 2 0 0; 2 0 0") (roomOf 6 8) 512 (Done 3 3 4) "3 4 0, 1 1 1, 1 0 0, 0 1 3 4, 1 2 2 2"
+    ∷ runs (looping "3; 2 0 0; 2 0 0") (roomOf 6 8) 512 (Done 3 3 4) "3 4 0, 1 1 1, 1 0 0, 0 1 3 4, 1 2 2 2, 0 0 0 0"
     -- 5
     ∷ runs (looping "6; 3 5 0 2 1 0; 3 0 0 5 0 0") (roomOf 512 1_024) 512 (Done 6 6 8)
-    "6 8 0, 1 0 0 1 0 1, 1 0 0 0 1 0, 0 1 3 4 6 7 8, 1 2 3 5 4 5 4 5"
+    "6 8 0, 1 0 0 1 0 1, 1 0 0 0 1 0, 0 1 3 4 6 7 8, 1 2 3 5 4 5 4 5, 0 0 0 1 0 0 0 0"
     -- 6
-    ∷ runs (looping formula5) (roomOf 6 8) 2 (Cut 2 4 3) "4 3 0, 1 0 2 2, 1 0 0 0, 0 1 3 3 3, 1 2 3"
+    ∷ runs (looping formula5) (roomOf 6 8) 2 (Cut 2 4 3) "4 3 0, 1 0 2 2, 1 0 0 0, 0 1 3 3 3, 1 2 3, 0 0 0"
     -- 7
     ∷ runs (looping formula5) (roomOf 6 8) 6 (Done 6 6 8) game5
     ∷ runs (looping formula5) (roomOf 5 8) 6 (Refused 60 0) ""
     ∷ runs (looping formula5) (roomOf 6 7) 6 (Refused 60 0) ""
-    ∷ runs (looping formula5) (roomOf 6 8) 5 (Cut 5 6 7) "6 7 0, 1 0 2 1 0 1, 1 0 0 0 1 0, 0 1 3 3 5 6 7, 1 2 3 4 5 4 5"
+    ∷ runs (looping formula5) (roomOf 6 8) 5 (Cut 5 6 7)
+    "6 7 0, 1 0 2 1 0 1, 1 0 0 0 1 0, 0 1 3 3 5 6 7, 1 2 3 4 5 4 5, 0 0 0 0 0 0 0"
     -- 8: greatest X, least Y, (diamond X or greatest Z, least W, diamond Y)
     ∷ ranks (looping "9; 7 6 3 5 8 7 6 5 8; 0 0 5 0 0 0 0 0 1") "3 3 1 0" "2 3 0 1"
     -- 9: greatest X, least Y, greatest Z, reference Z
@@ -193,36 +195,48 @@ starred-cases = refl
 
 abbrev pub games : List Case
 games =
-    -- 12: two loops on label 0
-    runs (moving "1 2 0, 2, 0 0, 0 0" formula1) (roomOf 6 8) 512 (Done 3 3 3) game1
+    -- 12: two loops on label 0. "case 12 differs from case 1 by a 2" (#102)
+    runs (moving "1 2 0, 2, 0 0, 0 0" formula1) (roomOf 6 8) 512 (Done 3 3 3)
+    "3 3 0, 0 0 1, 0 0 0, 0 1 2 3, 1 2 0, 0 2 0"
+    -- the same cut after two steps: the diamond is settled
+    ∷ runs (moving "1 2 0, 2, 0 0, 0 0" formula1) (roomOf 6 8) 2 (Cut 2 3 2) "3 2 0, 0 0 2, 0 0 0, 0 1 2 2, 1 2, 0 2"
+    -- a loop on label 0 and one on label 1, which the diamond does not match
+    ∷ runs (input "2 2, 0 1, 7 8" "1 2 0, 2, 0 1, 0 0" "1; 2; 0" formula1) (roomOf 6 8) 512 (Done 3 3 3) game1
+    -- an added self-loop of a modal vertex has count 0 (F1)
+    ∷ runs (stuck formula1) (roomOf 6 8) 512 (Done 2 2 2) "2 2 0, 0 0, 0 1, 0 1 2, 1 1, 0 0"
     -- the last shortcut: greatest X, least Y, diamond Y on a loop: "5 vertices instead of 4"
-    ∷ runs (looping "4; 7 6 5 8; 0 0 0 1") (roomOf 6 8) 512 (Done 4 4 4) "4 4 0, 0 1 1 0, 0 0 1 0, 0 1 2 3 4, 1 2 3 1"
+    ∷ runs (looping "4; 7 6 5 8; 0 0 0 1") (roomOf 6 8) 512 (Done 4 4 4)
+    "4 4 0, 0 1 1 0, 0 0 1 0, 0 1 2 3 4, 1 2 3 1, 0 0 0 1"
     -- the initial state is 1: diamond of true
-    ∷ runs (moving "2 1 1, 0 1, 0, 0" "2; 5 0; 0 0") (roomOf 6 8) 512 (Done 3 3 3) "3 3 0, 1 0 1, 1 0 0, 0 1 2 3, 1 2 2"
+    ∷ runs (moving "2 1 1, 0 1, 0, 0" "2; 5 0; 0 0") (roomOf 6 8) 512 (Done 3 3 3)
+    "3 3 0, 1 0 1, 1 0 0, 0 1 2 3, 1 2 2, 0 1 0"
     -- true or true
-    ∷ runs (looping "3; 3 0 0; 2 0 0") (roomOf 6 8) 512 (Done 3 3 4) "3 4 0, 1 0 1, 1 0 0, 0 1 3 4, 1 2 2 2"
+    ∷ runs (looping "3; 3 0 0; 2 0 0") (roomOf 6 8) 512 (Done 3 3 4) "3 4 0, 1 0 1, 1 0 0, 0 1 3 4, 1 2 2 2, 0 0 0 0"
     -- two labels with the actions 7, 8 and 8, 7: a modality of the one matches the other, and both operands of the and
     -- are one item (B3)
     ∷ runs (input "2 4, 0 0 1 1, 7 8 8 7" "1 1 0, 1, 1, 0" "2; 2 2; 0 1" "5; 2 5 0 5 0; 3 0 0 1 0")
-    (roomOf 6 8) 512 (Done 4 4 5) "4 5 0, 1 1 0 1, 1 0 0 0, 0 1 3 4 5, 1 2 2 3 3"
+    (roomOf 6 8) 512 (Done 4 4 5) "4 5 0, 1 1 0 1, 1 0 0 0, 0 1 3 4 5, 1 2 2 3 3, 0 0 0 1 0"
     -- labels tau, {7, 7} and {7}: not (tau or {7, 7}); true
     ∷ runs
     (input "3 3, 1 1 2, 7 7 7" "2 3 0, 3 0, 1 0 2, 1 0 1" "5; 5 3 2 2 0; 0 3 0 1 0" "6; 2 5 0 4 5 0; 3 0 0 4 0 0")
-    (roomOf 6 8) 512 (Done 6 6 8) "6 8 0, 1 1 0 1 0 1, 1 0 0 0 1 0, 0 1 3 4 6 7 8, 1 2 3 5 4 2 4 5"
+    (roomOf 6 8) 512 (Done 6 6 8)
+    "6 8 0, 1 1 0 1 0 1, 1 0 0 0 1 0, 0 1 3 4 6 7 8, 1 2 3 5 4 2 4 5, 0 0 0 1 2 1 0 0"
     -- the action formulas true and false
-    ∷ runs (acting "1; 0; 0" "2; 5 0; 0 0") (roomOf 6 8) 512 (Done 3 3 3) "3 3 0, 1 0 1, 1 0 0, 0 1 2 3, 1 2 2"
-    ∷ runs (acting "1; 1; 0" "2; 5 0; 0 0") (roomOf 6 8) 512 (Done 2 2 2) "2 2 0, 1 0, 1 1, 0 1 2, 1 1"
+    ∷ runs (acting "1; 0; 0" "2; 5 0; 0 0") (roomOf 6 8) 512 (Done 3 3 3) "3 3 0, 1 0 1, 1 0 0, 0 1 2 3, 1 2 2, 0 1 0"
+    ∷ runs (acting "1; 1; 0" "2; 5 0; 0 0") (roomOf 6 8) 512 (Done 2 2 2) "2 2 0, 1 0, 1 1, 0 1 2, 1 1, 0 0"
     -- three states, three labels, every kind of action formula
     ∷ runs threeStates (roomOf 12 18) 512 (Done 12 12 18)
     ("12 18 0, 1 1 0 0 0 1 0 0 0 1 1 1, 1 0 0 0 0 0 1 1 1 0 0 0, 0 1 3 5 7 8 11 12 13 14 15 17 18,"
-    and " 1 2 3 10 11 4 5 9 6 7 8 6 7 8 9 7 8 8")
+    and " 1 2 3 10 11 4 5 9 6 7 8 6 7 8 9 7 8 8, 0 0 0 1 1 0 0 1 1 1 1 0 0 0 0 1 1 1")
     -- a reference may skip inner fixpoints (A9)
-    ∷ runs (looping "3; 7 6 8; 0 0 0") (roomOf 6 8) 512 (Done 4 4 4) "4 4 0, 0 1 1 1, 2 0 1 0, 0 1 2 3 4, 1 2 3 0"
+    ∷ runs (looping "3; 7 6 8; 0 0 0") (roomOf 6 8) 512 (Done 4 4 4)
+    "4 4 0, 0 1 1 1, 2 0 1 0, 0 1 2 3 4, 1 2 3 0, 0 0 0 0"
     -- 4,096 labels without actions are tau (A13)
     ∷ runs (input "4096 0" "1 0 0, 0" "1; 2; 4095" "1; 0; 0") (roomOf 6 8) 512 (Done 2 2 2)
-    "2 2 0, 1 1, 1 0, 0 1 2, 1 1"
+    "2 2 0, 1 1, 1 0, 0 1 2, 1 1, 0 0"
     -- a cut game counts added self-loops (B6)
-    ∷ runs (looping formula5) (roomOf 6 8) 4 (Cut 4 6 6) "6 6 0, 1 0 2 1 2 1, 1 0 0 0 0 0, 0 1 3 3 5 5 6, 1 2 3 4 5 5"
+    ∷ runs (looping formula5) (roomOf 6 8) 4 (Cut 4 6 6)
+    "6 6 0, 1 0 2 1 2 1, 1 0 0 0 0 0, 0 1 3 3 5 5 6, 1 2 3 4 5 5, 0 0 0 0 0 0"
     -- waiting vertices are known (B7)
     ∷ runs (looping formula5) (roomOf 5 8) 3 (Refused 60 0) ""
     -- the largest limit
@@ -369,7 +383,7 @@ abbrev pub twoFaults : List Case
 twoFaults =
     -- 1 and 2, 2 and 11
     checks (refusal (looping formula1) (roomOf 0 8) 0 0) (Fault 1 0)
-    ∷ checks (refusal (labelled "" formula1) (roomOf 6 8) 29 0) (Fault 2 0)
+    ∷ checks (refusal (labelled "" formula1) (roomOf 6 8) 37 0) (Fault 2 0)
     -- 11 and 12, 12 and 13, 13 and 21
     ∷ refuses (labelled "4097 1, 0" formula1) 11 0
     ∷ refuses (labelled "4097 2, 1 0, 7 7" formula1) 12 0
@@ -413,13 +427,13 @@ limits =
     ∷ checks (refusal1 (roomOf 1 1)) Passed
     ∷ checks (refusal1 (roomOf 1_048_576 4_194_304)) Passed
     -- 2: each slice one word shorter and longer
-    ∷ checks (refusal2 (roomOf 6 8) 30 64) Passed
-    ∷ checks (refusal2 (roomOf 6 8) 29 64) (Fault 2 0)
-    ∷ checks (refusal2 (roomOf 6 8) 31 64) (Fault 2 0)
-    ∷ checks (refusal2 (roomOf 6 8) 30 63) (Fault 2 0)
-    ∷ checks (refusal2 (roomOf 6 8) 30 65) (Fault 2 0)
-    ∷ checks (refusal2 (roomOf 6 8) 7_340_036 16_777_216) (Fault 2 0)
-    ∷ checks (refusal2 (roomOf 1_048_576 4_194_304) 7_340_036 16_777_216) Passed
+    ∷ checks (refusal2 (roomOf 6 8) 38 64) Passed
+    ∷ checks (refusal2 (roomOf 6 8) 37 64) (Fault 2 0)
+    ∷ checks (refusal2 (roomOf 6 8) 39 64) (Fault 2 0)
+    ∷ checks (refusal2 (roomOf 6 8) 38 63) (Fault 2 0)
+    ∷ checks (refusal2 (roomOf 6 8) 38 65) (Fault 2 0)
+    ∷ checks (refusal2 (roomOf 6 8) 11_534_340 16_777_216) (Fault 2 0)
+    ∷ checks (refusal2 (roomOf 1_048_576 4_194_304) 11_534_340 16_777_216) Passed
     -- 11, 21, 31, 41: one word shorter and longer
     ∷ checks (refusal11 (words "1 1, 0")) (Fault 11 0)
     ∷ checks (refusal11 (words "1 1, 0, 7 0")) (Fault 11 0)
@@ -473,22 +487,24 @@ handed =
     -- without edges (C1), beginning anywhere (C3), with words past its end (C4), cut (C5), with an offset above the
     -- edge count (C6), with a repeated edge (C7)
     checks (gameRefusal (words "1 0 0, 1, 0, 0 0")) Passed
-    ∷ checks (gameRefusal (words "2 1 1, 0 0, 0 0, 0 0 1, 1")) Passed
-    ∷ checks (gameRefusal (words "1 1 0, 0, 0, 0 1, 0 0")) (Fault 51 0)
+    ∷ checks (gameRefusal (words "2 1 1, 0 0, 0 0, 0 0 1, 1, 4294967295")) Passed
+    ∷ checks (gameRefusal (words "1 1 0, 0, 0, 0 1, 0, 0 0")) (Fault 51 0)
     ∷ checks (gameRefusal (words "1 0 0, 2, 0, 0 0")) (Fault 53 3)
-    ∷ checks (gameRefusal (words "2 2 0, 0 0, 0 0, 0 5 2, 0 0")) (Fault 52 9)
-    ∷ checks (gameRefusal (words "1 2 0, 0, 0, 0 2, 0 0")) Passed
+    ∷ checks (gameRefusal (words "2 2 0, 0 0, 0 0, 0 5 2, 0 0, 0 0")) (Fault 52 9)
+    ∷ checks (gameRefusal (words "1 2 0, 0, 0, 0 2, 0 0, 1 0")) Passed
+    -- without the counts (#102)
+    ∷ checks (gameRefusal (words "1 1 0, 0, 0, 0 1, 0")) (Fault 51 0)
     -- 51 to 53: too short, no vertex, a first offset, a last offset, an initial vertex, a target; the smallest place
     ∷ checks (gameRefusal (words "1 0")) (Fault 51 0)
     ∷ checks (gameRefusal (words "0 0 0, 0")) (Fault 51 0)
-    ∷ checks (gameRefusal (words "1 1 0, 0, 0, 1 1, 0")) (Fault 52 5)
-    ∷ checks (gameRefusal (words "1 1 0, 0, 0, 0 0, 0")) (Fault 52 6)
-    ∷ checks (gameRefusal (words "1 1 1, 0, 0, 0 1, 0")) (Fault 53 2)
-    ∷ checks (gameRefusal (words "1 1 0, 0, 0, 0 1, 1")) (Fault 53 7)
-    ∷ checks (gameRefusal (words "1 1 0, 2, 0, 0 1, 1")) (Fault 53 3)
+    ∷ checks (gameRefusal (words "1 1 0, 0, 0, 1 1, 0, 0")) (Fault 52 5)
+    ∷ checks (gameRefusal (words "1 1 0, 0, 0, 0 0, 0, 0")) (Fault 52 6)
+    ∷ checks (gameRefusal (words "1 1 1, 0, 0, 0 1, 0, 0")) (Fault 53 2)
+    ∷ checks (gameRefusal (words "1 1 0, 0, 0, 0 1, 1, 0")) (Fault 53 7)
+    ∷ checks (gameRefusal (words "1 1 0, 2, 0, 0 1, 1, 0")) (Fault 53 3)
     -- two faults at once: 51 and 52, 52 and 53
-    ∷ checks (gameRefusal (words "1 1 0, 0, 0, 1 1, 0 0")) (Fault 51 0)
-    ∷ checks (gameRefusal (words "1 1 1, 0, 0, 1 1, 0")) (Fault 52 5)
+    ∷ checks (gameRefusal (words "1 1 0, 0, 0, 1 1, 0, 0 0")) (Fault 51 0)
+    ∷ checks (gameRefusal (words "1 1 1, 0, 0, 1 1, 0, 0")) (Fault 52 5)
     ∷ []
 
 pub handed-cases : All handed
@@ -500,18 +516,18 @@ handed-cases = refl
 abbrev pub restrictions : List Case
 restrictions =
     -- five vertices from vertex 2: breadth first, 3 before 0; vertex 1 and 4 are not reached
-    restricts "5 6 2, 0 1 0 1 0, 7 6 5 4 3, 0 1 2 4 5 6, 2 1 3 0 3 4" (Done 3 3 4)
-    "3 4 0, 0 1 0, 5 4 7, 0 2 3 4, 1 2 1 0" "2 4294967295 0 1 4294967295"
+    restricts "5 6 2, 0 1 0 1 0, 7 6 5 4 3, 0 1 2 4 5 6, 2 1 3 0 3 4, 1 2 3 0 5 6" (Done 3 3 4)
+    "3 4 0, 0 1 0, 5 4 7, 0 2 3 4, 1 2 1 0, 3 0 5 1" "2 4294967295 0 1 4294967295"
     -- breadth first: vertex 1 is gone through before vertex 2
-    ∷ restricts "5 6 0, 0 0 0 0 0, 1 2 3 4 5, 0 2 3 4 5 6, 1 2 3 4 3 4" (Done 5 5 6)
-    "5 6 0, 0 0 0 0 0, 1 2 3 4 5, 0 2 3 4 5 6, 1 2 3 4 3 4" "0 1 2 3 4"
+    ∷ restricts "5 6 0, 0 0 0 0 0, 1 2 3 4 5, 0 2 3 4 5 6, 1 2 3 4 3 4, 0 0 0 0 0 0" (Done 5 5 6)
+    "5 6 0, 0 0 0 0 0, 1 2 3 4 5, 0 2 3 4 5 6, 1 2 3 4 3 4, 0 0 0 0 0 0" "0 1 2 3 4"
     -- it begins at 0 (C3)
-    ∷ restricts "2 1 1, 0 0, 0 0, 0 0 1, 1" (Done 1 1 1) "1 1 0, 0, 0, 0 1, 0" "4294967295 0"
+    ∷ restricts "2 1 1, 0 0, 0 0, 0 0 1, 1, 4294967295" (Done 1 1 1) "1 1 0, 0, 0, 0 1, 0, 4294967295" "4294967295 0"
     -- without edges (C1), with a repeated edge (C7)
     ∷ restricts "1 0 0, 1, 0, 0 0" (Done 1 1 0) "1 0 0, 1, 0, 0 0" "0"
-    ∷ restricts "1 2 0, 0, 0, 0 2, 0 0" (Done 1 1 2) "1 2 0, 0, 0, 0 2, 0 0" "0"
+    ∷ restricts "1 2 0, 0, 0, 0 2, 0 0, 3 1" (Done 1 1 2) "1 2 0, 0, 0, 0 2, 0 0, 3 1" "0"
     -- 53 and 2 at once: 2 comes last (C2)
-    ∷ checks (restrictionRefusal (words "1 1 1, 0, 0, 0 1, 0") 0 0 0) (Fault 53 2)
+    ∷ checks (restrictionRefusal (words "1 1 1, 0, 0, 0 1, 0, 0") 0 0 0) (Fault 53 2)
     -- 2: each slice one word shorter and longer
     ∷ checks (restrictionRefusal (words "1 0 0, 1, 0, 0 0") 7 1 1) Passed
     ∷ checks (restrictionRefusal (words "1 0 0, 1, 0, 0 0") 6 1 1) (Fault 2 0)

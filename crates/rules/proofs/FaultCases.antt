@@ -30,14 +30,14 @@ use Rattle.rules.proofs.Unfold.{everyRule}
 -- ---- 1, 2
 
 pub room-faults :
-    FaultyRoom (roomOf 0 1) 5 2 1 0
-    × FaultyRoom (roomOf 1_048_577 1) 3_145_736 8_388_618 1 0
+    FaultyRoom (roomOf 0 1) 6 2 1 0
+    × FaultyRoom (roomOf 1_048_577 1) 3_145_737 8_388_618 1 0
     × FaultyRoom (roomOf 1 0) 7 8 1 0
-    × FaultyRoom (roomOf 1 4_194_305) 4_194_312 8_388_618 1 0
-    × FaultyRoom (roomOf 6 8) 29 64 2 0
-    × FaultyRoom (roomOf 6 8) 31 64 2 0
-    × FaultyRoom (roomOf 6 8) 30 63 2 0
-    × FaultyRoom (roomOf 6 8) 30 65 2 0
+    × FaultyRoom (roomOf 1 4_194_305) 8_388_617 8_388_618 1 0
+    × FaultyRoom (roomOf 6 8) 37 64 2 0
+    × FaultyRoom (roomOf 6 8) 39 64 2 0
+    × FaultyRoom (roomOf 6 8) 38 63 2 0
+    × FaultyRoom (roomOf 6 8) 38 65 2 0
 unfolding everyRule
 room-faults = (
   fewVertices (lit< tt),
@@ -230,7 +230,7 @@ formula-faults = (
 
 -- ---- what is just right: no fault, or none of the number (a list is written out where a text would be read often)
 
-pub least-room-right : (n p : ℕ) → ¬ FaultyRoom (roomOf 1 1) 8 10 n p
+pub least-room-right : (n p : ℕ) → ¬ FaultyRoom (roomOf 1 1) 9 10 n p
 unfolding everyRule
 least-room-right n p (fewVertices h) = omega (arith, h)
 least-room-right n p (manyVertices h) = omega (arith, h)
@@ -239,7 +239,7 @@ least-room-right n p (manyEdges h) = omega (arith, h)
 least-room-right n p (wrongGame h) = h refl
 least-room-right n p (wrongWork h) = h refl
 
-pub most-room-right : (n p : ℕ) → ¬ FaultyRoom (roomOf 1_048_576 4_194_304) 7_340_036 16_777_216 n p
+pub most-room-right : (n p : ℕ) → ¬ FaultyRoom (roomOf 1_048_576 4_194_304) 11_534_340 16_777_216 n p
 unfolding everyRule
 most-room-right n p (fewVertices h) = omega (arith, h)
 most-room-right n p (manyVertices h) = omega (arith, h)

@@ -13,17 +13,17 @@ use Rattle.rules.specs.FaultyGame.{edgesAboveRoom, offsetsBegin, offsetF
 use Rattle.rules.specs.FaultyGame.{ownerTooLarge, targetTooLarge, wrongOut, wrongMap, wrongWork, restrictionTurn}
 
 pub game-faults : FaultyGame (1 ∷ 0 ∷ []) 51 0
-    × FaultyGame (1 ∷ 1 ∷ 0 ∷ 0 ∷ 0 ∷ 0 ∷ 1 ∷ 0 ∷ 0 ∷ []) 51 0
-    × FaultyGame (1 ∷ 1 ∷ 0 ∷ 0 ∷ 0 ∷ 0 ∷ 1 ∷ []) 51 0
+    × FaultyGame (1 ∷ 1 ∷ 0 ∷ 0 ∷ 0 ∷ 0 ∷ 1 ∷ 0 ∷ 0 ∷ 0 ∷ []) 51 0
+    × FaultyGame (1 ∷ 1 ∷ 0 ∷ 0 ∷ 0 ∷ 0 ∷ 1 ∷ 0 ∷ []) 51 0
     × FaultyGame (0 ∷ 0 ∷ 0 ∷ 0 ∷ []) 51 0
     × FaultyGame (1048577 ∷ 0 ∷ 0 ∷ []) 51 0
     × FaultyGame (1 ∷ 4194305 ∷ 0 ∷ []) 51 0
-    × FaultyGame (1 ∷ 1 ∷ 0 ∷ 0 ∷ 0 ∷ 1 ∷ 1 ∷ 0 ∷ []) 52 5
-    × FaultyGame (2 ∷ 2 ∷ 0 ∷ 0 ∷ 0 ∷ 0 ∷ 0 ∷ 0 ∷ 5 ∷ 2 ∷ 0 ∷ 0 ∷ []) 52 9
-    × FaultyGame (1 ∷ 1 ∷ 0 ∷ 0 ∷ 0 ∷ 0 ∷ 0 ∷ 0 ∷ []) 52 6
-    × FaultyGame (1 ∷ 1 ∷ 1 ∷ 0 ∷ 0 ∷ 0 ∷ 1 ∷ 0 ∷ []) 53 2
+    × FaultyGame (1 ∷ 1 ∷ 0 ∷ 0 ∷ 0 ∷ 1 ∷ 1 ∷ 0 ∷ 0 ∷ []) 52 5
+    × FaultyGame (2 ∷ 2 ∷ 0 ∷ 0 ∷ 0 ∷ 0 ∷ 0 ∷ 0 ∷ 5 ∷ 2 ∷ 0 ∷ 0 ∷ 0 ∷ 0 ∷ []) 52 9
+    × FaultyGame (1 ∷ 1 ∷ 0 ∷ 0 ∷ 0 ∷ 0 ∷ 0 ∷ 0 ∷ 0 ∷ []) 52 6
+    × FaultyGame (1 ∷ 1 ∷ 1 ∷ 0 ∷ 0 ∷ 0 ∷ 1 ∷ 0 ∷ 0 ∷ []) 53 2
     × FaultyGame (1 ∷ 0 ∷ 0 ∷ 2 ∷ 0 ∷ 0 ∷ 0 ∷ []) 53 3
-    × FaultyGame (1 ∷ 1 ∷ 0 ∷ 0 ∷ 0 ∷ 0 ∷ 1 ∷ 1 ∷ []) 53 7
+    × FaultyGame (1 ∷ 1 ∷ 0 ∷ 0 ∷ 0 ∷ 0 ∷ 1 ∷ 1 ∷ 0 ∷ []) 53 7
     × FaultyRestriction (1 ∷ 0 ∷ 0 ∷ 1 ∷ 0 ∷ 0 ∷ 0 ∷ []) 6 1 1 2 0
     × FaultyRestriction (1 ∷ 0 ∷ 0 ∷ 1 ∷ 0 ∷ 0 ∷ 0 ∷ []) 8 1 1 2 0
     × FaultyRestriction (1 ∷ 0 ∷ 0 ∷ 1 ∷ 0 ∷ 0 ∷ 0 ∷ []) 7 0 1 2 0
@@ -51,12 +51,12 @@ game-faults = (
   wrongWork (eqb-false _ _ refl),
 )
 
--- one vertex, of Odd, with an edge to itself
+-- one vertex, of Odd, with an edge to itself, whatever its count
 abbrev loop : List ℕ
-loop = 1 ∷ 1 ∷ 0 ∷ 1 ∷ 0 ∷ 0 ∷ 1 ∷ 0 ∷ []
+loop = 1 ∷ 1 ∷ 0 ∷ 1 ∷ 0 ∷ 0 ∷ 1 ∷ 0 ∷ 7 ∷ []
 
 pub no-game-fault : (n p : ℕ) → ¬ FaultyGame loop n p
-no-game-fault n p (fewGameWords l) = let k : 8 < 3 = l in omega arith
+no-game-fault n p (fewGameWords l) = let k : 9 < 3 = l in omega arith
 no-game-fault n p (wrongGameWords d) = d refl
 no-game-fault n p (noVertex e) = let k : _≡_ {A = ℕ} 1 0 = e in omega arith
 no-game-fault n p (verticesAboveRoom l) = let k : 1_048_576 < 1 = l in omega arith
@@ -71,7 +71,7 @@ no-game-fault n p (ownerTooLarge (suc v) h l) = let k : suc v < 1 = h in omega a
 no-game-fault n p (targetTooLarge zero h l) = let k : 1 ≤ 0 = l in omega arith
 no-game-fault n p (targetTooLarge (suc e) h l) = let k : suc e < 1 = h in omega arith
 
-pub no-restriction-fault : (n p : ℕ) → ¬ FaultyRestriction loop 8 1 1 n p
+pub no-restriction-fault : (n p : ℕ) → ¬ FaultyRestriction loop 9 1 1 n p
 no-restriction-fault n p (faultyGame f) = no-game-fault n p f
 no-restriction-fault n p (wrongOut d) = d refl
 no-restriction-fault n p (wrongMap d) = d refl

@@ -115,14 +115,14 @@ zero-alone : ¬ In {A = ℕ} 1 (0 ∷ [])
 zero-alone (inl e) = let z : _≡_ {A = ℕ} 1 0 = e in omega arith
 
 pub reading-faults : FaultyReading (roomOf 1048577 1) [] 0 1 0
-    × FaultyReading (roomOf 1 1) [] 9 2 0
-    × FaultyReading (roomOf 4 4) (characters "parity 1;\n0 0 0 0;\n") 20 92 0
-    × FaultyReading (roomOf 4 4) (characters "parity 1;\n0 0 0 0;\n0 0 0 0;\n") 20 92 0
-    × FaultyReading (roomOf 4 4) (characters "parity 0;\n1 0 0 2;\n") 20 92 0
-    × FaultyReading (roomOf 4 4) (characters "parity 0;\n1 0 0 2;\n") 20 92 0
-    × FaultyReading (roomOf 1 4) (characters "parity 1;\n0 0 0 0;\n") 11 93 0
+    × FaultyReading (roomOf 1 1) [] 10 2 0
+    × FaultyReading (roomOf 4 4) (characters "parity 1;\n0 0 0 0;\n") 24 92 0
+    × FaultyReading (roomOf 4 4) (characters "parity 1;\n0 0 0 0;\n0 0 0 0;\n") 24 92 0
+    × FaultyReading (roomOf 4 4) (characters "parity 0;\n1 0 0 2;\n") 24 92 0
+    × FaultyReading (roomOf 4 4) (characters "parity 0;\n1 0 0 2;\n") 24 92 0
+    × FaultyReading (roomOf 1 4) (characters "parity 1;\n0 0 0 0;\n") 15 93 0
     × FaultyReading (roomOf 4 0) (characters "parity 0;\n0 0 0 0;\n") 16 93 0
-    × FaultyReading (roomOf 4 4) (characters "parity 0;\n0 4294967296 0 0,0;\n") 20 93 0
+    × FaultyReading (roomOf 4 4) (characters "parity 0;\n0 4294967296 0 0,0;\n") 24 93 0
 unfolding everyRule everySolverRule
 reading-faults = (
   noRoom (manyVertices (lit< tt)),

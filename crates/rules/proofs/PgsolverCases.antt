@@ -66,7 +66,11 @@ AllSolver cs = map given cs ≡ map expected cs
 -- ---- games as text
 
 abbrev case1 : String
-case1 = "3 3 0, 0 0 1, 0 0 0, 0 1 2 3, 1 2 0"
+case1 = "3 3 0, 0 0 1, 0 0 0, 0 1 2 3, 1 2 0, 0 1 0"
+
+-- .. as it is read: "games read from text carry 0" (#102)
+abbrev case1Read : String
+case1Read = "3 3 0, 0 0 1, 0 0 0, 0 1 2 3, 1 2 0, 0 0 0"
 
 abbrev text1 : String
 text1 = "parity 2;\n0 0 0 1;\n1 0 0 2;\n2 0 1 0;\n"
@@ -76,14 +80,14 @@ written =
     -- case 1, in a slice of just enough bytes, and in a longer one (E1); priority before owner
     writes case1 37 text1 37
     ∷ writes case1 40 text1 37
-    ∷ writes "1 1 0, 0, 0, 0 1, 0" 30 "parity 0;\n0 0 0 0;\n" 19
+    ∷ writes "1 1 0, 0, 0, 0 1, 0, 5" 30 "parity 0;\n0 0 0 0;\n" 19
     -- "each once, by first appearance"
-    ∷ writes "2 6 0, 0 1, 5 12, 0 5 6, 1 0 1 0 0 1" 40 "parity 1;\n0 5 0 1,0;\n1 12 1 1;\n" 31
-    ∷ writes "2 4 0, 0 1, 0 7, 0 2 4, 1 1 1 0" 40 "parity 1;\n0 0 0 1;\n1 7 1 1,0;\n" 30
+    ∷ writes "2 6 0, 0 1, 5 12, 0 5 6, 1 0 1 0 0 1, 0 0 0 0 0 0" 40 "parity 1;\n0 5 0 1,0;\n1 12 1 1;\n" 31
+    ∷ writes "2 4 0, 0 1, 0 7, 0 2 4, 1 1 1 0, 1 2 3 4" 40 "parity 1;\n0 0 0 1;\n1 7 1 1,0;\n" 30
     -- a game that starts elsewhere (E3)
-    ∷ writes "2 2 1, 0 0, 0 0, 0 1 2, 0 1" 30 "parity 1;\n0 0 0 0;\n1 0 0 1;\n" 28
+    ∷ writes "2 2 1, 0 0, 0 0, 0 1 2, 0 1, 0 0" 30 "parity 1;\n0 0 0 0;\n1 0 0 1;\n" 28
     -- the largest priority
-    ∷ writes "1 1 0, 1, 4294967295, 0 1, 0" 30 "parity 0;\n0 4294967295 1 0;\n" 28
+    ∷ writes "1 1 0, 1, 4294967295, 0 1, 0, 4294967295" 30 "parity 0;\n0 4294967295 1 0;\n" 28
     -- a slice that is too short by a byte, and none
     ∷ writesNot case1 36 2 0
     ∷ writesNot case1 0 2 0
@@ -92,9 +96,9 @@ written =
     ∷ writesNot "1 0 0, 2, 0, 0 1" 0 52 6
     ∷ writesNot "1 0 0, 2, 0, 0 0" 0 53 3
     -- 98 at place 0 (E2), before 2; the first vertex, the last one
-    ∷ writesNot "2 1 0, 1 1, 0 0, 0 1 1, 1" 0 98 0
-    ∷ writesNot "2 1 0, 1 1, 0 0, 0 1 1, 1" 40 98 0
-    ∷ writesNot "2 1 0, 1 1, 0 0, 0 0 1, 1" 40 98 0
+    ∷ writesNot "2 1 0, 1 1, 0 0, 0 1 1, 1, 0" 0 98 0
+    ∷ writesNot "2 1 0, 1 1, 0 0, 0 1 1, 1, 0" 40 98 0
+    ∷ writesNot "2 1 0, 1 1, 0 0, 0 0 1, 1, 0" 40 98 0
     ∷ []
 
 pub written-cases : AllSolver written
@@ -106,17 +110,17 @@ written-cases = refl
 abbrev read : List SolverCase
 read =
     -- case 1; its lines in another order
-    reads 3 3 text1 (Done 3 3 3) case1
-    ∷ reads 4 5 "parity 2;\n2 0 1 0;\n0 0 0 1;\n1 0 0 2;\n" (Done 3 3 3) case1
+    reads 3 3 text1 (Done 3 3 3) case1Read
+    ∷ reads 4 5 "parity 2;\n2 0 1 0;\n0 0 0 1;\n1 0 0 2;\n" (Done 3 3 3) case1Read
     -- priority before owner; the largest priority
-    ∷ reads 1 1 "parity 0;\n0 4294967295 1 0;\n" (Done 1 1 1) "1 1 0, 1, 4294967295, 0 1, 0"
-    ∷ reads 1 1 "parity 0;\n0 13568 1 0;\n" (Done 1 1 1) "1 1 0, 1, 13568, 0 1, 0"
+    ∷ reads 1 1 "parity 0;\n0 4294967295 1 0;\n" (Done 1 1 1) "1 1 0, 1, 4294967295, 0 1, 0, 0"
+    ∷ reads 1 1 "parity 0;\n0 13568 1 0;\n" (Done 1 1 1) "1 1 0, 1, 13568, 0 1, 0, 0"
     -- "a repeated successor kept once", where it first stands; room for the edges that are kept (E8)
-    ∷ reads 2 3 "parity 1;\n1 0 0 1,0,1,1;\n0 3 1 0,0;\n" (Done 2 2 3) "2 3 0, 1 0, 3 0, 0 1 3, 0 1 0"
+    ∷ reads 2 3 "parity 1;\n1 0 0 1,0,1,1;\n0 3 1 0,0;\n" (Done 2 2 3) "2 3 0, 1 0, 3 0, 0 1 3, 0 1 0, 0 0 0"
     -- names: none, an empty one (E5), one with commas and semicolons (E12), one with bytes that are no characters
-    ∷ reads 1 1 "parity 0;\n0 0 0 0 \"\";\n" (Done 1 1 1) "1 1 0, 0, 0, 0 1, 0"
-    ∷ reads 1 1 "parity 0;\n0 0 0 0 \"a;b, 1 2\";\n" (Done 1 1 1) "1 1 0, 0, 0, 0 1, 0"
-    ∷ readsBytes 1 1 (characters "parity 0;\n0 0 0 0 \"" ++ (0 ∷ 255 ∷ (characters "\";\n"))) (Done 1 1 1) "1 1 0, 0, 0, 0 1, 0"
+    ∷ reads 1 1 "parity 0;\n0 0 0 0 \"\";\n" (Done 1 1 1) "1 1 0, 0, 0, 0 1, 0, 0"
+    ∷ reads 1 1 "parity 0;\n0 0 0 0 \"a;b, 1 2\";\n" (Done 1 1 1) "1 1 0, 0, 0, 0 1, 0, 0"
+    ∷ readsBytes 1 1 (characters "parity 0;\n0 0 0 0 \"" ++ (0 ∷ 255 ∷ (characters "\";\n"))) (Done 1 1 1) "1 1 0, 0, 0, 0 1, 0, 0"
     ∷ []
 
 pub read-cases : AllSolver read
@@ -204,18 +208,18 @@ beyond =
     -- a vertex too many, an edge too many, of those that are kept (E8)
     readsNot 1 9 "parity 1;\n0 0 0 0;\n1 0 0 0;\n" 93
     ∷ readsNot 2 2 "parity 1;\n0 0 0 0,1;\n1 0 0 0;\n" 93
-    ∷ reads 2 3 "parity 1;\n0 0 0 0,1;\n1 0 0 0;\n" (Done 2 2 3) "2 3 0, 0 0, 0 0, 0 2 3, 0 1 0"
-    ∷ reads 1 1 "parity 0;\n0 0 0 0,0,0,0,0;\n" (Done 1 1 1) "1 1 0, 0, 0, 0 1, 0"
+    ∷ reads 2 3 "parity 1;\n0 0 0 0,1;\n1 0 0 0;\n" (Done 2 2 3) "2 3 0, 0 0, 0 0, 0 2 3, 0 1 0, 0 0 0"
+    ∷ reads 1 1 "parity 0;\n0 0 0 0,0,0,0,0;\n" (Done 1 1 1) "1 1 0, 0, 0, 0 1, 0, 0"
     -- a priority beyond 32 bits, and beyond 64
     ∷ readsNot 1 1 "parity 0;\n0 4294967296 0 0;\n" 93
     ∷ readsNot 1 1 "parity 0;\n0 18446744073709551616 0 0;\n" 93
     -- "after 1 and 2"
-    ∷ readsNotInto 5 0 1 "" 1
+    ∷ readsNotInto 6 0 1 "" 1
     ∷ readsNotInto 7 1 0 "" 1
     ∷ readsNotInto 0 1048577 1 "" 1
     ∷ readsNotInto 0 1 4194305 "" 1
-    ∷ readsNotInto 7 1 1 text1 2
-    ∷ readsNotInto 9 1 1 "" 2
+    ∷ readsNotInto 8 1 1 text1 2
+    ∷ readsNotInto 10 1 1 "" 2
     ∷ []
 
 pub beyond-cases : AllSolver beyond

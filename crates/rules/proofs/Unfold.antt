@@ -1,6 +1,6 @@
 -- Every definition of the rules that computes, under one name: to unfold `everyRule` is to unfold all that its line
 -- names. Assumes nothing.
-use Rattle.rules.specs.Lists.{from, sum, largest, zeros, tally, every, seek, sumWords, filter, has, position}
+use Rattle.rules.specs.Lists.{from, sum, largest, zeros, tally, every, seek, sumWords, filter, has, occurrences, position}
 use Rattle.rules.specs.Lists.{insert, insertAll, once}
 use Rattle.rules.specs.Words.{gameLength, workLength}
 use Rattle.rules.specs.Answers.{faultIf, andThen, firstFault}
@@ -17,10 +17,11 @@ use Rattle.rules.specs.Depth.{references, alternates, contribution, read
 use Rattle.rules.specs.Items.{sameTree, actionView, formulaView, alike, subformulas, items, itemNumber}
 use Rattle.rules.specs.Pairs.{samePair, itemAt, operatorOwner, formulaOwner, itemOwner, owner, priority}
 use Rattle.rules.specs.Pairs.{matchingTransitions, successors, formulaTargets, itemTargets, targets}
+use Rattle.rules.specs.Pairs.{formulaTransitions, itemTransitions, modalTransitions, transitionsBehind}
 use Rattle.rules.specs.Walk.{pushNew, settle, stepFrom, step, stepsFrom, walk}
 use Rattle.rules.specs.Reach.{allTargets, reachedIn, reachablePairs, N}
-use Rattle.rules.specs.Game.{waitingVertex, stuckPriority, totalisedBy, totalised, settledVertex, ruledVertex}
-use Rattle.rules.specs.Game.{vertexAt, vertices, edgeCount, offsets, allEdges, columns, gameOf, padded}
+use Rattle.rules.specs.Game.{waitingVertex, stuckPriority, totalisedBy, totalised, settledVertex, ruledEdge, ruledVertex}
+use Rattle.rules.specs.Game.{vertexAt, vertices, edgeCount, offsets, allEdges, columns, gameOf, padded, edgeAt, edgesAt}
 use Rattle.rules.specs.Refusal.{outside, differ, faultFrom, lowerFault, refusal1, refusal2, refusal11, refusal12}
 use Rattle.rules.specs.Refusal.{badLabel, refusal13, refusal21, refusal22, refusal23, refusal24, tooLarge}
 use Rattle.rules.specs.Refusal.{refusal25, refusal26, refusal31, refusal32, refusal33, wrongOperand}
@@ -28,7 +29,7 @@ use Rattle.rules.specs.Refusal.{badActionOperand, refusal34, refusal41, 
 use Rattle.rules.specs.Refusal.{badFormulaOperand, wrongEnd, refusal44, encloses}
 use Rattle.rules.specs.Refusal.{wrongReference, refusal45, inputRefusal, refusal}
 use Rattle.rules.specs.GameRefusal.{aboveRoom, refusal51, falls, refusal52, refusal53, gameRefusal}
-use Rattle.rules.specs.Restrict.{searchFrom, reachedVertices, newNumber, keptVertex, keptVertices, vertexMap}
+use Rattle.rules.specs.Restrict.{searchFrom, reachedVertices, newNumber, keptEdge, keptVertex, keptVertices, vertexMap}
 use Rattle.rules.specs.Restrict.{restrictionRefusal, restrictedTo, restrictedOr, restriction}
 use Rattle.rules.specs.Texts.{digitsTo, decimal, spaced, line, textInto}
 use Rattle.rules.specs.Program.{wordOf, joined, wordsOf, gateWords, disagree, slicesOf, gateRoom, gateSteps}
@@ -48,21 +49,22 @@ use Rattle.rules.specs.PgsolverReading.{readOr, readGame}
 use Rattle.rules.specs.Run.{walkOf, verticesOf, exceeds, builtAnswer, builtOutcome, outOfRoom, walkOutcome, refusedOr, run}
 
 unfoldable pub everyRule : Unit {0}
-unfolding from sum largest zeros tally every seek sumWords filter has position insert insertAll once
+unfolding from sum largest zeros tally every seek sumWords filter has occurrences position insert insertAll once
     gameLength workLength faultIf andThen firstFault
     times sameLabel multiset firstTransition transitions decodeAction actionNode actionShape decodeFormula formulaNode
     formulaShape fixpointOf referenceOf endOfTrees treeEnd isEnd isNotEnd isBeforeEnd comesTo onRow actionOf actionTo actionTree matches
     equationAt isFixpoint placeholder equationsBefore equations equationCount equationOf equationNumber formulaOf
     formulaTo formulaTree bodyTree firstBodyNode bodyNodes references alternates contribution readingTo reading depth
     leastBit byDepth sameTree actionView formulaView alike subformulas items itemNumber samePair itemAt operatorOwner
-    formulaOwner itemOwner owner priority matchingTransitions successors formulaTargets itemTargets targets pushNew settle
+    formulaOwner itemOwner owner priority matchingTransitions successors formulaTargets itemTargets targets
+    formulaTransitions itemTransitions modalTransitions transitionsBehind pushNew settle
     stepFrom step stepsFrom walk allTargets reachedIn reachablePairs N waitingVertex stuckPriority totalisedBy
-    totalised settledVertex ruledVertex vertexAt vertices edgeCount offsets allEdges columns gameOf padded outside differ faultFrom lowerFault refusal1
+    totalised settledVertex ruledEdge ruledVertex vertexAt vertices edgeCount offsets allEdges columns gameOf padded edgeAt edgesAt outside differ faultFrom lowerFault refusal1
     refusal2 refusal11 refusal12 badLabel refusal13 refusal21 refusal22 refusal23 refusal24 tooLarge refusal25
     refusal26 refusal31 refusal32 refusal33 wrongOperand badActionOperand refusal34 refusal41 refusal42
     refusal43 namesNoTree badFormulaOperand wrongEnd refusal44 encloses wrongReference refusal45
     inputRefusal refusal walkOf verticesOf exceeds builtAnswer builtOutcome outOfRoom walkOutcome refusedOr run aboveRoom
-    refusal51 falls refusal52 refusal53 gameRefusal searchFrom reachedVertices newNumber keptVertex keptVertices
+    refusal51 falls refusal52 refusal53 gameRefusal searchFrom reachedVertices newNumber keptEdge keptVertex keptVertices
     vertexMap restrictionRefusal restrictedTo restrictedOr restriction digitsTo decimal spaced
     line textInto wordOf joined wordsOf gateWords disagree slicesOf gateRoom gateSteps gateRun doneText cutText
     refusedText vertexLine vertexLines report reported printedWords printed gateTextLength programText

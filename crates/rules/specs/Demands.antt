@@ -19,9 +19,9 @@ use Rattle.rules.specs.Answers.{Accepted}
 use Rattle.rules.specs.System.{stateCount}
 use Rattle.rules.specs.Depth.{Ranking}
 use Rattle.rules.specs.Items.{items}
-use Rattle.rules.specs.Pairs.{Pair, initialPair, owner, priority, targets}
+use Rattle.rules.specs.Pairs.{Pair, initialPair, owner, priority, targets, transitionsBehind}
 use Rattle.rules.specs.Reach.{Reachable, reachablePairs, N}
-use Rattle.rules.specs.Game.{stuckPriority, vertexCount, edgesIn, initialIn, ownerIn, priorityIn, offsetIn, targetsIn, gameEnd}
+use Rattle.rules.specs.Game.{stuckPriority, vertexCount, edgesIn, initialIn, ownerIn, priorityIn, offsetIn, targetsIn, countsIn, gameEnd}
 use Rattle.rules.specs.Faulty.{FirstFaulty, Faultless}
 
 -- ---- 01's "One step" as a relation: no stack
@@ -69,13 +69,15 @@ abbrev pub Totalised : ℕ → Player → ℕ → List ℕ → ℕ → List ℕ 
 Totalised v o p [] shown added = (shown ≡ stuckPriority o) × (added ≡ v ∷ [])
 Totalised v o p (t ∷ ts) shown added = (shown ≡ p) × (added ≡ [])
 
--- vertex v is shown as the rules have its pair p
+-- vertex v is shown as the rules have its pair p; each edge with the number of transitions behind it, an added one
+-- with 0 ("the transitions behind an edge", document 02, #102)
 pub record SettledRow (rank : Ranking) (x : Input) (g : List ℕ) (ps : List Pair) (v : ℕ) (p : Pair) : Type 0 where
   pub ruled : List ℕ
   pub added : List ℕ
   pub owned : ownerIn g v ≡ playerIndex (owner x p)
   pub edges : targetsIn g v ≡ ruled ++ added
   pub leads : Lead x ps ruled (targets x p)
+  pub counts : countsIn g v ≡ map (transitionsBehind x p) (targets x p) ++ zeros added
   pub total : Totalised v (owner x p) (priority rank x p) ruled (priorityIn g v) added
 
 -- a: the answer; g: the game slice's words; ps: the pair of each vertex

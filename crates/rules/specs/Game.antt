@@ -1,6 +1,7 @@
 -- Games (document 01, "Words handed over": "A game is: vertices, edges, initial vertex; owners and priorities; then the
 -- offsets, one more than there are vertices; then the targets. Words past its end are 0. A cut game shows a waiting
--- vertex with owner 2, priority 0 and no edges"). Assumes nothing: these are definitions.
+-- vertex with owner 2, priority 0 and no edges"; document 02, #102: each edge's "count of matching transitions", "in an
+-- array after the targets"). Assumes nothing: these are definitions.
 use Prim.Native.Nat.{ℕ, suc, _+_, _*_, _-_}
 use mathlib.Core.Bool.{Bool, cond}
 use mathlib.Core.List.{List, [], _∷_, _++_, map}
@@ -15,14 +16,16 @@ use Rattle.rules.specs.Walk.{Stand}
 -- an edge and a vertex as the game's words show them: what is written of each is a field here and a column below
 pub record Edge : Type 0 where
   pub target : ℕ
+  pub count : ℕ
 
 pub record Vertex : Type 0 where
   pub owner : ℕ
   pub priority : ℕ
   pub edges : List Edge
 
+-- an edge that no modality gives: "edges of other vertices, added self-loops and games read from text carry 0"
 abbrev pub edgeTo : ℕ → Edge
-edgeTo t = record { target = t }
+edgeTo t = record { target = t; count = 0 }
 
 -- "A cut game shows a waiting vertex with owner 2, priority 0 and no edges"
 unfoldable pub waitingVertex : Vertex
@@ -55,11 +58,15 @@ settledVertex r = record { owner = playerIndex (r .owner); priority = r .priorit
 
 -- ---- the vertices where a walk stands
 
-module _ {A : Type 0} (same : A → A → Bool) (next : A → List A) (root : A) (owner : A → Player) (priority : A → ℕ) where
-  -- what the rules give pair p: its edges lead, in order, to the vertices that stand for its targets
+module _ {A : Type 0} (same : A → A → Bool) (next : A → List A) (root : A) (owner : A → Player) (priority : A → ℕ)
+    (behind : A → A → ℕ) where
+  -- the edge from pair p to its target q: it leads to the vertex that stands for q
+  unfoldable pub ruledEdge : Stand A → A → A → Edge
+  ruledEdge st p q = record { target = position same q (st .known); count = behind p q }
+
+  -- what the rules give pair p: an edge for each of its targets, in order
   unfoldable pub ruledVertex : Stand A → A → Ruled
-  ruledVertex st p =
-      record { owner = owner p; priority = priority p; edges = map (λ q. edgeTo (position same q (st .known))) (next p) }
+  ruledVertex st p = record { owner = owner p; priority = priority p; edges = map (ruledEdge st p) (next p) }
 
   unfoldable pub vertexAt : Stand A → ℕ → Vertex
   vertexAt st v =
@@ -75,11 +82,11 @@ module _ {A : Type 0} (same : A → A → Bool) (next : A → List A) (root : A)
 abbrev pub vertexColumns : List (Vertex → ℕ)
 vertexColumns = (λ v. v .owner) ∷ (λ v. v .priority) ∷ []
 
--- "then the targets": what it has of each edge
+-- "then the targets", the counts "in an array after the targets": what it has of each edge
 abbrev pub edgeColumns : List (Edge → ℕ)
-edgeColumns = (λ e. e .target) ∷ []
+edgeColumns = (λ e. e .target) ∷ (λ e. e .count) ∷ []
 
--- n vertices and m edges: "4 + 3n + m", the offsets being "one more than there are vertices"
+-- n vertices and m edges: "4 + 3n + 2m", the offsets being "one more than there are vertices"
 abbrev pub gameWords : (n m : ℕ) → ℕ
 gameWords n m = 4 + (length vertexColumns + 1) * n + length edgeColumns * m
 
@@ -159,3 +166,13 @@ priorityIn g v = vertexWord g 1 v
 
 abbrev pub targetsIn : List ℕ → ℕ → List ℕ
 targetsIn g v = edgeWordsIn g 0 v
+
+abbrev pub countsIn : List ℕ → ℕ → List ℕ
+countsIn g v = edgeWordsIn g 1 v
+
+-- edge e as the words show it, and the edges of vertex v
+unfoldable pub edgeAt : List ℕ → ℕ → Edge
+edgeAt g e = record { target = edgeWord g 0 e; count = edgeWord g 1 e }
+
+unfoldable pub edgesAt : List ℕ → ℕ → List Edge
+edgesAt g v = map (edgeAt g) (from (offsetIn g v) (offsetIn g (suc v) - offsetIn g v))

@@ -17,7 +17,7 @@ use Rattle.rules.specs.Refusal.{differ, faultFrom, lowerFault, tooLarge}
 unfoldable pub aboveRoom : (n m : ℕ) → Bool
 aboveRoom n m = ltb mostVertices n || ltb mostEdges m
 
--- "51: length fewer than 3 or not 4 + 3n + m, no vertex, or a size above the room limits" (decisions C1, C4)
+-- "51: length fewer than 3 or not" (#102) "4 + 3n + 2m", "no vertex, or a size above the room limits" (decisions C1, C4)
 unfoldable pub refusal51 : List ℕ → Check
 refusal51 g =
     faultIf 51 0

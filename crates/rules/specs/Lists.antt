@@ -80,6 +80,11 @@ module _ {A : Type 0} (same : A → A → Bool) where
   has a [] = false
   has a (b ∷ bs) = same a b || has a bs
 
+  -- how often a stands in the list
+  unfoldable pub occurrences : A → List A → ℕ
+  occurrences a [] = 0
+  occurrences a (b ∷ bs) = occurrences a bs + one (same b a)
+
   -- the position of a, and the length where it has none
   unfoldable pub position : A → List A → ℕ
   position a [] = 0

@@ -1,5 +1,5 @@
--- Pairs of a state and an item number: owner, priority and targets (document 01, "One step", "Pairs"). Only this module
--- looks into items. Assumes nothing: these are definitions.
+-- Pairs of a state and an item number: owner, priority and targets (document 01, "One step", "Pairs"), and the
+-- transitions behind an edge (document 02, #102). Only this module looks into items. Assumes nothing: these are definitions.
 use Prim.Native.Nat.{ℕ}
 use mathlib.Core.Bool.{Bool, cond, _&&_}
 use mathlib.Core.List.{List, [], _∷_, map}
@@ -7,7 +7,7 @@ use lib.ListN.{getD}
 use lib.Dec.{eqb, ltb}
 use Rattle.player.specs.declared.Player.{Player}
 use Rattle.player.specs.declared.Player.the-variants.{Even, Odd}
-use Rattle.rules.specs.Lists.{filter, once}
+use Rattle.rules.specs.Lists.{filter, occurrences, once}
 use Rattle.rules.specs.Words.{Input}
 use Rattle.rules.specs.Labels.{multiset}
 use Rattle.rules.specs.System.{initialState, transitionLabel, transitionTarget, transitions}
@@ -86,3 +86,27 @@ itemTargets x s (subformula f) = formulaTargets x s f
 -- "A pair's targets are those listed above, in order; all but box and diamond keep the state"
 unfoldable pub targets : Input → Pair → List Pair
 targets x p = itemTargets x (p .0) (itemAt x (p .1))
+
+-- ---- transitions behind an edge (document 02, #102)
+
+-- the matching transitions of a pair's modality; a pair whose item is no box and no diamond has none
+unfoldable pub formulaTransitions : Input → ℕ → Formula → List ℕ
+formulaTransitions x s truth = []
+formulaTransitions x s falsity = []
+formulaTransitions x s (conjunction l r) = []
+formulaTransitions x s (disjunction l r) = []
+formulaTransitions x s (box a b) = matchingTransitions x a s
+formulaTransitions x s (diamond a b) = matchingTransitions x a s
+formulaTransitions x s (reference i) = []
+
+unfoldable pub itemTransitions : Input → ℕ → Item → List ℕ
+itemTransitions x s (equation e) = []
+itemTransitions x s (subformula f) = formulaTransitions x s f
+
+unfoldable pub modalTransitions : Input → Pair → List ℕ
+modalTransitions x p = itemTransitions x (p .0) (itemAt x (p .1))
+
+-- "each target's count of matching transitions": how many of those of p lead to the state of q
+unfoldable pub transitionsBehind : Input → Pair → Pair → ℕ
+transitionsBehind x p q =
+    occurrences eqb (q .0) (map (transitionTarget (x .system)) (modalTransitions x p))

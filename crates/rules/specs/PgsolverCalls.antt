@@ -8,8 +8,8 @@ use lib.Dec.{eqb}
 use Rattle.rules.specs.declared.Answer.{Answer}
 use Rattle.rules.specs.declared.Answer.the-variants.{Done, Refused}
 use Rattle.rules.specs.declared.Room.{Room}
-use Rattle.rules.specs.Lists.{word, In, once}
-use Rattle.rules.specs.Game.{vertexCount, edgesIn, initialIn, ownerIn, priorityIn, offsetIn, targetsIn, gameEnd}
+use Rattle.rules.specs.Lists.{word, zeros, In, once}
+use Rattle.rules.specs.Game.{vertexCount, edgesIn, initialIn, ownerIn, priorityIn, offsetIn, targetsIn, countsIn, gameEnd}
 use Rattle.rules.specs.Pgsolver.{SolverLine, SolverText, HasForm}
 use Rattle.rules.specs.PgsolverWriting.{textIn}
 use Rattle.rules.specs.FaultyText.{FaultyWriting, FirstFaultyWriting, FaultyReading, FirstFaultyReading}
@@ -43,6 +43,8 @@ pub record ReadsGame (t : SolverText) (a : Answer) (h : List ℕ) : Type 0 where
   pub owners : (l : SolverLine) → In l (t .lines) → ownerIn h (l .number) ≡ l .owner
   pub priorities : (l : SolverLine) → In l (t .lines) → priorityIn h (l .number) ≡ l .priority
   pub edges : (l : SolverLine) → In l (t .lines) → targetsIn h (l .number) ≡ once eqb (l .successors)
+  -- "games read from text carry 0" (#102)
+  pub counts : (l : SolverLine) → In l (t .lines) → countsIn h (l .number) ≡ zeros (once eqb (l .successors))
   -- and every vertex has a line
   pub given : (v : ℕ) → v < vertexCount h → (l : SolverLine) × In l (t .lines) × (l .number ≡ v)
   -- the words are a game

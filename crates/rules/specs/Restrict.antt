@@ -1,6 +1,6 @@
 -- The restriction (document 01, "Restriction": "From the initial vertex, breadth first, targets in order; the first met
--- gets the next number; owners, priorities and edge order stay. The map holds 4,294,967,295 for a vertex not reached").
--- Assumes nothing: these are definitions.
+-- gets the next number; owners, priorities and edge order stay. The map holds 4,294,967,295 for a vertex not reached";
+-- document 02, #102: "The restriction copies the counts"). Assumes nothing: these are definitions.
 use Prim.Native.Nat.{ℕ, zero, suc}
 use mathlib.Core.Bool.{cond, _||_}
 use mathlib.Core.List.{List, [], _∷_, map}
@@ -12,8 +12,8 @@ use Rattle.rules.specs.declared.Check.{Check}
 use Rattle.rules.specs.declared.Check.the-variants.{Passed, Fault}
 use Rattle.rules.specs.Lists.{from, zeros, has, position, insertAll}
 use Rattle.rules.specs.Answers.{faultIf, andThen}
-use Rattle.rules.specs.Game.{Vertex, edgeTo, edgeCount, gameOf, padded}
-use Rattle.rules.specs.Game.{vertexCount, initialIn, ownerIn, priorityIn, targetsIn}
+use Rattle.rules.specs.Game.{Edge, Vertex, edgeCount, gameOf, padded}
+use Rattle.rules.specs.Game.{vertexCount, initialIn, ownerIn, priorityIn, targetsIn, edgesAt}
 use Rattle.rules.specs.Refusal.{differ}
 use Rattle.rules.specs.GameRefusal.{gameRefusal}
 
@@ -39,13 +39,13 @@ reachedVertices g = searchFrom g (vertexCount g) 0 (initialIn g ∷ [])
 unfoldable pub newNumber : List ℕ → ℕ → ℕ
 newNumber met v = cond (has eqb v met) (position eqb v met) 4_294_967_295
 
+-- an edge that is kept leads to the new number of its target, and has the count that it had
+unfoldable pub keptEdge : List ℕ → Edge → Edge
+keptEdge met e = record { target = newNumber met (e .target); count = e .count }
+
 unfoldable pub keptVertex : List ℕ → List ℕ → ℕ → Vertex
 keptVertex g met v =
-    record {
-      owner = ownerIn g v;
-      priority = priorityIn g v;
-      edges = map (λ t. edgeTo (newNumber met t)) (targetsIn g v);
-    }
+    record { owner = ownerIn g v; priority = priorityIn g v; edges = map (keptEdge met) (edgesAt g v) }
 
 unfoldable pub keptVertices : List ℕ → List ℕ → List Vertex
 keptVertices g met = map (keptVertex g met) met

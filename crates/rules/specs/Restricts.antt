@@ -10,7 +10,7 @@ use Rattle.rules.specs.declared.Answer.the-variants.{Done, Refused}
 use Rattle.rules.specs.Lists.{word, zeros, In, Distinct}
 use Rattle.rules.specs.Answers.{Accepted}
 use Rattle.rules.specs.Reach.{Reachable}
-use Rattle.rules.specs.Game.{vertexCount, edgesIn, initialIn, ownerIn, priorityIn, offsetIn, targetsIn, gameEnd}
+use Rattle.rules.specs.Game.{vertexCount, edgesIn, initialIn, ownerIn, priorityIn, offsetIn, targetsIn, countsIn, gameEnd}
 use Rattle.rules.specs.FaultyGame.{FaultyRestriction, FirstFaultyRestriction}
 use Rattle.rules.specs.Demands.{Numbers}
 
@@ -36,10 +36,11 @@ pub record Restricts (g : List ℕ) (a : Answer) (h ns met : List ℕ) : Type 0 
   pub mapped : length ns ≡ vertexCount g
   pub sends : (v : ℕ) → Reachable (targetsIn g) (initialIn g) v → (word ns v < length met) × (getD met (word ns v) 0 ≡ v)
   pub leaves : (v : ℕ) → v < vertexCount g → (¬ Reachable (targetsIn g) (initialIn g) v) → word ns v ≡ 4_294_967_295
-  -- each new vertex has the owner, the priority and, in order, the mapped edges of its old one
+  -- each new vertex has the owner, the priority and, in order, the mapped edges of its old one, with their counts
   pub owners : (u : ℕ) → u < length met → ownerIn h u ≡ ownerIn g (getD met u 0)
   pub priorities : (u : ℕ) → u < length met → priorityIn h u ≡ priorityIn g (getD met u 0)
   pub edges : (u : ℕ) → u < length met → targetsIn h u ≡ map (λ t. word ns t) (targetsIn g (getD met u 0))
+  pub counts : (u : ℕ) → u < length met → countsIn h u ≡ countsIn g (getD met u 0)
   -- the words are a game, and nothing else stands in the slice
   pub begins : offsetIn h 0 ≡ 0
   pub follows : (u : ℕ) → u < vertexCount h → offsetIn h (suc u) ≡ offsetIn h u + length (targetsIn h u)

@@ -13,7 +13,7 @@ use Rattle.rules.specs.Lists.{zeros}
 use Rattle.rules.specs.declared.Room.{Room}
 use Rattle.rules.specs.Words.{Input}
 use Rattle.rules.specs.Depth.{Ranking}
-use Rattle.rules.specs.Pairs.{Pair, samePair, initialPair, owner, priority, targets}
+use Rattle.rules.specs.Pairs.{Pair, samePair, initialPair, owner, priority, targets, transitionsBehind}
 use Rattle.rules.specs.Walk.{Stand, walk}
 use Rattle.rules.specs.Game.{Vertex, vertices, edgeCount, gameOf, padded}
 use Rattle.rules.specs.Refusal.{refusal}
@@ -29,7 +29,8 @@ unfoldable pub walkOf : Input → ℕ → Stand Pair
 walkOf x k = walk samePair (targets x) (initialPair x) k
 
 unfoldable pub verticesOf : Ranking → Input → Stand Pair → List Vertex
-verticesOf rank x st = vertices samePair (targets x) (initialPair x) (owner x) (priority rank x) st
+verticesOf rank x st =
+    vertices samePair (targets x) (initialPair x) (owner x) (priority rank x) (transitionsBehind x) st
 
 -- "60: within the first k steps the vertices known exceed V or the edges, added self-loops included, exceed E". Neither
 -- ever falls, so it is told after k steps

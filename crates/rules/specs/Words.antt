@@ -45,7 +45,7 @@ mostVertices = 1_048_576
 abbrev pub mostEdges : ℕ
 mostEdges = 4_194_304
 
--- "the game slice has exactly 4 + 3V + E words, the work slice exactly 8V + 2E"
+-- "A game slice has 4 + 3V + 2E words" (#102), "the work slice exactly 8V + 2E"
 unfoldable pub gameLength : Room → ℕ
 gameLength r = gameWords (r .vertices) (r .edges)
 

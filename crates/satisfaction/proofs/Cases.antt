@@ -174,11 +174,11 @@ abbrev pub alarmRun : Outcome
 alarmRun = run byDepth (onLoop alarm) (roomOf 7 8) 64 (replicate (gameLength (roomOf 7 8)) 9) (replicate (workLength (roomOf 7 8)) 9)
 
 -- vertices 0 to 6 stand for X, Y as it is referred to, Y, the choice, X and Z as they are referred to, Z. Y's 3 beats
--- X's 2
+-- X's 2. There is no modality: each of the 8 edges has count 0
 abbrev alarmGame : List ℕ
 alarmGame =
     7 ∷ 8 ∷ 0 ∷ 0 ∷ 1 ∷ 1 ∷ 0 ∷ 1 ∷ 1 ∷ 0 ∷ 2 ∷ 0 ∷ 3 ∷ 0 ∷ 0 ∷ 0 ∷ 0
-    ∷ 0 ∷ 1 ∷ 2 ∷ 3 ∷ 5 ∷ 6 ∷ 7 ∷ 8 ∷ 1 ∷ 2 ∷ 3 ∷ 4 ∷ 5 ∷ 0 ∷ 6 ∷ 1 ∷ []
+    ∷ 0 ∷ 1 ∷ 2 ∷ 3 ∷ 5 ∷ 6 ∷ 7 ∷ 8 ∷ 1 ∷ 2 ∷ 3 ∷ 4 ∷ 5 ∷ 0 ∷ 6 ∷ 1 ∷ 0 ∷ 0 ∷ 0 ∷ 0 ∷ 0 ∷ 0 ∷ 0 ∷ 0 ∷ []
 
 -- ---- computed
 

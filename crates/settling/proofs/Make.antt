@@ -2,7 +2,8 @@
 use mathlib.Core.Path.{_≡_, refl, sym, _∙_, ap, ap₂, subst}
 use mathlib.Core.List.{List, [], _∷_, _++_, append-assoc, append-nil}
 use mathlib.Core.Logic.{inl, inr, ⊎-elim}
-use Prim.Native.Nat.{ℕ, suc, _+_, _-_, _*_, _≤_, _<_}
+use Prim.Native.Nat.{ℕ, _+_, _-_, _*_, _≤_, _<_}
+use native.Mathlib.Decide.{decLt}
 use native.Mathlib.Omega.{arith}
 use lib.Dec.{eqb, lit≤, lit<}
 use lib.ListN.{length, drop, length-append}
@@ -13,18 +14,20 @@ use Rattle.lists.proofs.Shapes.{begins-length}
 use Rattle.lists.proofs.Inserts.{inserts-none, inserts-append, inserts-begins, inserts-holds, positions-append, positions-begins}
 use Rattle.lists.proofs.Equalities.{number-equality}
 use Rattle.words.specs.Regions.{region}
-use Rattle.words.proofs.Regions.{rest-region}
+use Rattle.words.proofs.Regions.{rest-region, word-at}
 use Rattle.pairs.specs.Table.{keysOf}
 use Rattle.pairs.proofs.Uses.{keys-kept, table-kept}
 use Rattle.settling.specs.declared.Counters.{Counters}
-use Rattle.settling.specs.Stand.{waitingIn, waitingOf, edgesOf, putEdge}
-use Rattle.settling.specs.Made.{Marks, Ready, Meeting, Made, TooMany}
-use Rattle.settling.proofs.Buffer.{region-edge, edges-more, edges-rest, length-putEdge, ready-on}
-use Rattle.walks.proofs.Pushes.{push-on}
+use Rattle.settling.specs.Stand.{waitingIn, waitingOf, edgesOf, countsOf, marksOf, putEdge}
+use Rattle.settling.specs.Made.{Marks, Ready, Meeting, Made, TooMany, MarksCleared}
+use Rattle.settling.proofs.Buffer.{regions-same, edges-same, counts-same, past-marks, mark-at}
+use Rattle.settling.proofs.Buffer.{region-edge, edges-more, counts-more, edges-rest, counts-rest}
+use Rattle.settling.proofs.Buffer.{length-putEdge, ready-on}
+use Rattle.walks.proofs.Pushes.{push-on, push-none}
 
 -- ---- no target, and one stretch after another
 
-pub made-none : (w : List ℕ) (v e : ℕ) (c : Counters) → Ready w v e c → Made w v e c w c []
+pub made-none : (w : List ℕ) (v e : ℕ) (c : Counters) → Ready w v e c → Made w v e c w c [] []
 unfolding pushNew positions
 made-none w v e c r =
     let z : c .known - c .known ≡ 0 = omega arith in
@@ -32,18 +35,63 @@ made-none w v e c r =
       ready = r;
       keys = sym (inserts-none eqb (keysOf w v (c .known)));
       waits = rw z;
-      row = sym (append-nil (edgesOf w v (c .edges)));
+      row = sym (append-nil (edgesOf w v e (c .edges)));
       row-length = omega arith;
+      counts = sym (append-nil (countsOf w v e (c .edges)));
       balance = refl;
       grows = omega arith;
       same-settled = refl;
       starts = refl;
-      counts = refl;
+      degrees = refl;
       marks = λ m. m;
     }
 
-module _ (v e : ℕ) (w w₁ w₂ : List ℕ) (c c₁ c₂ : Counters) (ts us : List ℕ) where
-  pub made-more : Made w v e c w₁ c₁ ts → Made w₁ v e c₁ w₂ c₂ us → Made w v e c w₂ c₂ (ts ++ us)
+-- marks past their region are cleared: nothing that is read off changes
+pub made-cleared : (w w′ : List ℕ) (v e : ℕ) (c : Counters) (many : ℕ) → Ready w v e c → MarksCleared w w′ v many
+    → v ≤ many → (v < many → many + c .edges ≤ v + e) → Made w v e c w′ c [] []
+unfolding positions
+made-cleared w w′ v e c many r k wide free =
+    let kept : (a : ℕ) → a < 8 → region a v w′ ≡ region a v w =
+    λ a h. regions-same a v w w′ h (k .long) (λ p l. k .others p (inl l)) in
+    let first : (a : ℕ) → a < 4 → region a v w′ ≡ region a v w = λ a h. kept a (omega arith) in
+    let past : (p : ℕ) → 8 * v + e ≤ p + c .edges → word w′ p ≡ word w p =
+    λ p h. k .others p (inr (past-marks v e (c .edges) many p free (r .buffer) h)) in
+    record {
+      ready =
+          ready-on v e w w′ c c r (k .long) (table-kept w w′ v (c .known) first (r .table)) (r .stack) (r .buffer);
+      keys = keys-kept w w′ v (c .known) first ∙ sym (inserts-none eqb (keysOf w v (c .known)));
+      waits =
+          ap (λ (s : List ℕ). waitingIn s (c .waiting)) (kept 4 (lit< tt))
+          ∙ sym (push-none (c .known) (waitingOf w v (c .waiting)));
+      row =
+          edges-same v e (c .edges) w w′ (λ p a b. past p a) (r .buffer)
+          ∙ sym (append-nil (edgesOf w v e (c .edges)));
+      row-length = omega arith;
+      counts =
+          counts-same v e (c .edges) w w′ (λ p a b. past p (omega arith)) (r .buffer)
+          ∙ sym (append-nil (countsOf w v e (c .edges)));
+      balance = refl;
+      grows = omega arith;
+      same-settled = refl;
+      starts = kept 5 (lit< tt);
+      degrees = kept 6 (lit< tt);
+      marks = λ m i h. subst (λ (l : List ℕ). word l i ≤ c .edges) (sym (kept 7 (lit< tt))) (m i h);
+    }
+
+-- and no mark is above those of the region
+pub marks-cleared : (w w′ : List ℕ) (v many b : ℕ) → MarksCleared w w′ v many → Marks w v b
+    → (i : ℕ) → i < many → word (marksOf w′ v many) i ≤ b
+marks-cleared w w′ v many b k m i h = go (decLt i v)
+  where
+    at : word (marksOf w′ v many) i ≡ word w′ (7 * v + i)
+    at = mark-at v many i w′ h
+
+    go : Dec (i < v) → word (marksOf w′ v many) i ≤ b
+    go (yes l) = omega (arith, at, k .others (7 * v + i) (inl (omega arith)), word-at 7 v i w l, m i l)
+    go (no d) = omega (arith, at, k .none i (omega arith) h)
+
+module _ (v e : ℕ) (w w₁ w₂ : List ℕ) (c c₁ c₂ : Counters) (ts us cs ds : List ℕ) where
+  pub made-more : Made w v e c w₁ c₁ ts cs → Made w₁ v e c₁ w₂ c₂ us ds → Made w v e c w₂ c₂ (ts ++ us) (cs ++ ds)
   made-more a b =
       let ks = keysOf w v (c .known) in
       let ks₁ = keysOf w₁ v (c₁ .known) in
@@ -59,20 +107,26 @@ module _ (v e : ℕ) (w w₁ w₂ : List ℕ) (c c₁ c₂ : Counters) (ts us : 
             ∙ push-on (c .known) (c₁ .known) (c₂ .known) (waitingOf w v (c .waiting)) (a .grows) (b .grows);
         row =
             b .row
-            ∙ ap (λ (l : List ℕ). l ++ positions eqb ks₂ us) (a .row ∙ ap (λ (l : List ℕ). edgesOf w v (c .edges) ++ l) (sym (positions-begins number-equality ts ks₁ ks₂ all on)))
-            ∙ append-assoc (edgesOf w v (c .edges)) (positions eqb ks₂ ts) (positions eqb ks₂ us)
-            ∙ ap (λ (l : List ℕ). edgesOf w v (c .edges) ++ l) (sym (positions-append number-equality ks₂ ts us));
+            ∙ ap (λ (l : List ℕ). l ++ positions eqb ks₂ us)
+            (a .row
+            ∙ ap (λ (l : List ℕ). edgesOf w v e (c .edges) ++ l)
+            (sym (positions-begins number-equality ts ks₁ ks₂ all on)))
+            ∙ append-assoc (edgesOf w v e (c .edges)) (positions eqb ks₂ ts) (positions eqb ks₂ us)
+            ∙ ap (λ (l : List ℕ). edgesOf w v e (c .edges) ++ l) (sym (positions-append number-equality ks₂ ts us));
         row-length = omega (arith, a .row-length, b .row-length, length-append ts us);
+        counts =
+            b .counts
+            ∙ ap (λ (l : List ℕ). l ++ ds) (a .counts)
+            ∙ append-assoc (countsOf w v e (c .edges)) cs ds;
         balance = omega (arith, a .balance, b .balance);
         grows = omega (arith, a .grows, b .grows);
         same-settled = b .same-settled ∙ a .same-settled;
         starts = b .starts ∙ a .starts;
-        counts = b .counts ∙ a .counts;
-        marks = λ m.
-            subst (λ (s : ℕ). Marks w₂ v (suc s)) (a .same-settled) (b .marks (subst (λ (s : ℕ). Marks w₁ v (suc s)) (sym (a .same-settled)) (a .marks m)));
+        degrees = b .degrees ∙ a .degrees;
+        marks = λ m. b .marks (a .marks m);
       }
 
-  pub many-more : Made w v e c w₁ c₁ ts → TooMany w₁ v e c₁ us → TooMany w v e c (ts ++ us)
+  pub many-more : Made w v e c w₁ c₁ ts cs → TooMany w₁ v e c₁ us → TooMany w v e c (ts ++ us)
   many-more a f =
       ⊎-elim
       (λ l. inl (subst (λ (k : List ℕ). v < length k)
@@ -98,13 +152,15 @@ many-early w v e c ts us f =
 abbrev pub withEdge : Counters → ℕ → ℕ → Counters
 withEdge c n m = record { known = n; settled = c .settled; edges = c .edges + 1; waiting = m }
 
--- met, then perhaps marked, then given an edge
-module _ (v e : ℕ) (w w₁ w₂ w₃ : List ℕ) (c : Counters) (t u n m : ℕ) (r : Ready w v e c) (p : Meeting w w₁ v (c .known) (c .waiting) t u n m)
-    (room : c .edges < e) (long : length w₂ ≡ length w) (kept : (a : ℕ) → a < 7 → region a v w₂ ≡ region a v w₁)
-    (same : edgesOf w₂ v (c .edges) ≡ edgesOf w₁ v (c .edges)) (marks : Marks w v (suc (c .settled)) → Marks w₂ v (suc (c .settled)))
-    (g : w₃ ≡ putEdge v (c .edges) u w₂) where
+-- met, then perhaps marked, then given an edge, behind which so many transitions stand
+module _ (v e : ℕ) (w w₁ w₂ w₃ : List ℕ) (c : Counters) (t u n m count : ℕ) (r : Ready w v e c)
+    (p : Meeting w w₁ v (c .known) (c .waiting) t u n m) (room : c .edges < e) (long : length w₂ ≡ length w)
+    (kept : (a : ℕ) → a < 7 → region a v w₂ ≡ region a v w₁)
+    (same : edgesOf w₂ v e (c .edges) ≡ edgesOf w₁ v e (c .edges))
+    (same-counts : countsOf w₂ v e (c .edges) ≡ countsOf w₁ v e (c .edges))
+    (marks : Marks w v (c .edges) → Marks w₂ v (c .edges + 1)) (g : w₃ ≡ putEdge v e (c .edges) u count w₂) where
   here : (a : ℕ) → a < 7 → region a v w₃ ≡ region a v w₁
-  here a h = ap (region a v) g ∙ region-edge a v (c .edges) u w₂ (omega arith) ∙ kept a h
+  here a h = ap (region a v) g ∙ region-edge a v e (c .edges) u count w₂ (omega arith) room ∙ kept a h
 
   later : (a : ℕ) → 5 ≤ a → a < 7 → region a v w₃ ≡ region a v w
   later a l h = here a h ∙ rest-region 5 a v w w₁ (p .rest) l
@@ -114,10 +170,10 @@ module _ (v e : ℕ) (w w₁ w₂ w₃ : List ℕ) (c : Counters) (t u n m : ℕ
 
   edge-ready : Ready w₃ v e (withEdge c n m)
   edge-ready =
-      ready-on v e w w₃ c (withEdge c n m) r (ap length g ∙ length-putEdge v (c .edges) u w₂ ∙ long)
+      ready-on v e w w₃ c (withEdge c n m) r (ap length g ∙ length-putEdge v e (c .edges) u count w₂ ∙ long)
       (table-kept w₁ w₃ v n first (p .table)) (omega (arith, r .stack, p .balance)) (omega arith)
 
-  pub edge-made : Made w v e c w₃ (withEdge c n m) (t ∷ [])
+  pub edge-made : Made w v e c w₃ (withEdge c n m) (t ∷ []) (count ∷ [])
   unfolding insertAll positions
   edge-made =
       let ks : keysOf w₃ v n ≡ keysOf w₁ v n = keys-kept w₁ w₃ v n first in
@@ -126,17 +182,24 @@ module _ (v e : ℕ) (w w₁ w₂ w₃ : List ℕ) (c : Counters) (t u n m : ℕ
         keys = ks ∙ p .keys;
         waits = ap (λ (s : List ℕ). waitingIn s m) (here 4 (lit< tt)) ∙ p .waits;
         row =
-            ap (λ (l : List ℕ). edgesOf l v (c .edges + 1)) g
-            ∙ edges-more v (c .edges) u w₂ (omega (arith, r .whole))
-            ∙ ap₂ (λ (l : List ℕ) (y : ℕ). l ++ (y ∷ [])) (same ∙ edges-rest v (c .edges) w w₁ (p .rest)) (p .vertex ∙ ap (position eqb t) (sym ks));
+            ap (λ (l : List ℕ). edgesOf l v e (c .edges + 1)) g
+            ∙ edges-more v e (c .edges) u count w₂ room (omega (arith, r .whole))
+            ∙ ap₂ (λ (l : List ℕ) (y : ℕ). l ++ (y ∷ []))
+            (same ∙ edges-rest v e (c .edges) w w₁ (r .buffer) (p .rest)) (p .vertex ∙ ap (position eqb t) (sym ks));
         row-length = omega arith;
+        counts =
+            ap (λ (l : List ℕ). countsOf l v e (c .edges + 1)) g
+            ∙ counts-more v e (c .edges) u count w₂ room (omega (arith, r .whole))
+            ∙ ap (λ (l : List ℕ). l ++ (count ∷ []))
+            (same-counts ∙ counts-rest v e (c .edges) w w₁ (r .buffer) (p .rest));
         balance = p .balance;
         grows = p .grows;
         same-settled = refl;
         starts = later 5 (lit≤ tt) (lit< tt);
-        counts = later 6 (lit≤ tt) (lit< tt);
+        degrees = later 6 (lit≤ tt) (lit< tt);
         marks = λ a i h.
-            subst (λ (l : List ℕ). word l i ≤ suc (c .settled)) (sym (ap (region 7 v) g ∙ region-edge 7 v (c .edges) u w₂ (lit< tt))) (marks a i h);
+            subst (λ (l : List ℕ). word l i ≤ c .edges + 1)
+            (sym (ap (region 7 v) g ∙ region-edge 7 v e (c .edges) u count w₂ (lit< tt) room)) (marks a i h);
       }
 
 pub many-one : (w : List ℕ) (v e : ℕ) (c : Counters) (t : ℕ) → v < length (insert eqb (keysOf w v (c .known)) t) → TooMany w v e c (t ∷ [])
@@ -145,3 +208,6 @@ many-one w v e c t l = inl l
 
 pub marks-rest : (w w′ : List ℕ) (v b : ℕ) → drop (5 * v) w′ ≡ drop (5 * v) w → Marks w v b → Marks w′ v b
 marks-rest w w′ v b e m i h = subst (λ (l : List ℕ). word l i ≤ b) (sym (rest-region 5 7 v w w′ e (lit≤ tt))) (m i h)
+
+pub marks-rise : (w : List ℕ) (v b b′ : ℕ) → b ≤ b′ → Marks w v b → Marks w v b′
+marks-rise w v b b′ l m i h = omega (arith, m i h)

@@ -15,7 +15,7 @@ use Rattle.settling.proofs.Make.{made-none, made-more, many-more, many-
 pub record Settling (w₀ : List ℕ) (v e : ℕ) (c₀ : Counters) (keys : List ℕ) (count : ℕ) (w : List ℕ) (c : Counters) (i : ℕ) : Type 0 where
   pub until : i ≤ count
   pub same : length w ≡ length w₀
-  pub made : Made w₀ v e c₀ w c (take i keys)
+  pub made : Made w₀ v e c₀ w c (take i keys) (take i (0 ∷ 0 ∷ []))
 
 pub settling-start : (w : List ℕ) (v e : ℕ) (c : Counters) (keys : List ℕ) (count : ℕ) → Ready w v e c → Settling w v e c keys count w c 0
 settling-start w v e c keys count r = record { until = omega arith; same = refl; made = made-none w v e c r }
@@ -27,6 +27,17 @@ operand-fits s l r i count h k a b = go (ℕ-discrete i 0)
     go : Dec (i ≡ 0) → Fitting s (word (l ∷ r ∷ []) i)
     go (yes e) = rw e a
     go (no e) = let z : i ≡ 1 = omega arith in rw z (b (omega arith))
+
+-- no transition stands behind an operand's edge
+abbrev zeros : List ℕ
+zeros = 0 ∷ 0 ∷ []
+
+zeros-more : (i : ℕ) → i < 2 → take i zeros ++ (0 ∷ []) ≡ take (i + 1) zeros
+zeros-more i h = go (ℕ-discrete i 0)
+  where
+    go : Dec (i ≡ 0) → take i zeros ++ (0 ∷ []) ≡ take (i + 1) zeros
+    go (yes z) = rw z
+    go (no d) = let z : i ≡ 1 = omega arith in rw z
 
 module _ (w₀ : List ℕ) (v e : ℕ) (c₀ : Counters) (s l r count : ℕ) (few : count ≤ 2) where
   abbrev keys : List ℕ
@@ -43,12 +54,16 @@ module _ (w₀ : List ℕ) (v e : ℕ) (c₀ : Counters) (s l r count : ℕ) (fe
     more : take i keys ++ (keyOf s item ∷ []) ≡ take (i + 1) keys
     more = rw is-operand (take-more i (omega arith))
 
-    pub settling-on : (c′ : Counters) → length w′ ≡ length w → Made w v e c w′ c′ (keyOf s item ∷ []) → Settling w₀ v e c₀ keys count w′ c′ (i + 1)
+    pub settling-on : (c′ : Counters) → length w′ ≡ length w → Made w v e c w′ c′ (keyOf s item ∷ []) (0 ∷ [])
+        → Settling w₀ v e c₀ keys count w′ c′ (i + 1)
     settling-on c′ g m =
         record {
           until = omega arith;
           same = g ∙ k .same;
-          made = subst (Made w₀ v e c₀ w′ c′) more (made-more v e w₀ w w′ c₀ c c′ (take i keys) _ (k .made) m);
+          made =
+              subst (Made w₀ v e c₀ w′ c′ (take (i + 1) keys)) (zeros-more i (omega arith))
+              (subst (λ (ts : List ℕ). Made w₀ v e c₀ w′ c′ ts (take i zeros ++ (0 ∷ []))) more
+              (made-more v e w₀ w w′ c₀ c c′ (take i keys) _ (take i zeros) _ (k .made) m));
         }
 
     -- too many with this operand are too many in all
@@ -56,7 +71,7 @@ module _ (w₀ : List ℕ) (v e : ℕ) (c₀ : Counters) (s l r count : ℕ) (fe
     settling-many f = go (ℕ-discrete (i + 1) count)
       where
         early : TooMany w₀ v e c₀ (take (i + 1) keys)
-        early = subst (TooMany w₀ v e c₀) more (many-more v e w₀ w w c₀ c c (take i keys) _ (k .made) f)
+        early = subst (TooMany w₀ v e c₀) more (many-more v e w₀ w w c₀ c c (take i keys) _ _ [] (k .made) f)
 
         go : Dec (i + 1 ≡ count) → TooMany w₀ v e c₀ (take count keys)
         go (yes z) = subst (λ (n : ℕ). TooMany w₀ v e c₀ (take n keys)) z early
@@ -65,8 +80,11 @@ module _ (w₀ : List ℕ) (v e : ℕ) (c₀ : Counters) (s l r count : ℕ) (fe
             let z : count ≡ 2 = omega arith in
             rw z (many-early w₀ v e c₀ (keyOf s l ∷ []) (keyOf s r ∷ []) (subst (λ (n : ℕ). TooMany w₀ v e c₀ (take n keys)) y early))
 
-  pub settling-end : (w : List ℕ) (c : Counters) (i : ℕ) → Settling w₀ v e c₀ keys count w c i → count ≤ i → Made w₀ v e c₀ w c (take count keys)
-  settling-end w c i k h = let z : i ≡ count = omega (arith, k .until) in subst (λ (n : ℕ). Made w₀ v e c₀ w c (take n keys)) z (k .made)
+  pub settling-end : (w : List ℕ) (c : Counters) (i : ℕ) → Settling w₀ v e c₀ keys count w c i → count ≤ i
+      → Made w₀ v e c₀ w c (take count keys) (take count (0 ∷ 0 ∷ []))
+  settling-end w c i k h =
+      let z : i ≡ count = omega (arith, k .until) in
+      subst (λ (n : ℕ). Made w₀ v e c₀ w c (take n keys) (take n zeros)) z (k .made)
 
 pub second : (l r i : ℕ) → i < 2 → (i ≡ 0 → ⊥) → r ≡ word (l ∷ r ∷ []) i
 second l r i h d = let z : i ≡ 1 = omega arith in rw z

@@ -14,7 +14,7 @@ use Rattle.pairs.specs.Table.{keysOf}
 use Rattle.settling.specs.declared.Counters.{Counters}
 use Rattle.settling.specs.declared.Stepped.{Stepped}
 use Rattle.settling.specs.declared.Stepped.the-variants.{Fits, Full}
-use Rattle.settling.specs.Stand.{standOf, waitingOf, edgesOf, edgesFor, settledIn, startIn, countIn}
+use Rattle.settling.specs.Stand.{standOf, waitingOf, edgesOf, countsOf, edgesFor, countsFor, settledIn, startIn, degreeIn}
 use Rattle.settling.specs.Made.{Ready, Marks}
 
 -- the edges of a settled vertex: one for each target, or one to itself
@@ -25,36 +25,40 @@ edgesDue targets p = max 1 (length (targets p))
 abbrev pub Exceeding : (ℕ → List ℕ) → ℕ → (v e : ℕ) → Stand ℕ → Type 0
 Exceeding targets root v e st = (v < length (st .known)) ⊎ (e < sumSettled (edgesDue targets) root st)
 
--- vertex u is settled, and the stretch of the edge buffer that it has
-pub record Stretch (targets : ℕ → List ℕ) (root : ℕ) (w : List ℕ) (v : ℕ) (c : Counters) (u : ℕ) : Type 0 where
+-- vertex u is settled, and the stretch of the edge buffer that it has: targets and counts
+pub record Stretch (targets : ℕ → List ℕ) (behind : ℕ → ℕ → ℕ) (root : ℕ) (w : List ℕ) (v e : ℕ) (c : Counters) (u : ℕ)
+    : Type 0 where
   pub settled : settledIn w v u ≡ true
-  pub inside : startIn w v u + countIn w v u ≤ c .edges
-  pub row : take (countIn w v u) (drop (startIn w v u) (edgesOf w v (c .edges)))
+  pub inside : startIn w v u + degreeIn w v u ≤ c .edges
+  pub row : take (degreeIn w v u) (drop (startIn w v u) (edgesOf w v e (c .edges)))
       ≡ edgesFor u (keysOf w v (c .known)) (targets (getD (keysOf w v (c .known)) u root))
+  pub counts : let key = getD (keysOf w v (c .known)) u root in
+      take (degreeIn w v u) (drop (startIn w v u) (countsOf w v e (c .edges))) ≡ countsFor (behind key) (targets key)
 
-pub record Good (targets : ℕ → List ℕ) (root : ℕ) (w : List ℕ) (v e : ℕ) (c : Counters) : Type 0 where
+pub record Good (targets : ℕ → List ℕ) (behind : ℕ → ℕ → ℕ) (root : ℕ) (w : List ℕ) (v e : ℕ) (c : Counters) : Type 0 where
   pub ready : Ready w v e c
   pub sound : Sound targets root (keysOf w v (c .known)) (waitingOf w v (c .waiting))
   pub balance : c .settled + c .waiting ≡ c .known
-  pub marks : Marks w v (c .settled)
+  pub marks : Marks w v (c .edges)
   pub total : c .edges ≡ sumSettled (edgesDue targets) root (standOf w v c)
-  pub stretches : (u : ℕ) → Settled (standOf w v c) u → Stretch targets root w v c u
+  pub stretches : (u : ℕ) → Settled (standOf w v c) u → Stretch targets behind root w v e c u
   pub unsettled : (u : ℕ) → u < v → (¬ Settled (standOf w v c) u) → settledIn w v u ≡ false
 
 -- the walk stands where the definition does after one step, and all is well again
-pub record StepMade (targets : ℕ → List ℕ) (root : ℕ) (w : List ℕ) (v e : ℕ) (c : Counters) (w′ : List ℕ) (c′ : Counters) : Type 0 where
+pub record StepMade (targets : ℕ → List ℕ) (behind : ℕ → ℕ → ℕ) (root : ℕ) (w : List ℕ) (v e : ℕ) (c : Counters)
+    (w′ : List ℕ) (c′ : Counters) : Type 0 where
   pub stands : standOf w′ v c′ ≡ step eqb targets root (standOf w v c)
-  pub good : Good targets root w′ v e c′
+  pub good : Good targets behind root w′ v e c′
 
-abbrev pub StepAnswer : (ℕ → List ℕ) → ℕ → List ℕ → ℕ → ℕ → Counters → List ℕ → Stepped → Type 0
-StepAnswer targets root w v e c w′ (Fits c′) = StepMade targets root w v e c w′ c′
-StepAnswer targets root w v e c w′ Full = Exceeding targets root v e (step eqb targets root (standOf w v c))
+abbrev pub StepAnswer : (ℕ → List ℕ) → (ℕ → ℕ → ℕ) → ℕ → List ℕ → ℕ → ℕ → Counters → List ℕ → Stepped → Type 0
+StepAnswer targets behind root w v e c w′ (Fits c′) = StepMade targets behind root w v e c w′ c′
+StepAnswer targets behind root w v e c w′ Full = Exceeding targets root v e (step eqb targets root (standOf w v c))
 
 -- the walk stands where the definition does after k steps
-pub record WalkMade (targets : ℕ → List ℕ) (root v e k : ℕ) (w′ : List ℕ) (c′ : Counters) : Type 0 where
+pub record WalkMade (targets : ℕ → List ℕ) (behind : ℕ → ℕ → ℕ) (root v e k : ℕ) (w′ : List ℕ) (c′ : Counters) : Type 0 where
   pub stands : standOf w′ v c′ ≡ walk eqb targets root k
-  pub good : Good targets root w′ v e c′
+  pub good : Good targets behind root w′ v e c′
 
-abbrev pub WalkAnswer : (ℕ → List ℕ) → ℕ → ℕ → ℕ → ℕ → List ℕ → Stepped → Type 0
-WalkAnswer targets root v e k w′ (Fits c′) = WalkMade targets root v e k w′ c′
-WalkAnswer targets root v e k w′ Full = Exceeding targets root v e (walk eqb targets root k)
+abbrev pub WalkAnswer : (ℕ → List ℕ) → (ℕ → ℕ → ℕ) → ℕ → ℕ → ℕ → ℕ → List ℕ → Stepped → Type 0
+WalkAnswer targets behind root v e k w′ (Fits c′) = WalkMade targets behind root v e k w′ c′
+WalkAnswer targets behind root v e k w′ Full = Exceeding targets root v e (walk eqb targets root k)

@@ -1,26 +1,31 @@
--- The keys of a pair's targets, by the words that the table has for its item. Assumes nothing.
-use mathlib.Core.Path.{_≡_, refl, sym, subst, _∙_, ap}
-use mathlib.Core.List.{List, [], _∷_, map}
+-- The keys of a pair's targets and the transitions behind the edges to them, by the words that the table has for its
+-- item. Assumes nothing.
+use mathlib.Core.Path.{_≡_, refl, sym, subst, _∙_, ap, ap₂}
+use mathlib.Core.List.{List, [], _∷_, map, map-map}
 use mathlib.Core.Logic.{⊎-elim}
 use Prim.Native.Nat.{ℕ, _/_, _≤_, _<_}
 use native.Mathlib.Decide.{decLt}
 use native.Mathlib.Omega.{arith}
-use Rattle.rules.specs.Lists.{word}
+use lib.Dec.{eqb}
+use lib.ListN.{length, replicate, length-map}
+use Rattle.rules.specs.Lists.{word, zeros, occurrences}
 use Rattle.compiled.specs.Stretches.{kindsIn, leftsIn, rightsIn}
-use Rattle.rules.specs.Words.{Input}
+use Rattle.rules.specs.Words.{Input, inputOf}
+use Rattle.rules.specs.System.{transitionTarget}
 use Rattle.rules.specs.Table.{size}
 use Rattle.rules.specs.Actions.{actionTree}
 use Rattle.rules.specs.Items.{items}
-use Rattle.rules.specs.Pairs.{targets, successors}
+use Rattle.rules.specs.Pairs.{Pair, targets, matchingTransitions, successors, transitionsBehind}
 use Rattle.arena.specs.Arena.{Inside}
 use Rattle.arena.proofs.ItemNumbers.{items-few}
 use Rattle.item_table.specs.Entries.{Entry}
 use Rattle.item_table.proofs.Steps.{entry-none, entry-two, entry-modal, entry-action, entry-one, entry-left, entry-right}
+use Rattle.item_table.proofs.Steps.{entry-still, entry-moving}
 use Rattle.pairs.specs.Slot.{keyOf}
 use Rattle.settling.specs.Keys.{pairKey}
 use Rattle.settling.specs.Made.{Fitting}
 use Rattle.modalities.specs.declared.Modality.{Modality}
-use Rattle.modalities.specs.Matched.{Inside as InsideModality, modalityKeys}
+use Rattle.modalities.specs.Matched.{Inside as InsideModality, modalityKeys, modalityCounts}
 use Rattle.stepping.specs.Tables.{Tables}
 use Rattle.stepping.specs.Parts.{operandsOf, AllFit, ModalityIn}
 use Rattle.stepping.proofs.Operands.{operands-none, operands-two, operands-one}
@@ -28,6 +33,17 @@ use Rattle.stepping.proofs.Operands.{operands-none, operands-two, opera
 key-each : (l : ℕ) (ts : List ℕ) → map pairKey (map (λ t. (t, l)) ts) ≡ map (λ t. keyOf t l) ts
 key-each l [] = refl
 key-each l (t ∷ ts) = ap (λ (ks : List ℕ). keyOf t l ∷ ks) (key-each l ts)
+
+-- where none has a count, there are as many zeros
+all-zero : (f : Pair → ℕ) (ps : List Pair) → ((p : Pair) → f p ≡ 0) → map f ps ≡ replicate (length ps) 0
+all-zero f [] none = refl
+all-zero f (p ∷ ps) none = ap₂ (λ (n : ℕ) (l : List ℕ). n ∷ l) (none p) (all-zero f ps none)
+
+-- the matching transitions are the same whatever the formula's words are: they are not looked at
+pub counts-any : (l s a f : List ℕ) (m : Modality)
+    → modalityCounts (inputOf l s a []) m ≡ modalityCounts (inputOf l s a f) m
+unfolding successors matchingTransitions
+counts-any l s a f m = refl
 
 module _ (x : Input) (compiled matched : List ℕ) (t : Tables x compiled matched) (s q : ℕ) (i : Inside x (s, q)) where
   abbrev kinds : List ℕ
@@ -81,6 +97,26 @@ module _ (x : Input) (compiled matched : List ℕ) (t : Tables x compiled matche
         kind-modal a b =
             ap (map pairKey) (entry-modal x q k l r s both a (omega arith)) ∙ key-each l (successors x (actionTree (x .labels) (x .actions) r) s)
 
+        -- the matching transitions that lead to a state
+        abbrev leading : ℕ → ℕ
+        leading t =
+            occurrences eqb t
+            (map (transitionTarget (x .system)) (matchingTransitions x (actionTree (x .labels) (x .actions) r) s))
+
+        behind-modal : 4 ≤ k → k < 6 → (o : Pair) → transitionsBehind x (s, q) o ≡ leading (o .0)
+        unfolding transitionsBehind
+        behind-modal a b o =
+            ap (λ (ts : List ℕ). occurrences eqb (o .0) (map (transitionTarget (x .system)) ts))
+            (entry-moving x q k l r s both a (omega arith))
+
+        counts-modal : 4 ≤ k → k < 6 → map (transitionsBehind x (s, q)) (targets x (s, q))
+            ≡ map leading (successors x (actionTree (x .labels) (x .actions) r) s)
+        counts-modal a b =
+            let ts = successors x (actionTree (x .labels) (x .actions) r) s in
+            ap (map (transitionsBehind x (s, q))) (entry-modal x q k l r s both a (omega arith))
+            ∙ map-map (transitionsBehind x (s, q)) (λ t. (t, l)) ts
+            ∙ ap (λ (f : ℕ → ℕ). map f ts) (λ i t. behind-modal a b (t, l) i)
+
         pub action-there : 4 ≤ k → k < 6 → r < size (x .actions)
         action-there a b = entry-action x q k l r s both a (omega arith)
 
@@ -99,6 +135,22 @@ module _ (x : Input) (compiled matched : List ℕ) (t : Tables x compiled matche
           go (yes a) _ = rw (operands-none k l r a) (kind-none a)
           go (no a) (yes b) = rw (operands-two k l r (omega arith) b) (kind-two l refl r refl (omega arith) b)
           go (no a) (no b) = rw (operands-one k l r (omega arith)) (kind-one l refl (operands (omega arith)))
+
+      behind-none : (o : Pair) → transitionsBehind x (s, q) o ≡ 0
+      unfolding transitionsBehind occurrences
+      behind-none o =
+          ap (λ (ts : List ℕ). occurrences eqb (o .0) (map (transitionTarget (x .system)) ts))
+          (entry-still x q k l r s (both l refl r refl) operands)
+
+      pub kind-counts : map (transitionsBehind x (s, q)) (targets x (s, q)) ≡ zeros (operandsOf k l r)
+      unfolding zeros
+      kind-counts =
+          let many : length (targets x (s, q)) ≡ length (operandsOf k l r) =
+          sym (length-map (targets x (s, q)) pairKey)
+          ∙ ap length kind-operands
+          ∙ length-map (operandsOf k l r) (keyOf s) in
+          all-zero (transitionsBehind x (s, q)) (targets x (s, q)) behind-none
+          ∙ ap (λ (n : ℕ). replicate n 0) many
 
       pub operands-fit : AllFit s (operandsOf k l r)
       operands-fit = go (decLt k 2) (decLt k 4)
@@ -125,3 +177,8 @@ module _ (x : Input) (compiled matched : List ℕ) (t : Tables x compiled matche
       pub modality-targets : map pairKey (targets x (s, q)) ≡ modalityKeys x m
       modality-targets =
           rw (is .state) (kind-modal (m .operand) (is .operand) (m .action) (is .action) (omega arith) (omega arith))
+
+      pub modality-counts : map (transitionsBehind x (s, q)) (targets x (s, q)) ≡ modalityCounts x m
+      modality-counts =
+          rw (is .state)
+          (counts-modal (m .operand) (is .operand) (m .action) (is .action) (omega arith) (omega arith))

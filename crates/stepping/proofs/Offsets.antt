@@ -1,4 +1,4 @@
--- What is read off for the game: the count of a settled vertex is the number of its edges, a waiting one is not
+-- What is read off for the game: the degree of a settled vertex is the number of its edges, a waiting one is not
 -- settled, and the sums of what they have are the offsets. Assumes nothing.
 use mathlib.Core.Path.{_≡_, sym, _∙_, ap}
 use mathlib.Core.Bool.{false}
@@ -15,24 +15,25 @@ use Rattle.walks.proofs.Sums.{sum-none, sum-waits, sum-settles}
 use Rattle.pairs.specs.Table.{keysOf}
 use Rattle.pairs.proofs.Uses.{length-keys}
 use Rattle.settling.specs.declared.Counters.{Counters}
-use Rattle.settling.specs.Stand.{waitingOf, edgesOf, standOf, settledIn, startIn, countIn, degreesIn}
+use Rattle.settling.specs.Stand.{waitingOf, edgesOf, standOf, settledIn, startIn, degreeIn, degreesIn}
 use Rattle.settling.specs.Good.{edgesDue, Good}
 use Rattle.settling.proofs.Buffer.{length-edges, count-unsettled}
 use Rattle.stepping.proofs.Steps.{length-edgesFor}
 
-module _ (targets : ℕ → List ℕ) (root v e : ℕ) (w : List ℕ) (c : Counters) (g : Good targets root w v e c) where
+module _ (targets : ℕ → List ℕ) (behind : ℕ → ℕ → ℕ) (root v e : ℕ) (w : List ℕ) (c : Counters)
+    (g : Good targets behind root w v e c) where
   count : length (keysOf w v (c .known)) ≡ c .known
   count = length-keys w v (c .known)
 
-  -- the count of a settled vertex is the number of its edges
+  -- the degree of a settled vertex is the number of its edges
   pub count-settled : (u : ℕ) → Settled (standOf w v c) u
-      → countIn w v u ≡ edgesDue targets (getD (keysOf w v (c .known)) u root)
+      → degreeIn w v u ≡ edgesDue targets (getD (keysOf w v (c .known)) u root)
   count-settled u s =
       let p = g .stretches u s in
       let start = startIn w v u in
-      let many = countIn w v u in
-      let long : length (edgesOf w v (c .edges)) ≡ c .edges = length-edges w v (c .edges) (omega (arith, g .ready .whole, g .ready .buffer)) in
-      sym (length-take-le many (drop start (edgesOf w v (c .edges))) (omega (arith, p .inside, long, length-drop start (edgesOf w v (c .edges)))))
+      let many = degreeIn w v u in
+      let long : length (edgesOf w v e (c .edges)) ≡ c .edges = length-edges w v e (c .edges) in
+      sym (length-take-le many (drop start (edgesOf w v e (c .edges))) (omega (arith, p .inside, long, length-drop start (edgesOf w v e (c .edges)))))
       ∙ ap length (p .row)
       ∙ length-edgesFor u (keysOf w v (c .known)) (targets (getD (keysOf w v (c .known)) u root))
 
@@ -48,7 +49,7 @@ module _ (targets : ℕ → List ℕ) (root v e : ℕ) (w : List ℕ) (c : Count
     where
       go : Settled (standOf w v c) u ⊎ In u (waitingOf w v (c .waiting))
           → degreesIn w v u ≡ sumBelow (edgesDue targets) root (standOf w v c) u
-          → degreesIn w v u + countIn w v u ≡ sumBelow (edgesDue targets) root (standOf w v c) (suc u)
+          → degreesIn w v u + degreeIn w v u ≡ sumBelow (edgesDue targets) root (standOf w v c) (suc u)
       go (inl s) ih =
           omega (arith, count-settled u s, ih, sum-settles (edgesDue targets) root (standOf w v c) u (s .1))
       go (inr m) ih =

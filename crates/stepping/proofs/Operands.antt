@@ -7,6 +7,7 @@ use native.Mathlib.Decide.{decLt}
 use native.Mathlib.Omega.{arith}
 use borrow.Author.Tests.{lt-ltb, le-ltb}
 use lib.ListN.{take}
+use Rattle.rules.specs.Lists.{zeros}
 use Rattle.pairs.specs.Slot.{keyOf}
 use Rattle.settling.specs.Made.{Fitting}
 use Rattle.stepping.specs.Parts.{operandsOf, AllFit}
@@ -50,3 +51,12 @@ module _ (k l r : ℕ) where
         go : Dec (k < 4) → map (keyOf s) (operandsOf k l r) ≡ take n (keyOf s first ∷ keyOf s second ∷ [])
         go (yes h) = rw (two h, operands-two some h, is-first, is-second) refl
         go (no h) = rw (one (omega arith), operands-one (omega arith), is-first) refl
+
+    -- with no count
+    pub operand-counts : zeros (operandsOf k l r) ≡ take n (0 ∷ 0 ∷ [])
+    unfolding zeros
+    operand-counts = go (decLt k 4)
+      where
+        go : Dec (k < 4) → zeros (operandsOf k l r) ≡ take n (0 ∷ 0 ∷ [])
+        go (yes h) = rw (two h, operands-two some h) refl
+        go (no h) = rw (one (omega arith), operands-one (omega arith)) refl

@@ -11,7 +11,7 @@ use borrow.Author.Tests.{lt-ltb, le-ltb}
 use Rattle.rules.specs.Lists.{In, has}
 use Rattle.rules.specs.Words.{Input, roomOf}
 use Rattle.rules.specs.Depth.{Ranking}
-use Rattle.rules.specs.Pairs.{Pair, samePair, initialPair, owner, priority, targets}
+use Rattle.rules.specs.Pairs.{Pair, samePair, initialPair, owner, priority, targets, transitionsBehind}
 use Rattle.rules.specs.Reach.{Reachable}
 use Rattle.rules.specs.Walk.{Stand, walk}
 use Rattle.rules.specs.Game.{edgeCount}
@@ -28,8 +28,8 @@ use Rattle.words.specs.Regions.{region}
 use Rattle.pairs.specs.Table.{keyAt, stateAt, itemAt, keysOf}
 use Rattle.pairs.proofs.Uses.{length-keys, key-same, key-pair, key-item-below, key-word}
 use Rattle.settling.specs.declared.Counters.{Counters}
-use Rattle.settling.specs.Keys.{pairKey, keyTargets, rootKey}
-use Rattle.settling.specs.Stand.{standOf, waitingOf, settledIn, startIn, countIn}
+use Rattle.settling.specs.Keys.{pairKey, keyTargets, keyBehind, rootKey}
+use Rattle.settling.specs.Stand.{standOf, waitingOf, settledIn, startIn, degreeIn}
 use Rattle.settling.specs.Good.{edgesDue, Exceeding, Stretch, WalkMade}
 use Rattle.settling.proofs.Buffer.{length-waitingIn}
 use Rattle.stepping.proofs.Keys.{alike, moved, reached-inside, item-fits}
@@ -87,11 +87,14 @@ module _ (x : Input) (good : GoodInput x) where
   module _ (rank : Ranking) (k v e : ℕ) where
     edges-counted : edgeCount (verticesOf rank x (walkOf x k)) ≡ sumSettled (edgesDue (targets x)) (initialPair x) (walkOf x k)
     unfolding verticesOf
-    edges-counted = count-edges samePair (targets x) (initialPair x) (owner x) (priority rank x) (walkOf x k)
+    edges-counted =
+        count-edges samePair (targets x) (initialPair x) (owner x) (priority rank x) (transitionsBehind x) (walkOf x k)
 
     vertices-counted : length (verticesOf rank x (walkOf x k)) ≡ length (walkOf x k .known)
     unfolding verticesOf
-    vertices-counted = length-vertices samePair (targets x) (initialPair x) (owner x) (priority rank x) (walkOf x k)
+    vertices-counted =
+        length-vertices samePair (targets x) (initialPair x) (owner x) (priority rank x) (transitionsBehind x)
+        (walkOf x k)
 
     -- a walk that is full is refused for want of room
     pub full-exceeds : Exceeding (keyTargets x) (rootKey x) v e (walk eqb (keyTargets x) (rootKey x) k) → exceeds (roomOf v e) (verticesOf rank x (walkOf x k)) ≡ true
@@ -104,7 +107,8 @@ module _ (x : Input) (good : GoodInput x) where
 
   -- ---- what stands in the words
 
-  module _ (k v e : ℕ) (w : List ℕ) (c : Counters) (m : WalkMade (keyTargets x) (rootKey x) v e k w c) where
+  module _ (k v e : ℕ) (w : List ℕ) (c : Counters)
+      (m : WalkMade (keyTargets x) (keyBehind x) (rootKey x) v e k w c) where
     pub known-pairs : keysOf w v (c .known) ≡ map pairKey (walkOf x k .known)
     known-pairs = ap (λ (st : Stand ℕ). st .known) (m .stands ∙ walk-keys k)
 
@@ -159,7 +163,7 @@ module _ (x : Input) (good : GoodInput x) where
       -- where it waits it is not settled
       pub waits-at : In u (walkOf x k .waiting) → settledIn w v u ≡ false
       waits-at i =
-          waits-unsettled (keyTargets x) (rootKey x) v e w c (m .good) u (omega (arith, known-count))
+          waits-unsettled (keyTargets x) (keyBehind x) (rootKey x) v e w c (m .good) u (omega (arith, known-count))
           (subst (In u) (sym waiting-pairs) i)
 
       -- where it does not wait, its edges stand in the buffer
@@ -167,11 +171,14 @@ module _ (x : Input) (good : GoodInput x) where
         settled-key : Settled (standOf w v c) u
         settled-key = (omega (arith, length-keys w v (c .known), known-count), λ i. out (subst (In u) waiting-pairs i))
 
-        stretch : Stretch (keyTargets x) (rootKey x) w v c u
+        stretch : Stretch (keyTargets x) (keyBehind x) (rootKey x) w v e c u
         stretch = m .good .stretches u settled-key
 
-        pub stretch-inside : startIn w v u + countIn w v u ≤ c .edges
+        pub stretch-inside : startIn w v u + degreeIn w v u ≤ c .edges
         stretch-inside = stretch .inside
 
-        pub degree-at : countIn w v u ≡ edgesDue (targets x) pairAt
-        degree-at = count-settled (keyTargets x) (rootKey x) v e w c (m .good) u settled-key ∙ ap (edgesDue (keyTargets x)) key-at ∙ weights k u h
+        pub degree-at : degreeIn w v u ≡ edgesDue (targets x) pairAt
+        degree-at =
+            count-settled (keyTargets x) (keyBehind x) (rootKey x) v e w c (m .good) u settled-key
+            ∙ ap (edgesDue (keyTargets x)) key-at
+            ∙ weights k u h

@@ -1,4 +1,4 @@
--- The beginning of a walk: the marks and the counts are cleared, and the root is met. Assumes nothing.
+-- The beginning of a walk: the marks and the degrees are cleared, and the root is met. Assumes nothing.
 use mathlib.Core.Path.{_≡_, refl, sym, _∙_, ap, ap₂, subst, subst₂}
 use mathlib.Core.List.{List, [], _∷_}
 use mathlib.Core.Logic.{inl}
@@ -72,7 +72,7 @@ noCounts = record { known = 0; settled = 0; edges = 0; waiting = 0 }
 abbrev pub firstCounts : ℕ → ℕ → Counters
 firstCounts n m = record { known = n; settled = 0; edges = 0; waiting = m }
 
--- the words are started, their marks cleared, and then their counts
+-- the words are started, their marks cleared, and then their degrees
 module _ (w w₁ wₘ w₂ : List ℕ) (v e : ℕ) (z : Sized w v e) (s : Started w w₁ v)
     (k : Cleared w₁ wₘ v 7) (k₆ : Cleared wₘ w₂ v 6) (long : length w₂ ≡ length w) where
   pub empty-ready : Ready w₂ v e noCounts
@@ -95,7 +95,8 @@ module _ (w w₁ wₘ w₂ : List ℕ) (v e : ℕ) (z : Sized w v e) (s : Starte
     unfolding walk
     start-full l = absurd (omega (arith, z .some, ap length first-keys))
 
-    module _ (w₃ : List ℕ) (u n m : ℕ) (p : Meeting w₂ w₃ v 0 0 root u n m) (same : length w₃ ≡ length w₂) where
+    module _ (behind : ℕ → ℕ → ℕ) (w₃ : List ℕ) (u n m : ℕ) (p : Meeting w₂ w₃ v 0 0 root u n m)
+        (same : length w₃ ≡ length w₂) where
       keys₃ : keysOf w₃ v n ≡ root ∷ []
       keys₃ = p .keys ∙ first-keys
 
@@ -112,7 +113,7 @@ module _ (w w₁ wₘ w₂ : List ℕ) (v e : ℕ) (z : Sized w v e) (s : Starte
       stands₃ : standOf w₃ v (firstCounts n m) ≡ standWith (root ∷ []) (0 ∷ [])
       stands₃ = ap₂ (λ (a b : List ℕ). standWith a b) keys₃ waits₃
 
-      pub start-made : WalkMade targets root v e 0 w₃ (firstCounts n m)
+      pub start-made : WalkMade targets behind root v e 0 w₃ (firstCounts n m)
       start-made =
           record {
             stands = stands₃ ∙ sym (walk-start eqb targets root);

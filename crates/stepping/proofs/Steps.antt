@@ -2,13 +2,13 @@
 -- says, and all is well again. Assumes nothing.
 use mathlib.Core.Path.{_≡_, refl, sym, _∙_, ap, ap₂, subst, subst₂}
 use mathlib.Core.Bool.{false}
-use mathlib.Core.List.{List, [], _∷_, _++_, append-nil}
+use mathlib.Core.List.{List, [], _∷_, _++_, map, append-nil}
 use mathlib.Core.Logic.{inl, inr, ⊎-elim}
 use Prim.Native.Nat.{ℕ, suc, _+_, _-_, _*_, _≤_, _<_, max}
 use native.Mathlib.Decide.{decLt, ℕ-discrete}
 use native.Mathlib.Omega.{arith}
 use lib.Dec.{eqb, lit<}
-use lib.ListN.{length, getD, set, take, drop, length-drop}
+use lib.ListN.{length, getD, set, take, drop, length-drop, length-map}
 use lib.Seq.{getD-set-same, getD-set-other, drop-at, take-all, drop-append-le, take-append-le}
 use Rattle.rules.specs.Lists.{word, In, insertAll}
 use Rattle.rules.specs.Walk.{Stand, pushNew, settle, stepFrom, step}
@@ -28,11 +28,13 @@ use Rattle.pairs.specs.Slot.{keyOf}
 use Rattle.pairs.specs.Table.{keyAt, stateAt, itemAt, keysOf}
 use Rattle.pairs.proofs.Uses.{key-pair, key-item-below, keys-kept, table-kept, length-keys, key-word}
 use Rattle.settling.specs.declared.Counters.{Counters}
-use Rattle.settling.specs.Stand.{waitingIn, waitingOf, edgesOf, standOf, edgesFor, settledIn, startIn, countIn}
+use Rattle.settling.specs.Stand.{waitingIn, waitingOf, edgesOf, countsOf, standOf, edgesFor, countsFor}
+use Rattle.settling.specs.Stand.{settledIn, startIn, degreeIn}
 use Rattle.settling.specs.Made.{Marks, Ready, Made, TooMany, Closing}
 use Rattle.settling.specs.Good.{edgesDue, Exceeding, Stretch, Good, StepMade}
 use Rattle.stepping.specs.Parts.{withoutTop}
-use Rattle.settling.proofs.Buffer.{waiting-top, none-waits, edges-put, length-edges, settled-in, settled-same}
+use Rattle.settling.proofs.Buffer.{waiting-top, none-waits, edges-put, counts-put, length-edges, length-counts}
+use Rattle.settling.proofs.Buffer.{settled-in, settled-same}
 
 -- ---- lists
 
@@ -46,9 +48,15 @@ unfolding edgesFor
 length-edgesFor u ks [] = omega arith
 length-edgesFor u ks (t ∷ ts) = omega (arith, positions-length number-equality ks (t ∷ ts))
 
-module _ (targets : ℕ → List ℕ) (root v e : ℕ) (w : List ℕ) (c : Counters) (g : Good targets root w v e c) where
+length-countsFor : (f : ℕ → ℕ) (ts : List ℕ) → length (countsFor f ts) ≡ max 1 (length ts)
+unfolding countsFor
+length-countsFor f [] = omega arith
+length-countsFor f (t ∷ ts) = omega (arith, length-map (t ∷ ts) f)
+
+module _ (targets : ℕ → List ℕ) (behind : ℕ → ℕ → ℕ) (root v e : ℕ) (w : List ℕ) (c : Counters)
+    (g : Good targets behind root w v e c) where
   -- with nothing waiting nothing changes
-  pub step-none : c .waiting ≡ 0 → StepMade targets root w v e c w c
+  pub step-none : c .waiting ≡ 0 → StepMade targets behind root w v e c w c
   step-none h =
       record {
         stands = sym (step-idle eqb targets root (standOf w v c) (none-waits (region 4 v w) (c .waiting) h));
@@ -123,10 +131,15 @@ module _ (targets : ℕ → List ℕ) (root v e : ℕ) (w : List ℕ) (c : Count
       starts₁ : region 5 v w₁ ≡ set (region 5 v w) u (c .edges)
       starts₁ = ap (region 5 v) g₁ ∙ region-same 5 v u (c .edges) w top-below
 
-      edges₁ : edgesOf w₁ v (c .edges) ≡ edgesOf w v (c .edges)
+      edges₁ : edgesOf w₁ v e (c .edges) ≡ edgesOf w v e (c .edges)
       edges₁ =
-          ap (λ (l : List ℕ). edgesOf l v (c .edges)) g₁
-          ∙ edges-put 5 v u (c .edges) (c .edges) w (lit< tt) top-below
+          ap (λ (l : List ℕ). edgesOf l v e (c .edges)) g₁
+          ∙ edges-put 5 v e u (c .edges) (c .edges) w (lit< tt) top-below (g .ready .buffer)
+
+      counts₁ : countsOf w₁ v e (c .edges) ≡ countsOf w v e (c .edges)
+      counts₁ =
+          ap (λ (l : List ℕ). countsOf l v e (c .edges)) g₁
+          ∙ counts-put 5 v e u (c .edges) (c .edges) w (lit< tt) top-below (g .ready .buffer)
 
       pub popped-ready : Ready w₁ v e (withoutTop c)
       popped-ready =
@@ -141,11 +154,8 @@ module _ (targets : ℕ → List ℕ) (root v e : ℕ) (w : List ℕ) (c : Count
             buffer = r .buffer;
           }
 
-      pub popped-left : c .settled < c .known
-      popped-left = omega (arith, g .balance)
-
-      pub popped-marks : Marks w₁ v (c .settled)
-      popped-marks i h = subst (λ (l : List ℕ). word l i ≤ c .settled) (sym (kept 7 (omega arith))) (g .marks i h)
+      pub popped-marks : Marks w₁ v (c .edges)
+      popped-marks i h = subst (λ (l : List ℕ). word l i ≤ c .edges) (sym (kept 7 (omega arith))) (g .marks i h)
 
       module _ (ts : List ℕ) (same : ts ≡ targets here) where
         -- too many in the middle of the step are too many after it
@@ -157,7 +167,9 @@ module _ (targets : ℕ → List ℕ) (root v e : ℕ) (w : List ℕ) (c : Count
             (λ l. inr (omega (arith, next-sum, ap length same)))
             f
 
-        module _ (w₂ : List ℕ) (c₂ : Counters) (a : Made w₁ v e (withoutTop c) w₂ c₂ ts) where
+        -- the counts come with the targets
+        module _ (cs : List ℕ) (counted : cs ≡ map (behind here) ts) (w₂ : List ℕ) (c₂ : Counters)
+            (a : Made w₁ v e (withoutTop c) w₂ c₂ ts cs) where
           pub close-left : c₂ .settled + c₂ .waiting < c₂ .known
           close-left = omega (arith, a .balance, a .same-settled, g .balance)
 
@@ -204,25 +216,41 @@ module _ (targets : ℕ → List ℕ) (root v e : ℕ) (w : List ℕ) (c : Count
             total₃ : c₃ .edges ≡ sumSettled (edgesDue targets) root (standOf w₃ v c₃)
             total₃ = omega (arith, edges₃, ap length same, next-sum, ap (sumSettled (edgesDue targets) root) stands₃)
 
-            marks₃ : Marks w₃ v (c₃ .settled)
+            marks₃ : Marks w₃ v (c₃ .edges)
             marks₃ i h =
-                let m = a .marks (λ j l. omega (arith, popped-marks j l)) i h in
-                let n = subst (λ (l : List ℕ). word l i ≤ suc (c .settled)) (sym (b .marks)) m in
-                omega (arith, n, b .one-settled, a .same-settled)
+                let m = a .marks popped-marks i h in
+                let n = subst (λ (l : List ℕ). word l i ≤ c₂ .edges) (sym (b .marks)) m in
+                omega (arith, n, edges₃, a .row-length)
 
-            row₃ : (us : List ℕ) → us ≡ ts → edgesOf w₃ v (c₃ .edges) ≡ edgesOf w v (c .edges) ++ edgesFor u (keysOf w₃ v (c₃ .known)) us
+            row₃ : (us : List ℕ) → us ≡ ts → edgesOf w₃ v e (c₃ .edges) ≡ edgesOf w v e (c .edges) ++ edgesFor u (keysOf w₃ v (c₃ .known)) us
             unfolding edgesFor positions
             row₃ [] y =
                 let none : c₂ .edges ≡ c .edges = omega (arith, a .row-length, ap length y) in
                 b .looped none .1
                 ∙ ap (λ (l : List ℕ). l ++ (u ∷ []))
-                (a .row ∙ ap₂ (λ (l k : List ℕ). l ++ positions eqb (keysOf w₂ v (c₂ .known)) k) edges₁ (sym y) ∙ append-nil (edgesOf w v (c .edges)))
+                (a .row ∙ ap₂ (λ (l k : List ℕ). l ++ positions eqb (keysOf w₂ v (c₂ .known)) k) edges₁ (sym y) ∙ append-nil (edgesOf w v e (c .edges)))
             row₃ (t ∷ us) y =
                 let one : c₂ .edges ≡ c .edges → ⊥ = λ z. omega (arith, a .row-length, ap length y) in
                 b .others one .1
                 ∙ a .row
                 ∙ ap₂ (λ (l k : List ℕ). l ++ positions eqb k ts) edges₁ (sym keys₃₂)
-                ∙ ap (λ (k : List ℕ). edgesOf w v (c .edges) ++ positions eqb (keysOf w₃ v (c₃ .known)) k) (sym y)
+                ∙ ap (λ (k : List ℕ). edgesOf w v e (c .edges) ++ positions eqb (keysOf w₃ v (c₃ .known)) k) (sym y)
+
+            counts₃ : (us : List ℕ) → us ≡ ts
+                → countsOf w₃ v e (c₃ .edges) ≡ countsOf w v e (c .edges) ++ countsFor (behind here) us
+            unfolding countsFor
+            counts₃ [] y =
+                let none : c₂ .edges ≡ c .edges = omega (arith, a .row-length, ap length y) in
+                b .looped none .2
+                ∙ ap (λ (l : List ℕ). l ++ (0 ∷ []))
+                (a .counts
+                ∙ ap₂ (λ (l k : List ℕ). l ++ k) counts₁ (counted ∙ ap (map (behind here)) (sym y))
+                ∙ append-nil (countsOf w v e (c .edges)))
+            counts₃ (t ∷ us) y =
+                let one : c₂ .edges ≡ c .edges → ⊥ = λ z. omega (arith, a .row-length, ap length y) in
+                b .others one .2
+                ∙ a .counts
+                ∙ ap₂ (λ (l k : List ℕ). l ++ k) counts₁ (counted ∙ ap (map (behind here)) (sym y))
 
             on : Begins keys (keysOf w₃ v (c₃ .known))
             on = subst (Begins keys) (sym keys₃) (inserts-begins number-equality keys (targets here))
@@ -230,36 +258,48 @@ module _ (targets : ℕ → List ℕ) (root v e : ℕ) (w : List ℕ) (c : Count
             key-kept : (y : ℕ) → y < c .known → getD (keysOf w₃ v (c₃ .known)) y root ≡ getD keys y root
             key-kept y h = begins-at keys (keysOf w₃ v (c₃ .known)) root on y (omega (arith, count))
 
-            before : length (edgesOf w v (c .edges)) ≡ c .edges
-            before = length-edges w v (c .edges) (omega (arith, g .ready .whole, g .ready .buffer))
+            before : length (edgesOf w v e (c .edges)) ≡ c .edges
+            before = length-edges w v e (c .edges)
+
+            counts-before : length (countsOf w v e (c .edges)) ≡ c .edges
+            counts-before = length-counts w v e (c .edges)
 
             starts₃ : region 5 v w₃ ≡ set (region 5 v w) u (c .edges)
             starts₃ = b .starts ∙ a .starts ∙ starts₁
 
-            counts₃ : region 6 v w₃ ≡ set (region 6 v w) u (suc (c₃ .edges - c .edges))
-            counts₃ = b .counts ∙ ap (λ (l : List ℕ). set l u (suc (c₃ .edges - c .edges))) (a .counts ∙ kept 6 (omega arith))
+            degrees₃ : region 6 v w₃ ≡ set (region 6 v w) u (suc (c₃ .edges - c .edges))
+            degrees₃ = b .degrees ∙ ap (λ (l : List ℕ). set l u (suc (c₃ .edges - c .edges))) (a .degrees ∙ kept 6 (omega arith))
 
             wide : (r : ℕ) → r < 8 → r * v + v ≤ 8 * v → length (region r v w) ≡ v
             wide r h l = length-region r v w (omega (arith, g .ready .whole))
 
             -- the vertex that was settled
-            stretch-new : Stretch targets root w₃ v c₃ u
+            stretch-new : Stretch targets behind root w₃ v e c₃ u
             stretch-new =
                 let within : u < length (region 5 v w) = omega (arith, wide 5 (lit< tt) (omega arith), top-below) in
                 let s : startIn w₃ v u ≡ c .edges =
                 ap (λ (l : List ℕ). word l u) starts₃ ∙ getD-set-same (region 5 v w) u (c .edges) 0 within in
                 let b : word (region 6 v w₃) u ≡ suc (c₃ .edges - c .edges) =
-                ap (λ (l : List ℕ). word l u) counts₃ ∙ getD-set-same (region 6 v w) u (suc (c₃ .edges - c .edges)) 0 (omega (arith, wide 6 (lit< tt) (omega arith), top-below)) in
-                let n : countIn w₃ v u ≡ c₃ .edges - c .edges = omega (arith, b) in
+                ap (λ (l : List ℕ). word l u) degrees₃ ∙ getD-set-same (region 6 v w) u (suc (c₃ .edges - c .edges)) 0 (omega (arith, wide 6 (lit< tt) (omega arith), top-below)) in
+                let n : degreeIn w₃ v u ≡ c₃ .edges - c .edges = omega (arith, b) in
                 record {
                   settled = settled-in w₃ v u (omega (arith, b));
                   inside = omega (arith, s, n, edges₃);
                   row =
-                      ap₂ (λ (k l : ℕ). take k (drop l (edgesOf w₃ v (c₃ .edges)))) n s
+                      ap₂ (λ (k l : ℕ). take k (drop l (edgesOf w₃ v e (c₃ .edges)))) n s
                       ∙ ap (λ (l : List ℕ). take (c₃ .edges - c .edges) (drop (c .edges) l)) (row₃ ts refl)
-                      ∙ ap (take (c₃ .edges - c .edges)) (drop-at (edgesOf w v (c .edges)) (edgesFor u (keysOf w₃ v (c₃ .known)) ts) (c .edges) before)
+                      ∙ ap (take (c₃ .edges - c .edges)) (drop-at (edgesOf w v e (c .edges)) (edgesFor u (keysOf w₃ v (c₃ .known)) ts) (c .edges) before)
                       ∙ take-all (c₃ .edges - c .edges) (edgesFor u (keysOf w₃ v (c₃ .known)) ts) (omega (arith, length-edgesFor u (keysOf w₃ v (c₃ .known)) ts, edges₃))
                       ∙ ap (edgesFor u (keysOf w₃ v (c₃ .known))) (same ∙ ap targets (sym (key-kept u top-known)));
+                  counts =
+                      let new = countsFor (behind here) ts in
+                      ap₂ (λ (k l : ℕ). take k (drop l (countsOf w₃ v e (c₃ .edges)))) n s
+                      ∙ ap (λ (l : List ℕ). take (c₃ .edges - c .edges) (drop (c .edges) l)) (counts₃ ts refl)
+                      ∙ ap (take (c₃ .edges - c .edges))
+                      (drop-at (countsOf w v e (c .edges)) new (c .edges) counts-before)
+                      ∙ take-all (c₃ .edges - c .edges) new (omega (arith, length-countsFor (behind here) ts, edges₃))
+                      ∙ ap (countsFor (behind here)) same
+                      ∙ ap (λ (k : ℕ). countsFor (behind k) (targets k)) (sym (key-kept u top-known));
                 }
 
             start-other : (y : ℕ) → (y ≡ u → ⊥) → word (region 5 v w₃) y ≡ word (region 5 v w) y
@@ -268,37 +308,48 @@ module _ (targets : ℕ → List ℕ) (root v e : ℕ) (w : List ℕ) (c : Count
 
             count-other : (y : ℕ) → (y ≡ u → ⊥) → word (region 6 v w₃) y ≡ word (region 6 v w) y
             count-other y d =
-                ap (λ (l : List ℕ). word l y) counts₃
+                ap (λ (l : List ℕ). word l y) degrees₃
                 ∙ getD-set-other (region 6 v w) u y (suc (c₃ .edges - c .edges)) 0 d
 
             -- one that was settled before
-            stretch-old : (y : ℕ) → y < c .known → (y ≡ u → ⊥) → (¬ In y (waitingOf w v (c .waiting))) → Stretch targets root w v c y → Stretch targets root w₃ v c₃ y
+            stretch-old : (y : ℕ) → y < c .known → (y ≡ u → ⊥) → (¬ In y (waitingOf w v (c .waiting)))
+                → Stretch targets behind root w v e c y → Stretch targets behind root w₃ v e c₃ y
             stretch-old y h d out p =
                 let s : startIn w₃ v y ≡ startIn w v y = start-other y d in
-                let n : countIn w₃ v y ≡ countIn w v y = ap (λ (k : ℕ). k - 1) (count-other y d) in
+                let n : degreeIn w₃ v y ≡ degreeIn w v y = ap (λ (k : ℕ). k - 1) (count-other y d) in
                 let st = startIn w v y in
-                let ct = countIn w v y in
+                let ct = degreeIn w v y in
                 record {
                   settled = settled-same w w₃ v y (count-other y d) ∙ p .settled;
                   inside = omega (arith, s, n, p .inside, edges₃);
                   row =
-                      ap₂ (λ (k l : ℕ). take k (drop l (edgesOf w₃ v (c₃ .edges)))) n s
+                      ap₂ (λ (k l : ℕ). take k (drop l (edgesOf w₃ v e (c₃ .edges)))) n s
                       ∙ ap (λ (l : List ℕ). take ct (drop st l)) (row₃ ts refl)
-                      ∙ ap (take ct) (drop-append-le st (edgesOf w v (c .edges)) (edgesFor u (keysOf w₃ v (c₃ .known)) ts) (omega (arith, before, p .inside)))
-                      ∙ take-append-le ct (drop st (edgesOf w v (c .edges))) (edgesFor u (keysOf w₃ v (c₃ .known)) ts) (omega (arith, before, p .inside, length-drop st (edgesOf w v (c .edges))))
+                      ∙ ap (take ct) (drop-append-le st (edgesOf w v e (c .edges)) (edgesFor u (keysOf w₃ v (c₃ .known)) ts) (omega (arith, before, p .inside)))
+                      ∙ take-append-le ct (drop st (edgesOf w v e (c .edges))) (edgesFor u (keysOf w₃ v (c₃ .known)) ts) (omega (arith, before, p .inside, length-drop st (edgesOf w v e (c .edges))))
                       ∙ p .row
                       ∙ sym (edges-begins y (targets (getD keys y root)) keys (keysOf w₃ v (c₃ .known)) (g .sound .edges y (omega (arith, count)) out) on)
                       ∙ ap (λ (k : ℕ). edgesFor y (keysOf w₃ v (c₃ .known)) (targets k)) (sym (key-kept y h));
+                  counts =
+                      let old = countsOf w v e (c .edges) in
+                      let new = countsFor (behind here) ts in
+                      ap₂ (λ (k l : ℕ). take k (drop l (countsOf w₃ v e (c₃ .edges)))) n s
+                      ∙ ap (λ (l : List ℕ). take ct (drop st l)) (counts₃ ts refl)
+                      ∙ ap (take ct) (drop-append-le st old new (omega (arith, counts-before, p .inside)))
+                      ∙ take-append-le ct (drop st old) new
+                      (omega (arith, counts-before, p .inside, length-drop st old))
+                      ∙ p .counts
+                      ∙ ap (λ (k : ℕ). countsFor (behind k) (targets k)) (sym (key-kept y h));
                 }
 
-            stretches₃ : (y : ℕ) → Settled (standOf w₃ v c₃) y → Stretch targets root w₃ v c₃ y
+            stretches₃ : (y : ℕ) → Settled (standOf w₃ v c₃) y → Stretch targets behind root w₃ v e c₃ y
             stretches₃ y (h, out) = go (ℕ-discrete y u) (decLt y (c .known))
               where
                 pushed : In y (pushNew (length keys) (length more - length keys) left) → ⊥
                 pushed m = out (subst (In y) (sym waits₃) m)
 
-                go : Dec (y ≡ u) → Dec (y < c .known) → Stretch targets root w₃ v c₃ y
-                go (yes q) l = subst (Stretch targets root w₃ v c₃) (sym q) stretch-new
+                go : Dec (y ≡ u) → Dec (y < c .known) → Stretch targets behind root w₃ v e c₃ y
+                go (yes q) l = subst (Stretch targets behind root w₃ v e c₃) (sym q) stretch-new
                 go (no q) (no l) =
                     absurd (pushed (push-holds (length keys) (length more - length keys) left y
                     (omega (arith, count)) (omega (arith, count, count₃, h, length-keys w₃ v (c₃ .known)))))
@@ -327,7 +378,7 @@ module _ (targets : ℕ → List ℕ) (root v e : ℕ) (w : List ℕ) (c : Count
                 let d : y ≡ u → ⊥ = λ q. out (subst (Settled (standOf w₃ v c₃)) (sym q) settled-top) in
                 settled-same w w₃ v y (count-other y d) ∙ g .unsettled y h (λ s. out (settled-kept y s))
 
-            pub step-made : StepMade targets root w v e c w₃ c₃
+            pub step-made : StepMade targets behind root w v e c w₃ c₃
             step-made =
                 record {
                   stands = stands₃;

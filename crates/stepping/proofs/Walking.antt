@@ -32,26 +32,30 @@ exceeding-later targets root v e i k h f =
     f
 
 -- what a step answers is what its try does
-pub tried-answer : (targets : ℕ → List ℕ) (root v e : ℕ) (w w′ : List ℕ) (c : Counters) (r : Stepped) (t : Tried) → t ≡ triedOf c r
-    → 0 < c .waiting → StepAnswer targets root w v e c w′ r → TriedAnswer targets root w v e c w′ (t .counters) (t .more)
-tried-answer targets root v e w w′ c (Fits next) t is some a = rw is a
-tried-answer targets root v e w w′ c Full t is some a = rw is (inr (some, a))
+pub tried-answer : (targets : ℕ → List ℕ) (behind : ℕ → ℕ → ℕ) (root v e : ℕ) (w w′ : List ℕ) (c : Counters)
+    (r : Stepped) (t : Tried) → t ≡ triedOf c r → 0 < c .waiting → StepAnswer targets behind root w v e c w′ r
+    → TriedAnswer targets behind root w v e c w′ (t .counters) (t .more)
+tried-answer targets behind root v e w w′ c (Fits next) t is some a = rw is a
+tried-answer targets behind root v e w w′ c Full t is some a = rw is (inr (some, a))
 
 -- i steps are done
-pub record Walking (targets : ℕ → List ℕ) (root v e k : ℕ) (w₀ w : List ℕ) (c : Counters) (i : ℕ) : Type 0 where
+pub record Walking (targets : ℕ → List ℕ) (behind : ℕ → ℕ → ℕ) (root v e k : ℕ) (w₀ w : List ℕ) (c : Counters) (i : ℕ)
+    : Type 0 where
   pub until : i ≤ k
   pub same : length w ≡ length w₀
-  pub made : WalkMade targets root v e i w c
+  pub made : WalkMade targets behind root v e i w c
 
-module _ (targets : ℕ → List ℕ) (root v e k : ℕ) (w₀ : List ℕ) where
-  pub walking-start : (c : Counters) → WalkMade targets root v e 0 w₀ c → Walking targets root v e k w₀ w₀ c 0
+module _ (targets : ℕ → List ℕ) (behind : ℕ → ℕ → ℕ) (root v e k : ℕ) (w₀ : List ℕ) where
+  pub walking-start : (c : Counters) → WalkMade targets behind root v e 0 w₀ c
+      → Walking targets behind root v e k w₀ w₀ c 0
   walking-start c m = record { until = omega arith; same = refl; made = m }
 
-  module _ (w : List ℕ) (c : Counters) (i : ℕ) (s : Walking targets root v e k w₀ w c i) where
+  module _ (w : List ℕ) (c : Counters) (i : ℕ) (s : Walking targets behind root v e k w₀ w c i) where
     one-more : step eqb targets root (standOf w v c) ≡ walk eqb targets root (i + 1)
     one-more = ap (step eqb targets root) (s .made .stands) ∙ sym (walk-step eqb targets root i) ∙ ap (walk eqb targets root) (sym (add-one i))
 
-    pub walking-on : (w′ : List ℕ) (c′ : Counters) → i < k → length w′ ≡ length w → StepMade targets root w v e c w′ c′ → Walking targets root v e k w₀ w′ c′ (i + 1)
+    pub walking-on : (w′ : List ℕ) (c′ : Counters) → i < k → length w′ ≡ length w
+        → StepMade targets behind root w v e c w′ c′ → Walking targets behind root v e k w₀ w′ c′ (i + 1)
     walking-on w′ c′ h l m =
         record {
           until = omega arith;
@@ -63,7 +67,7 @@ module _ (targets : ℕ → List ℕ) (root v e k : ℕ) (w₀ : List ℕ) where
     walking-many h f = exceeding-later targets root v e (i + 1) k (omega arith) (subst (Exceeding targets root v e) one-more f)
 
     -- where none waits later steps change nothing
-    pub walking-idle : c .waiting ≡ 0 → WalkMade targets root v e k w c
+    pub walking-idle : c .waiting ≡ 0 → WalkMade targets behind root v e k w c
     walking-idle h =
         let z : i + (k - i) ≡ k = omega (arith, s .until) in
         let n : walk eqb targets root i .waiting ≡ [] = ap (λ (st : Stand ℕ). st .waiting) (sym (s .made .stands)) ∙ none-waits (region 4 v w) (c .waiting) h in
@@ -72,21 +76,24 @@ module _ (targets : ℕ → List ℕ) (root v e k : ℕ) (w₀ : List ℕ) where
           good = s .made .good;
         }
 
-    pub walking-end : k ≤ i → WalkMade targets root v e k w c
+    pub walking-end : k ≤ i → WalkMade targets behind root v e k w c
     walking-end h =
         let z : i ≡ k = omega (arith, s .until) in
         record { stands = s .made .stands ∙ ap (walk eqb targets root) z; good = s .made .good }
 
-    pub walked-all : k ≤ i → RanAnswer targets root v e k w c i
+    pub walked-all : k ≤ i → RanAnswer targets behind root v e k w c i
     walked-all h = record { made = λ _. walking-end h; many = λ f _. absurd (omega (arith, f, h)) }
 
   -- one more try from where i steps are done
-  module _ (w : List ℕ) (c : Counters) (i : ℕ) (s : Walking targets root v e k w₀ w c i) (h : i < k) (w′ : List ℕ) (c′ : Counters) (l : length w′ ≡ length w) where
-    pub tried-on : (r : Bool) → T (not (not r)) → TriedAnswer targets root w v e c w′ c′ r → Walking targets root v e k w₀ w′ c′ (i + 1)
+  module _ (w : List ℕ) (c : Counters) (i : ℕ) (s : Walking targets behind root v e k w₀ w c i) (h : i < k)
+      (w′ : List ℕ) (c′ : Counters) (l : length w′ ≡ length w) where
+    pub tried-on : (r : Bool) → T (not (not r)) → TriedAnswer targets behind root w v e c w′ c′ r
+        → Walking targets behind root v e k w₀ w′ c′ (i + 1)
     tried-on true _ m = walking-on w c i s w′ c′ h l m
     tried-on false f m = absurd f
 
-    pub tried-last : (r : Bool) → T (not r) → TriedAnswer targets root w v e c w′ c′ r → RanAnswer targets root v e k w′ c′ i
+    pub tried-last : (r : Bool) → T (not r) → TriedAnswer targets behind root w v e c w′ c′ r
+        → RanAnswer targets behind root v e k w′ c′ i
     tried-last true f m = absurd f
     tried-last false _ (inl m) =
         record {

@@ -9,7 +9,7 @@ use rules::Room;
 use settling::Counters;
 use settling::Met;
 use settling::Stepped;
-use words::COUNTS;
+use words::DEGREES;
 use words::MARKS;
 use words::STACK;
 use words::STARTS;
@@ -18,13 +18,14 @@ ghost use mathlib.Core.List.{map};
 ghost use Prim.Native.Nat.{_*_, _≤_, _<_};
 ghost use lib.ListN.{length};
 ghost use Rattle.rules.specs.Words.{mostVertices, Input, inputOf};
-ghost use Rattle.rules.specs.Pairs.{targets};
+ghost use Rattle.rules.specs.Lists.{zeros};
+ghost use Rattle.rules.specs.Pairs.{targets, transitionsBehind};
 ghost use Rattle.tables.specs.Good.{GoodInput};
 ghost use Rattle.arena.specs.Arena.{Inside};
 ghost use Rattle.compiled.specs.Stretches.{multiplesIn};
 ghost use Rattle.pairs.specs.Slot.{Multiples, keyOf};
 ghost use Rattle.pairs.specs.Table.{stateAt, itemAt};
-ghost use Rattle.settling.specs.Keys.{pairKey, keyTargets, rootKey};
+ghost use Rattle.settling.specs.Keys.{pairKey, keyTargets, keyBehind, rootKey};
 ghost use Rattle.settling.specs.Made.{Answer, Cleared, Ready, Sized};
 ghost use Rattle.modalities.specs.Matched.{Unmarked};
 ghost use Rattle.settling.specs.Good.{Good, StepAnswer, WalkMade, WalkAnswer};
@@ -90,7 +91,8 @@ fn settle_at_state(
     requires { ⌜ Ready (now work) (room .vertices) (room .edges) counters ⌝ }
     requires { ⌜ AllFit (pair .state) (operandsIn (now compiled) kind (pair .item)) ⌝ }
     ensures { λ r. ⌜ Answer (now (work .entry)) (room .vertices) (room .edges) counters
-        (map (keyOf (pair .state)) (operandsIn (now (compiled .entry)) kind (pair .item))) (now (work .exit)) r ⌝ }
+        (map (keyOf (pair .state)) (operandsIn (now (compiled .entry)) kind (pair .item)))
+        (zeros (operandsIn (now (compiled .entry)) kind (pair .item))) (now (work .exit)) r ⌝ }
 {
     if kind < 2 {
         return Stepped::Fits(counters);
@@ -140,7 +142,9 @@ fn settle(
     requires { λ x. ⌜ Tables x (now compiled) (now matched) × Inside x (popped .pair .state, popped .pair .item) ⌝ }
     requires { λ x. ⌜ Unmarked (now work) room (popped .counters) ⌝ }
     ensures { λ x r. ⌜ Answer (now (work .entry)) (room .vertices) (room .edges) (popped .counters)
-        (map pairKey (targets x (popped .pair .state, popped .pair .item))) (now (work .exit)) r ⌝ }
+        (map pairKey (targets x (popped .pair .state, popped .pair .item)))
+        (map (transitionsBehind x (popped .pair .state, popped .pair .item))
+        (targets x (popped .pair .state, popped .pair .item))) (now (work .exit)) r ⌝ }
 {
     let counters = popped.counters;
     let pair = popped.pair;
@@ -177,9 +181,10 @@ pub fn step(
     ghost { Input }
     requires { λ x. ⌜ inputOf (now labels) (now system) (now actions) (now formula) ≡ x ⌝ }
     requires { λ x. ⌜ Tables x (now compiled) (now matched) ⌝ }
-    requires { λ x. ⌜ Good (keyTargets x) (rootKey x) (now work) (room .vertices) (room .edges) counters ⌝ }
-    ensures { λ x r. ⌜ StepAnswer (keyTargets x) (rootKey x) (now (work .entry)) (room .vertices) (room .edges)
-        counters (now (work .exit)) r ⌝ }
+    requires { λ x. ⌜ Good (keyTargets x) (keyBehind x) (rootKey x) (now work) (room .vertices) (room .edges)
+        counters ⌝ }
+    ensures { λ x r. ⌜ StepAnswer (keyTargets x) (keyBehind x) (rootKey x) (now (work .entry)) (room .vertices)
+        (room .edges) counters (now (work .exit)) r ⌝ }
 {
     if counters.waiting == 0 {
         return Stepped::Fits(counters);
@@ -239,9 +244,9 @@ fn try_step(
     ghost { Input }
     requires { λ x. ⌜ inputOf (now labels) (now system) (now actions) (now formula) ≡ x ⌝ }
     requires { λ x. ⌜ Tables x (now compiled) (now matched)
-        × Good (keyTargets x) (rootKey x) (now work) (room .vertices) (room .edges) counters ⌝ }
-    ensures { λ x r. ⌜ TriedAnswer (keyTargets x) (rootKey x) (now (work .entry)) (room .vertices) (room .edges)
-        counters (now (work .exit)) (r .counters) (r .more) ⌝ }
+        × Good (keyTargets x) (keyBehind x) (rootKey x) (now work) (room .vertices) (room .edges) counters ⌝ }
+    ensures { λ x r. ⌜ TriedAnswer (keyTargets x) (keyBehind x) (rootKey x) (now (work .entry)) (room .vertices)
+        (room .edges) counters (now (work .exit)) (r .counters) (r .more) ⌝ }
 {
     if counters.waiting == 0 {
         return Tried {
@@ -278,9 +283,9 @@ pub fn step_in_place(
     ghost { Input }
     requires { λ x. ⌜ inputOf (now labels) (now system) (now actions) (now formula) ≡ x ⌝ }
     requires { λ x. ⌜ Tables x (now compiled) (now matched)
-        × Good (keyTargets x) (rootKey x) (now work) (room .vertices) (room .edges) (now counters) ⌝ }
-    ensures { λ x r. ⌜ TriedAnswer (keyTargets x) (rootKey x) (now (work .entry)) (room .vertices) (room .edges)
-        (now (counters .entry)) (now (work .exit)) (now (counters .exit)) r ⌝ }
+        × Good (keyTargets x) (keyBehind x) (rootKey x) (now work) (room .vertices) (room .edges) (now counters) ⌝ }
+    ensures { λ x r. ⌜ TriedAnswer (keyTargets x) (keyBehind x) (rootKey x) (now (work .entry)) (room .vertices)
+        (room .edges) (now (counters .entry)) (now (work .exit)) (now (counters .exit)) r ⌝ }
 {
     let tried = try_step(
         *counters,
@@ -324,8 +329,9 @@ fn run_steps(
     ghost { Input }
     requires { λ x. ⌜ inputOf (now labels) (now system) (now actions) (now formula) ≡ x ⌝ }
     requires { λ x. ⌜ Tables x (now compiled) (now matched)
-        × WalkMade (keyTargets x) (rootKey x) (bounds .room .vertices) (bounds .room .edges) 0 (now work) begun ⌝ }
-    ensures { λ x r. ⌜ RanAnswer (keyTargets x) (rootKey x) (bounds .room .vertices) (bounds .room .edges)
+        × WalkMade (keyTargets x) (keyBehind x) (rootKey x) (bounds .room .vertices) (bounds .room .edges) 0 (now work)
+        begun ⌝ }
+    ensures { λ x r. ⌜ RanAnswer (keyTargets x) (keyBehind x) (rootKey x) (bounds .room .vertices) (bounds .room .edges)
         (bounds .limit) (now (work .exit)) (r .counters) (r .steps) ⌝ }
 {
     let room = bounds.room;
@@ -365,10 +371,10 @@ pub fn walk(
     ghost { Input }
     requires { λ x. ⌜ inputOf (now labels) (now system) (now actions) (now formula) ≡ x ⌝ }
     requires { λ x. ⌜ Tables x (now compiled) (now matched) ⌝ }
-    requires { λ x. ⌜ WalkMade (keyTargets x) (rootKey x) (bounds .room .vertices) (bounds .room .edges) 0 (now work)
-        counters ⌝ }
-    ensures { λ x r. ⌜ WalkAnswer (keyTargets x) (rootKey x) (bounds .room .vertices) (bounds .room .edges)
-        (bounds .limit) (now (work .exit)) r ⌝ }
+    requires { λ x. ⌜ WalkMade (keyTargets x) (keyBehind x) (rootKey x) (bounds .room .vertices) (bounds .room .edges)
+        0 (now work) counters ⌝ }
+    ensures { λ x r. ⌜ WalkAnswer (keyTargets x) (keyBehind x) (rootKey x) (bounds .room .vertices)
+        (bounds .room .edges) (bounds .limit) (now (work .exit)) r ⌝ }
 {
     let ran = run_steps(
         work,
@@ -416,12 +422,13 @@ pub fn begin(
     requires { λ x. ⌜ inputOf (now labels) (now system) (now actions) (now formula) ≡ x ⌝ }
     requires { λ x. ⌜ Multiples (multiplesIn (now compiled)) × GoodInput x ⌝ }
     requires { λ x. ⌜ Sized (now work) (room .vertices) (room .edges) ⌝ }
-    ensures { λ x r. ⌜ WalkAnswer (keyTargets x) (rootKey x) (room .vertices) (room .edges) 0 (now (work .exit)) r ⌝ }
+    ensures { λ x r. ⌜ WalkAnswer (keyTargets x) (keyBehind x) (rootKey x) (room .vertices) (room .edges) 0
+        (now (work .exit)) r ⌝ }
 {
     let vertices = room.vertices;
     pairs::start(work, vertices);
     clear_region(work, vertices, MARKS);
-    clear_region(work, vertices, COUNTS);
+    clear_region(work, vertices, DEGREES);
     let initial = system[2];
     let none = Counters {
         known: 0,

@@ -2,7 +2,7 @@
 -- and room. Assumes nothing.
 use mathlib.Core.Path.{_≡_, refl, sym, ap, _∙_, subst}
 use mathlib.Core.Bool.{Bool, true, false, cond}
-use mathlib.Core.List.{List, [], _∷_, _++_, map, append-nil}
+use mathlib.Core.List.{List, [], _∷_, _++_, map, append-nil, map-map}
 use mathlib.Core.Logic.{_⊎_, inl, inr, ⊎-elim, _↔_}
 use Prim.Native.Nat.{ℕ, suc, _+_, _-_, _≤_, _<_, min}
 use native.Mathlib.Omega.{arith}
@@ -12,13 +12,13 @@ use lib.Dec.{ltb}
 use borrow.Author.Tests.{lt-ltb, le-ltb, ltb-false}
 use Rattle.rules.specs.declared.Answer.{Answer}
 use Rattle.rules.specs.declared.Answer.the-variants.{Done, Cut}
-use Rattle.rules.specs.Lists.{In, position}
+use Rattle.rules.specs.Lists.{In, zeros, position}
 use Rattle.rules.specs.Words.{Input}
 use Rattle.rules.specs.Depth.{Ranking}
-use Rattle.rules.specs.Pairs.{Pair, samePair, initialPair, owner, priority, targets}
+use Rattle.rules.specs.Pairs.{Pair, samePair, initialPair, owner, priority, targets, transitionsBehind}
 use Rattle.rules.specs.Walk.{Stand}
 use Rattle.rules.specs.Reach.{Reachable, pairCount, reachablePairs, N}
-use Rattle.rules.specs.Game.{Edge, Vertex, Ruled, edgeTo, waitingVertex, totalisedBy, totalised, settledVertex}
+use Rattle.rules.specs.Game.{Edge, Vertex, Ruled, waitingVertex, totalisedBy, totalised, settledVertex, ruledEdge}
 use Rattle.rules.specs.Game.{ruledVertex, edgeCount, gameOf, padded, vertexCount, edgesIn, initialIn, ownerIn}
 use Rattle.rules.specs.Game.{priorityIn, targetsIn}
 use Rattle.rules.specs.Run.{walkOf, verticesOf, builtAnswer, builtOutcome}
@@ -42,10 +42,10 @@ pub record Ordered (x : Input) (k : ℕ) (st : Stand Pair) : Type 0 where
 
 -- ---- edges lead to the vertices that stand for the targets
 
-lead-all : (x : Input) (ps ts : List Pair) → ((q : Pair) → In q ts → (position samePair q ps < length ps) × (getD ps (position samePair q ps) (initialPair x) ≡ q))
-    → Lead x ps (map (λ e. e .target) (map (λ q. edgeTo (position samePair q ps)) ts)) ts
-lead-all x ps [] f = tt
-lead-all x ps (t ∷ ts) f = (f t (inl refl), lead-all x ps ts (λ q m. f q (inr m)))
+lead-all : (x : Input) (ps : List Pair) (edge : Pair → Edge) (ts : List Pair)
+    → ((q : Pair) → In q ts → Stands x ps (edge q .target) q) → Lead x ps (map (λ e. e .target) (map edge ts)) ts
+lead-all x ps edge [] f = tt
+lead-all x ps edge (t ∷ ts) f = (f t (inl refl), lead-all x ps edge ts (λ q m. f q (inr m)))
 
 -- the rules' edges of a settled vertex, and those added
 added-edges : ℕ → List ℕ → List ℕ
@@ -63,6 +63,20 @@ edges-split v r = go (r .edges) refl
     go : (es : List Edge) → r .edges ≡ es → ledTo (totalisedBy es v r .edges) ≡ ledTo es ++ added-edges v (ledTo es)
     go [] e = refl
     go (x ∷ es) e = ap ledTo e ∙ sym (append-nil (ledTo (x ∷ es)))
+
+-- their counts: an added edge has 0
+abbrev counted : List Edge → List ℕ
+counted es = map (λ e. e .count) es
+
+counts-split : (v : ℕ) (r : Ruled)
+    → counted (settledVertex (totalised v r) .edges) ≡ counted (r .edges) ++ zeros (added-edges v (ledTo (r .edges)))
+unfolding settledVertex totalised totalisedBy added-edges zeros
+counts-split v r = go (r .edges) refl
+  where
+    go : (es : List Edge) → r .edges ≡ es
+        → counted (totalisedBy es v r .edges) ≡ counted es ++ zeros (added-edges v (ledTo es))
+    go [] e = refl
+    go (x ∷ es) e = ap counted e ∙ sym (append-nil (counted (x ∷ es)))
 
 total-row : (v : ℕ) (r : Ruled)
     → Totalised v (r .owner) (r .priority) (ledTo (r .edges)) (settledVertex (totalised v r) .priority)
@@ -121,24 +135,37 @@ module _ (rank : Ranking) (x : Input) (k : ℕ) (facts : WalkFacts samePair (tar
 
   long : length vs ≡ length (st .known)
   unfolding verticesOf
-  long = length-vertices samePair (targets x) (initialPair x) (owner x) (priority rank x) st
+  long = length-vertices samePair (targets x) (initialPair x) (owner x) (priority rank x) (transitionsBehind x) st
 
   counts : vertexCount g ≡ length (st .known)
   unfolding verticesOf
-  counts = count-word samePair (targets x) (initialPair x) (owner x) (priority rank x) st (length game)
+  counts =
+      count-word samePair (targets x) (initialPair x) (owner x) (priority rank x) (transitionsBehind x) st
+      (length game)
 
   settled-row : (v : ℕ) → v < length (st .known) → (¬ In v (st .waiting)) → SettledRow rank x g (st .known) v (getD (st .known) v (initialPair x))
-  unfolding verticesOf walkOf ruledVertex
+  unfolding verticesOf walkOf ruledVertex ruledEdge
   settled-row v h n =
       let p : Pair = getD (st .known) v (initialPair x) in
-      let r : Ruled = ruledAt samePair (targets x) (initialPair x) (owner x) (priority rank x) st v in
-      let row = row-settled samePair (targets x) (initialPair x) (owner x) (priority rank x) st (length game) v h n in
+      let edge : Pair → Edge
+      = ruledEdge samePair (targets x) (initialPair x) (owner x) (priority rank x) (transitionsBehind x) st p in
+      let r : Ruled
+      = ruledAt samePair (targets x) (initialPair x) (owner x) (priority rank x) (transitionsBehind x) st v in
+      let row =
+      row-settled samePair (targets x) (initialPair x) (owner x) (priority rank x) (transitionsBehind x) st
+      (length game) v h n in
       record {
         ruled = ledTo (r .edges);
         added = added-edges v (ledTo (r .edges));
-        owned = owner-settled samePair (targets x) (initialPair x) (owner x) (priority rank x) st (length game) v h n;
+        owned =
+            owner-settled samePair (targets x) (initialPair x) (owner x) (priority rank x) (transitionsBehind x)
+            st (length game) v h n;
         edges = row .leads ∙ edges-split v r;
-        leads = lead-all x (st .known) (targets x p) (facts .edges v (h, n));
+        leads = lead-all x (st .known) edge (targets x p) (facts .edges v (h, n));
+        counts =
+            row .counts ∙ counts-split v r
+            ∙ ap (λ (cs : List ℕ). cs ++ zeros (added-edges v (ledTo (r .edges))))
+            (map-map (λ (e : Edge). e .count) edge (targets x p));
         total =
             subst (λ (q : ℕ). Totalised v (owner x p) (priority rank x p) (ledTo (r .edges)) q
             (added-edges v (ledTo (r .edges)))) (sym (row .ranked)) (total-row v r);
@@ -146,21 +173,30 @@ module _ (rank : Ranking) (x : Input) (k : ℕ) (facts : WalkFacts samePair (tar
 
   waiting-row : (v : ℕ) → v < length (st .known) → In v (st .waiting) → (ownerIn g v ≡ 2) × (priorityIn g v ≡ 0) × (targetsIn g v ≡ [])
   unfolding verticesOf waitingVertex
-  waiting-row v h m = let row = row-waits samePair (targets x) (initialPair x) (owner x) (priority rank x) st (length game) v h m in (row .owned, row .ranked, row .leads)
+  waiting-row v h m =
+      let row =
+      row-waits samePair (targets x) (initialPair x) (owner x) (priority rank x) (transitionsBehind x) st
+      (length game) v h m in
+      (row .owned, row .ranked, row .leads)
 
   shows : (v : ℕ) → v < length (st .known) → (¬ In v (st .waiting)) → ownerIn g v < 2
   unfolding verticesOf
-  shows = settled-below samePair (targets x) (initialPair x) (owner x) (priority rank x) st (length game)
+  shows =
+      settled-below samePair (targets x) (initialPair x) (owner x) (priority rank x) (transitionsBehind x) st
+      (length game)
 
   shown : (v : ℕ) → v < length (st .known) → ownerIn g v < 2 → ¬ In v (st .waiting)
   unfolding verticesOf
-  shown = below-settled samePair (targets x) (initialPair x) (owner x) (priority rank x) st (length game)
+  shown =
+      below-settled samePair (targets x) (initialPair x) (owner x) (priority rank x) (transitionsBehind x) st
+      (length game)
 
   counted-all : settledBelow g (vertexCount g) ≡ settled st
   unfolding verticesOf sumSettled walkOf
   counted-all =
       ap (settledBelow g) counts
-      ∙ settled-count samePair (targets x) (initialPair x) (owner x) (priority rank x) st (length game) (length (st .known)) (omega arith)
+      ∙ settled-count samePair (targets x) (initialPair x) (owner x) (priority rank x) (transitionsBehind x) st
+      (length game) (length (st .known)) (omega arith)
       ∙ facts .counted
 
   steps-many : length vs - length (st .waiting) ≡ settledBelow g (vertexCount g)

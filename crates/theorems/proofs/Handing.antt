@@ -13,10 +13,10 @@ use Rattle.rules.specs.Lists.{In, position}
 use Rattle.rules.specs.declared.Room.{Room}
 use Rattle.rules.specs.Words.{Input}
 use Rattle.rules.specs.Depth.{Ranking}
-use Rattle.rules.specs.Pairs.{Pair, samePair, initialPair, owner, priority, targets}
+use Rattle.rules.specs.Pairs.{Pair, samePair, initialPair, owner, priority, targets, transitionsBehind}
 use Rattle.rules.specs.Walk.{Stand}
 use Rattle.rules.specs.Game.{Edge, Vertex, Ruled, edgeTo, waitingVertex, totalisedBy, totalised, settledVertex}
-use Rattle.rules.specs.Game.{ruledVertex, edgeCount, gameOf}
+use Rattle.rules.specs.Game.{ruledEdge, ruledVertex, edgeCount, gameOf}
 use Rattle.rules.specs.GameRefusal.{gameRefusal}
 use Rattle.rules.specs.Refusal.{refusal}
 use Rattle.rules.specs.Run.{walkOf, verticesOf, exceeds}
@@ -53,37 +53,43 @@ module _ (rank : Ranking) (x : Input) (r : Room) (k : ℕ) (game work : List ℕ
 
   many : length vs ≡ length (st .known)
   unfolding verticesOf
-  many = length-vertices samePair (targets x) (initialPair x) (owner x) (priority rank x) st
+  many = length-vertices samePair (targets x) (initialPair x) (owner x) (priority rank x) (transitionsBehind x) st
 
   waits-at : (v : ℕ) → v < length (st .known) → In v (st .waiting) → getD vs v waitingVertex ≡ waitingVertex
   unfolding verticesOf
   waits-at v h m =
-      vertex-at samePair (targets x) (initialPair x) (owner x) (priority rank x) st v waitingVertex h
-      ∙ vertex-waits samePair (targets x) (initialPair x) (owner x) (priority rank x) st v m
+      vertex-at samePair (targets x) (initialPair x) (owner x) (priority rank x) (transitionsBehind x) st v
+      waitingVertex h
+      ∙ vertex-waits samePair (targets x) (initialPair x) (owner x) (priority rank x) (transitionsBehind x) st v m
 
   abbrev ruled : ℕ → Ruled
-  ruled = ruledAt samePair (targets x) (initialPair x) (owner x) (priority rank x) st
+  ruled = ruledAt samePair (targets x) (initialPair x) (owner x) (priority rank x) (transitionsBehind x) st
 
   settled-at : (v : ℕ) → v < length (st .known) → (¬ In v (st .waiting))
       → getD vs v waitingVertex ≡ settledVertex (totalised v (ruled v))
   unfolding verticesOf
   settled-at v h n =
-      vertex-at samePair (targets x) (initialPair x) (owner x) (priority rank x) st v waitingVertex h
-      ∙ vertex-settled samePair (targets x) (initialPair x) (owner x) (priority rank x) st v n
+      vertex-at samePair (targets x) (initialPair x) (owner x) (priority rank x) (transitionsBehind x) st v
+      waitingVertex h
+      ∙ vertex-settled samePair (targets x) (initialPair x) (owner x) (priority rank x) (transitionsBehind x) st v n
 
   edges-inside : (v : ℕ) → v < length vs → (e : Edge) → In e (getD vs v waitingVertex .edges) → e .target < length vs
-  unfolding waitingVertex walkOf ruledVertex
+  unfolding waitingVertex walkOf ruledVertex ruledEdge
   edges-inside v l e m = go (in-or number-equality v (st .waiting))
     where
       h : v < length (st .known)
       h = omega (arith, many)
 
+      p : Pair
+      p = getD (st .known) v (initialPair x)
+
       go : In v (st .waiting) ⊎ (¬ In v (st .waiting)) → e .target < length vs
       go (inl w) = absurd (subst (λ (y : Vertex). In e (y .edges)) (waits-at v h w) m)
       go (inr n) =
           settled-edges v (length vs) (ruled v) l
-          (λ f i. let (q, j, z) = in-map (λ q. edgeTo (position samePair q (st .known))) f
-          (targets x (getD (st .known) v (initialPair x))) i in
+          (λ f i. let (q, j, z) = in-map
+          (ruledEdge samePair (targets x) (initialPair x) (owner x) (priority rank x) (transitionsBehind x) st p) f
+          (targets x p) i in
           let b = facts x good k .edges v (h, n) q j .0 in
           let t : f .target ≡ position samePair q (st .known) = ap (λ (y : Edge). y .target) z in omega (arith, many))
           e (subst (λ (y : Vertex). In e (y .edges)) (settled-at v h n) m)

@@ -7,3 +7,4 @@ pub mod Later
 pub mod Demand3
 pub mod Handing
 pub mod Rankings
+pub mod Counting

@@ -12,15 +12,15 @@ use Rattle.player.specs.declared.Player.{Player}
 use Rattle.rules.specs.declared.Answer.the-variants.{Refused}
 use Rattle.rules.specs.declared.Check.{Check}
 use Rattle.rules.specs.declared.Check.the-variants.{Passed, Fault}
-use Rattle.rules.specs.Lists.{In, position}
+use Rattle.rules.specs.Lists.{In}
 use Rattle.rules.specs.declared.Room.{Room}
 use Rattle.rules.specs.Words.{Input}
 use Rattle.rules.specs.Formula.{equationCount}
 use Rattle.rules.specs.Depth.{Ranking}
-use Rattle.rules.specs.Pairs.{Pair, samePair, initialPair, owner, priority, targets}
+use Rattle.rules.specs.Pairs.{Pair, samePair, initialPair, owner, priority, targets, transitionsBehind}
 use Rattle.rules.specs.Walk.{Stand}
-use Rattle.rules.specs.Game.{Edge, Vertex, edgeTo, totalisedBy, totalised, settledVertex, ruledVertex, edgeCount}
-use Rattle.rules.specs.Game.{gameOf, padded, vertexCount, edgesIn, ownerIn, priorityIn, targetsIn}
+use Rattle.rules.specs.Game.{Edge, Vertex, totalisedBy, totalised, settledVertex, ruledEdge, ruledVertex, edgeCount}
+use Rattle.rules.specs.Game.{gameOf, padded, vertexCount, edgesIn, ownerIn, priorityIn, targetsIn, countsIn}
 use Rattle.rules.specs.Refusal.{refusal}
 use Rattle.rules.specs.Run.{Outcome, walkOf, verticesOf, exceeds, builtAnswer, builtOutcome, outOfRoom, run}
 use Rattle.lists.proofs.Members.{in-or}
@@ -36,6 +36,7 @@ pub record AlikeButRanks (x : Input) (k : ℕ) (g h : List ℕ) : Type 0 where
   pub edges : edgesIn g ≡ edgesIn h
   pub owners : (v : ℕ) → v < vertexCount g → ownerIn g v ≡ ownerIn h v
   pub targets : (v : ℕ) → v < vertexCount g → targetsIn g v ≡ targetsIn h v
+  pub counts : (v : ℕ) → v < vertexCount g → countsIn g v ≡ countsIn h v
   pub priorities : (v : ℕ) → v < vertexCount g
       → (priorityIn g v ≡ priorityIn h v) ⊎ (getD (walkOf x k .known) v (initialPair x) .1 < equationCount (x .formula))
 
@@ -92,41 +93,58 @@ module _ (a b : Ranking) (x : Input) (r : Room) (k : ℕ) (game work : List ℕ)
 
   counts : vertexCount ga ≡ length (st .known)
   unfolding verticesOf
-  counts = count-word samePair (targets x) (initialPair x) (owner x) (priority a x) st (length game)
+  counts =
+      count-word samePair (targets x) (initialPair x) (owner x) (priority a x) (transitionsBehind x) st (length game)
 
   counts-b : vertexCount gb ≡ length (st .known)
   unfolding verticesOf
-  counts-b = count-word samePair (targets x) (initialPair x) (owner x) (priority b x) st (length game)
+  counts-b =
+      count-word samePair (targets x) (initialPair x) (owner x) (priority b x) (transitionsBehind x) st (length game)
 
   edge-words : edgesIn ga ≡ edgesIn gb
   unfolding padded gameOf
   edge-words = edged
 
   abbrev Rows : ℕ → Type 0
-  Rows v = (ownerIn ga v ≡ ownerIn gb v) × (targetsIn ga v ≡ targetsIn gb v)
+  Rows v = (ownerIn ga v ≡ ownerIn gb v) × (targetsIn ga v ≡ targetsIn gb v) × (countsIn ga v ≡ countsIn gb v)
       × ((priorityIn ga v ≡ priorityIn gb v) ⊎ (getD (st .known) v (initialPair x) .1 < equationCount (x .formula)))
 
   rows : (v : ℕ) → v < length (st .known) → Rows v
-  unfolding verticesOf ruledVertex
+  unfolding verticesOf ruledVertex ruledEdge
   rows v h = go (in-or number-equality v (st .waiting))
     where
       p : Pair
       p = getD (st .known) v (initialPair x)
 
       es : List Edge
-      es = map (λ q. edgeTo (position samePair q (st .known))) (targets x p)
+      es =
+          map (ruledEdge samePair (targets x) (initialPair x) (owner x) (priority a x) (transitionsBehind x) st p)
+          (targets x p)
 
       go : In v (st .waiting) ⊎ (¬ In v (st .waiting)) → Rows v
       go (inl w) =
-          let ra = row-waits samePair (targets x) (initialPair x) (owner x) (priority a x) st (length game) v h w in
-          let rb = row-waits samePair (targets x) (initialPair x) (owner x) (priority b x) st (length game) v h w in
-          (ra .owned ∙ sym (rb .owned), ra .leads ∙ sym (rb .leads), inl (ra .ranked ∙ sym (rb .ranked)))
+          let ra =
+          row-waits samePair (targets x) (initialPair x) (owner x) (priority a x) (transitionsBehind x) st
+          (length game) v h w in
+          let rb =
+          row-waits samePair (targets x) (initialPair x) (owner x) (priority b x) (transitionsBehind x) st
+          (length game) v h w in (
+            ra .owned ∙ sym (rb .owned),
+            ra .leads ∙ sym (rb .leads),
+            ra .counts ∙ sym (rb .counts),
+            inl (ra .ranked ∙ sym (rb .ranked)),
+          )
       go (inr n) =
-          let ra = row-settled samePair (targets x) (initialPair x) (owner x) (priority a x) st (length game) v h n in
-          let rb = row-settled samePair (targets x) (initialPair x) (owner x) (priority b x) st (length game) v h n in
+          let ra =
+          row-settled samePair (targets x) (initialPair x) (owner x) (priority a x) (transitionsBehind x) st
+          (length game) v h n in
+          let rb =
+          row-settled samePair (targets x) (initialPair x) (owner x) (priority b x) (transitionsBehind x) st
+          (length game) v h n in
           let (o, e, q) = settled-alike v (owner x p) (priority a x p) (priority b x p) es in (
             ra .owned ∙ o ∙ sym (rb .owned),
             ra .leads ∙ ap (map (λ (z : Edge). z .target)) e ∙ sym (rb .leads),
+            ra .counts ∙ ap (map (λ (z : Edge). z .count)) e ∙ sym (rb .counts),
             ⊎-elim (λ l. inr l) (λ s. inl (ra .ranked ∙ q s ∙ sym (rb .ranked))) (priority-elsewhere a b x p),
           )
 
@@ -147,7 +165,8 @@ module _ (a b : Ranking) (x : Input) (r : Room) (k : ℕ) (game work : List ℕ)
               edges = edge-words;
               owners = λ v l. rows v (omega (arith, counts)) .0;
               targets = λ v l. rows v (omega (arith, counts)) .1;
-              priorities = λ v l. rows v (omega (arith, counts)) .2;
+              counts = λ v l. rows v (omega (arith, counts)) .2;
+              priorities = λ v l. rows v (omega (arith, counts)) .3;
             });
           }
 

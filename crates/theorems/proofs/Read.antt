@@ -17,7 +17,7 @@ use Rattle.rules.specs.Lists.{word, sum, In}
 use Rattle.rules.specs.Walk.{Stand}
 use Rattle.rules.specs.Game.{Edge, Vertex, Ruled, waitingVertex, totalisedBy, totalised, settledVertex, ruledVertex}
 use Rattle.rules.specs.Game.{vertices, edgeCount, gameOf, padded, vertexCount, ownerIn, priorityIn, offsetIn}
-use Rattle.rules.specs.Game.{targetsIn, gameEnd}
+use Rattle.rules.specs.Game.{targetsIn, countsIn, gameEnd}
 use Rattle.rules.specs.Demands.{settledBelow}
 use Rattle.lists.proofs.Members.{in-has, not-in, in-or}
 use Rattle.lists.proofs.Equalities.{number-equality}
@@ -101,61 +101,72 @@ settled-owner v r = go (r .edges)
     go [] = refl
     go (e ∷ es) = refl
 
-module _ {A : Type 0} (same : A → A → Bool) (next : A → List A) (root : A) (owner : A → Player) (priority : A → ℕ) (st : Stand A) (n : ℕ) where
+module _ {A : Type 0} (same : A → A → Bool) (next : A → List A) (root : A) (owner : A → Player) (priority : A → ℕ)
+    (behind : A → A → ℕ) (st : Stand A) (n : ℕ) where
   abbrev vs : List Vertex
-  vs = vertices same next root owner priority st
+  vs = vertices same next root owner priority behind st
 
   abbrev g : List ℕ
   g = padded n (gameOf 0 vs)
 
   abbrev ruled : ℕ → Ruled
-  ruled = ruledAt same next root owner priority st
+  ruled = ruledAt same next root owner priority behind st
 
   pub count-word : vertexCount g ≡ length (st .known)
   unfolding padded
   count-word =
-      count-read 0 vs (replicate (n - length (gameOf 0 vs)) 0) ∙ length-vertices same next root owner priority st
+      count-read 0 vs (replicate (n - length (gameOf 0 vs)) 0) ∙ length-vertices same next root owner priority behind st
 
   -- what is read of vertex v
   pub record Row (v : ℕ) (x : Vertex) : Type 0 where
     pub owned : ownerIn g v ≡ x .owner
     pub ranked : priorityIn g v ≡ x .priority
     pub leads : targetsIn g v ≡ map (λ e. e .target) (x .edges)
+    pub counts : countsIn g v ≡ map (λ e. e .count) (x .edges)
 
   row-of : (v : ℕ) (x : Vertex) → v < length (st .known) → getD vs v waitingVertex ≡ x → Row v x
   unfolding padded
   row-of v x h e =
       let more : List ℕ = replicate (n - length (gameOf 0 vs)) 0 in
-      let l : v < length vs = omega (arith, length-vertices same next root owner priority st) in
+      let l : v < length vs = omega (arith, length-vertices same next root owner priority behind st) in
       record {
         owned = vertex-read 0 vs more 0 v waitingVertex (omega arith) l ∙ ap (λ (y : Vertex). y .owner) e;
         ranked = vertex-read 0 vs more 1 v waitingVertex (omega arith) l ∙ ap (λ (y : Vertex). y .priority) e;
         leads =
             edge-words-read 0 vs more 0 v waitingVertex (omega arith) l
             ∙ ap (λ (y : Vertex). map (λ (z : Edge). z .target) (y .edges)) e;
+        counts =
+            edge-words-read 0 vs more 1 v waitingVertex (omega arith) l
+            ∙ ap (λ (y : Vertex). map (λ (z : Edge). z .count) (y .edges)) e;
       }
 
   pub row-waits : (v : ℕ) → v < length (st .known) → In v (st .waiting) → Row v waitingVertex
-  row-waits v h m = row-of v waitingVertex h (vertex-at same next root owner priority st v waitingVertex h ∙ vertex-waits same next root owner priority st v m)
+  row-waits v h m =
+      row-of v waitingVertex h
+      (vertex-at same next root owner priority behind st v waitingVertex h
+      ∙ vertex-waits same next root owner priority behind st v m)
 
   pub row-settled : (v : ℕ) → v < length (st .known) → (¬ In v (st .waiting))
       → Row v (settledVertex (totalised v (ruled v)))
   row-settled v h m =
       row-of v (settledVertex (totalised v (ruled v))) h
-      (vertex-at same next root owner priority st v waitingVertex h
-      ∙ vertex-settled same next root owner priority st v m)
+      (vertex-at same next root owner priority behind st v waitingVertex h
+      ∙ vertex-settled same next root owner priority behind st v m)
 
   -- a vertex shows owner 2 exactly if it waits
   pub owner-waits : (v : ℕ) → v < length (st .known) → In v (st .waiting) → ownerIn g v ≡ 2
   unfolding waitingVertex
   owner-waits v h m = row-waits v h m .owned
 
-  pub owner-settled : (v : ℕ) → v < length (st .known) → (¬ In v (st .waiting)) → ownerIn g v ≡ playerIndex (owner (pairAt same next root owner priority st v))
+  pub owner-settled : (v : ℕ) → v < length (st .known) → (¬ In v (st .waiting))
+      → ownerIn g v ≡ playerIndex (owner (pairAt same next root owner priority behind st v))
   unfolding ruledVertex
   owner-settled v h m = row-settled v h m .owned ∙ settled-owner v (ruled v)
 
   pub settled-below : (v : ℕ) → v < length (st .known) → (¬ In v (st .waiting)) → ownerIn g v < 2
-  settled-below v h m = subst (λ (k : ℕ). k < 2) (sym (owner-settled v h m)) (player-below (owner (pairAt same next root owner priority st v)))
+  settled-below v h m =
+      subst (λ (k : ℕ). k < 2) (sym (owner-settled v h m))
+      (player-below (owner (pairAt same next root owner priority behind st v)))
 
   pub below-settled : (v : ℕ) → v < length (st .known) → ownerIn g v < 2 → ¬ In v (st .waiting)
   below-settled v h l m = let e = owner-waits v h m in omega arith

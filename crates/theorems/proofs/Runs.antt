@@ -15,7 +15,7 @@ use Rattle.rules.specs.declared.Room.{Room}
 use Rattle.rules.specs.Words.{Input}
 use Rattle.rules.specs.Answers.{Accepted}
 use Rattle.rules.specs.Depth.{Ranking}
-use Rattle.rules.specs.Pairs.{Pair, samePair, initialPair, owner, priority, targets}
+use Rattle.rules.specs.Pairs.{Pair, samePair, initialPair, owner, priority, targets, transitionsBehind}
 use Rattle.rules.specs.Walk.{Stand}
 use Rattle.rules.specs.Game.{Vertex, edgeCount, vertices}
 use Rattle.rules.specs.Faulty.{FirstFaulty, Faultless}
@@ -76,17 +76,22 @@ module _ (rank : Ranking) (x : Input) (r : Room) (k : ℕ) (game work : List ℕ
 
   pub vertices-many : length vs ≡ length (st .known)
   unfolding verticesOf
-  vertices-many = length-vertices samePair (targets x) (initialPair x) (owner x) (priority rank x) st
+  vertices-many =
+      length-vertices samePair (targets x) (initialPair x) (owner x) (priority rank x) (transitionsBehind x) st
 
-  pub edges-many : edgeCount vs ≡ sumSettled (edgesOf samePair (targets x) (initialPair x) (owner x) (priority rank x) st) (initialPair x) st
+  -- the edges that settling a pair gives
+  abbrev degreeOf : Pair → ℕ
+  degreeOf = edgesOf samePair (targets x) (initialPair x) (owner x) (priority rank x) (transitionsBehind x) st
+
+  pub edges-many : edgeCount vs ≡ sumSettled degreeOf (initialPair x) st
   unfolding verticesOf
-  edges-many = count-edges samePair (targets x) (initialPair x) (owner x) (priority rank x) st
+  edges-many = count-edges samePair (targets x) (initialPair x) (owner x) (priority rank x) (transitionsBehind x) st
 
   -- told after k steps, it is so within the first k steps, and the other way round
   pub exceeded : exceeds r vs ≡ true → Exceeded x r k
   unfolding exceeds walkOf edgesAfter
   exceeded e =
-      exceeded-within pair-equality (targets x) (initialPair x) (edgesOf samePair (targets x) (initialPair x) (owner x) (priority rank x) st) (r .vertices) (r .edges) k .1
+      exceeded-within pair-equality (targets x) (initialPair x) degreeOf (r .vertices) (r .edges) k .1
       (⊎-elim (λ l. inl (subst (λ (n : ℕ). r .vertices < n) vertices-many l)) (λ l. inr (subst (λ (n : ℕ). r .edges < n) edges-many l))
       (either-exceeds (r .vertices) (length vs) (r .edges) (edgeCount vs) e))
 
@@ -95,7 +100,7 @@ module _ (rank : Ranking) (x : Input) (r : Room) (k : ℕ) (game work : List ℕ
   not-exceeded e h =
       exceeds-either (r .vertices) (length vs) (r .edges) (edgeCount vs) e
       (⊎-elim (λ l. inl (subst (λ (n : ℕ). r .vertices < n) (sym vertices-many) l)) (λ l. inr (subst (λ (n : ℕ). r .edges < n) (sym edges-many) l))
-      (exceeded-within pair-equality (targets x) (initialPair x) (edgesOf samePair (targets x) (initialPair x) (owner x) (priority rank x) st) (r .vertices) (r .edges) k .0 h))
+      (exceeded-within pair-equality (targets x) (initialPair x) degreeOf (r .vertices) (r .edges) k .0 h))
 
   -- what fits
   pub fits : exceeds r vs ≡ false → (length vs ≤ r .vertices) × (edgeCount vs ≤ r .edges)

@@ -3,22 +3,24 @@
 -- the definition of a run. Assumes nothing.
 use mathlib.Core.Path.{_≡_, refl, sym, ap, _∙_, subst}
 use mathlib.Core.Bool.{cond}
-use mathlib.Core.List.{List, [], _∷_, _++_}
-use Prim.Native.Nat.{ℕ, _+_, _<_}
+use mathlib.Core.List.{List, [], _∷_, _++_, map}
+use Prim.Native.Nat.{ℕ, suc, _+_, _<_}
 use native.Mathlib.Omega.{arith}
 use native.Mathlib.Decide.{decLt}
 use lib.ListN.{length, getD}
 use lib.Dec.{ltb}
+use lib.Seq.{slice, slice-empty}
 use Rattle.player.specs.declared.Player.{Player}
 use Rattle.rules.specs.declared.Answer.{Answer}
 use Rattle.rules.specs.declared.Answer.the-variants.{Done, Cut}
-use Rattle.rules.specs.Lists.{In, Distinct}
+use Rattle.rules.specs.Lists.{In, Distinct, zeros}
 use Rattle.rules.specs.Words.{Input}
 use Rattle.rules.specs.Answers.{Accepted}
 use Rattle.rules.specs.Depth.{Ranking}
-use Rattle.rules.specs.Pairs.{Pair, initialPair, owner, priority, targets}
+use Rattle.rules.specs.Pairs.{Pair, initialPair, owner, priority, targets, transitionsBehind}
 use Rattle.rules.specs.Reach.{N}
-use Rattle.rules.specs.Game.{vertexCount, edgesIn, vertexWord, edgeWordsIn, ownerIn, priorityIn, targetsIn}
+use Rattle.rules.specs.Game.{vertexCount, edgesIn, vertexWord, offsetIn, edgesFrom, edgeWordsIn, ownerIn, priorityIn}
+use Rattle.rules.specs.Game.{targetsIn, countsIn}
 use Rattle.rules.specs.Demands.{Stands, Lead, Totalised, SettledRow, settledBelow, CutTheorem, Demand3}
 use Rattle.lists.proofs.Members.{distinct-positions}
 use Rattle.walks.proofs.Only.{after-only}
@@ -53,11 +55,22 @@ module _ (rank : Ranking) (x : Input) (g h : List ℕ) (ps : List Pair) (d : Dis
       (b .total)
 
   row-once : (ownerIn g v ≡ ownerIn h v) × (priorityIn g v ≡ priorityIn h v) × (targetsIn g v ≡ targetsIn h v)
+      × (countsIn g v ≡ countsIn h v)
   row-once = (
     a .owned ∙ sym (b .owned),
     shown-once .0,
     a .edges ∙ ap (λ (es : List ℕ). es ++ a .added) ruled-once ∙ ap (λ (es : List ℕ). b .ruled ++ es) (shown-once .1) ∙ sym (b .edges),
+    a .counts
+        ∙ ap (λ (es : List ℕ). map (transitionsBehind x p) (targets x p) ++ zeros es) (shown-once .1)
+        ∙ sym (b .counts),
   )
+
+-- a vertex without edges shows no counts
+no-counts : (g : List ℕ) (v : ℕ) → offsetIn g (suc v) ≡ offsetIn g v + length (targetsIn g v) → targetsIn g v ≡ []
+    → countsIn g v ≡ []
+no-counts g v follows none =
+    let e : edgesFrom g 1 (suc v) ≡ edgesFrom g 1 v = omega (arith, follows, ap length none) in
+    ap (λ (k : ℕ). slice (edgesFrom g 1 v) k g) e ∙ slice-empty (edgesFrom g 1 v) g
 
 module _ (rank : Ranking) (x : Input) (k : ℕ) (a b : Answer) (g h : List ℕ) (ps qs : List Pair)
     (long : length g ≡ length h) (c : CutTheorem rank x k a g ps) (d : CutTheorem rank x k b h qs) where
@@ -76,17 +89,25 @@ module _ (rank : Ranking) (x : Input) (k : ℕ) (a b : Answer) (g h : List ℕ) 
   both-wait : (v : ℕ) → v < vertexCount g → (¬ (ownerIn g v < 2)) → ¬ (ownerIn h v < 2)
   both-wait v l n s = n (c .taken v l .1 (subst (In v) (sym order-once) (d .taken v (omega (arith, counts)) .0 s)))
 
-  rows : (v : ℕ) → v < vertexCount g → (ownerIn g v ≡ ownerIn h v) × (priorityIn g v ≡ priorityIn h v) × (targetsIn g v ≡ targetsIn h v)
+  rows : (v : ℕ) → v < vertexCount g
+      → (ownerIn g v ≡ ownerIn h v) × (priorityIn g v ≡ priorityIn h v) × (targetsIn g v ≡ targetsIn h v)
+      × (countsIn g v ≡ countsIn h v)
   rows v l = go (decLt (ownerIn g v) 2)
     where
-      go : Dec (ownerIn g v < 2) → (ownerIn g v ≡ ownerIn h v) × (priorityIn g v ≡ priorityIn h v) × (targetsIn g v ≡ targetsIn h v)
+      go : Dec (ownerIn g v < 2)
+          → (ownerIn g v ≡ ownerIn h v) × (priorityIn g v ≡ priorityIn h v) × (targetsIn g v ≡ targetsIn h v)
+          × (countsIn g v ≡ countsIn h v)
       go (yes s) =
           row-once rank x g h ps (c .distinct) v (getD ps v (initialPair x)) (c .settled v l s)
           (subst (λ (rs : List Pair). SettledRow rank x h rs v (getD rs v (initialPair x))) (sym pairs-once) (d .settled v (omega (arith, counts)) (both-settled v l s)))
       go (no n) =
           let (o, p, e) = c .waiting v l n in
-          let (o′, p′, e′) = d .waiting v (omega (arith, counts)) (both-wait v l n) in
-          (o ∙ sym o′, p ∙ sym p′, e ∙ sym e′)
+          let (o′, p′, e′) = d .waiting v (omega (arith, counts)) (both-wait v l n) in (
+            o ∙ sym o′,
+            p ∙ sym p′,
+            e ∙ sym e′,
+            no-counts g v (c .follows v l) e ∙ sym (no-counts h v (d .follows v (omega (arith, counts))) e′),
+          )
 
   -- the games are equal
   pub game-once : g ≡ h
@@ -102,7 +123,7 @@ module _ (rank : Ranking) (x : Input) (k : ℕ) (a b : Answer) (g h : List ℕ) 
             (λ v l. rows v l .0) (λ v l. rows v l .1);
         edges =
             each-edge-column (λ c. (v : ℕ) → v < vertexCount g → edgeWordsIn g c v ≡ edgeWordsIn h c v)
-            (λ v l. rows v l .2);
+            (λ v l. rows v l .2) (λ v l. rows v l .3);
       })
 
   -- the answer that the cut theorem gives with a game

@@ -7,10 +7,10 @@ use native.Mathlib.Omega.{arith}
 use lib.ListN.{length, getD, length-map}
 use lib.Dec.{eqb}
 use Rattle.player.specs.declared.Player.{Player}
-use Rattle.rules.specs.Lists.{In, from, sum, has, position}
+use Rattle.rules.specs.Lists.{In, from, sum, has}
 use Rattle.rules.specs.Walk.{Stand}
-use Rattle.rules.specs.Game.{Edge, Vertex, Ruled, edgeTo, waitingVertex, totalisedBy, totalised, settledVertex}
-use Rattle.rules.specs.Game.{ruledVertex, vertexAt, vertices, edgeCount}
+use Rattle.rules.specs.Game.{Edge, Vertex, Ruled, waitingVertex, totalisedBy, totalised, settledVertex}
+use Rattle.rules.specs.Game.{ruledEdge, ruledVertex, vertexAt, vertices, edgeCount}
 use Rattle.lists.proofs.Members.{map-at, in-has, not-in}
 use Rattle.lists.proofs.Equalities.{number-equality}
 use Rattle.walks.specs.Sums.{sumBelow, sumSettled}
@@ -34,15 +34,17 @@ settled-degree v r = go (r .edges) refl
     go [] e = refl
     go (x ∷ es) e = ap length e ∙ omega arith
 
-module _ {A : Type 0} (same : A → A → Bool) (next : A → List A) (root : A) (owner : A → Player) (priority : A → ℕ) (st : Stand A) where
+module _ {A : Type 0} (same : A → A → Bool) (next : A → List A) (root : A) (owner : A → Player) (priority : A → ℕ)
+    (behind : A → A → ℕ) (st : Stand A) where
   abbrev at : ℕ → Vertex
-  at = vertexAt same next root owner priority st
+  at = vertexAt same next root owner priority behind st
 
-  pub length-vertices : length (vertices same next root owner priority st) ≡ length (st .known)
+  pub length-vertices : length (vertices same next root owner priority behind st) ≡ length (st .known)
   unfolding vertices
   length-vertices = length-map (from 0 (length (st .known))) at ∙ from-length 0 (length (st .known))
 
-  pub vertex-at : (v : ℕ) (d : Vertex) → v < length (st .known) → getD (vertices same next root owner priority st) v d ≡ at v
+  pub vertex-at : (v : ℕ) (d : Vertex) → v < length (st .known)
+      → getD (vertices same next root owner priority behind st) v d ≡ at v
   unfolding vertices
   vertex-at v d h =
       let e : getD (from 0 (length (st .known))) v 0 ≡ v = omega (arith, from-at 0 (length (st .known)) v 0 h) in
@@ -57,7 +59,7 @@ module _ {A : Type 0} (same : A → A → Bool) (next : A → List A) (root : A)
   pairAt v = getD (st .known) v root
 
   abbrev pub ruledAt : ℕ → Ruled
-  ruledAt v = ruledVertex same next root owner priority st (pairAt v)
+  ruledAt v = ruledVertex same next root owner priority behind st (pairAt v)
 
   pub vertex-settled : (v : ℕ) → (¬ In v (st .waiting)) → at v ≡ settledVertex (totalised v (ruledAt v))
   unfolding vertexAt
@@ -76,7 +78,7 @@ module _ {A : Type 0} (same : A → A → Bool) (next : A → List A) (root : A)
       go false e =
           rw e
           (settled-degree v (ruledAt v)
-          ∙ ap (max 1) (length-map (next (pairAt v)) (λ q. edgeTo (position same q (st .known)))))
+          ∙ ap (max 1) (length-map (next (pairAt v)) (ruledEdge same next root owner priority behind st (pairAt v))))
 
   count-below : (n : ℕ) → edgeCount (map at (from 0 n)) ≡ sumBelow edgesOf root st n
   unfolding edgeCount sumBelow from sum
@@ -91,6 +93,6 @@ module _ {A : Type 0} (same : A → A → Bool) (next : A → List A) (root : A)
       ∙ omega (arith, count-below n, degree-at n, ap (λ k. f (at k)) e)
 
   -- the edges of all vertices
-  pub count-edges : edgeCount (vertices same next root owner priority st) ≡ sumSettled edgesOf root st
+  pub count-edges : edgeCount (vertices same next root owner priority behind st) ≡ sumSettled edgesOf root st
   unfolding vertices sumSettled
   count-edges = count-below (length (st .known))

@@ -33,7 +33,7 @@ use Rattle.satisfaction.proofs.NoFalsePass.{no-false-pass}
 use Rattle.settling.specs.declared.Counters.{Counters}
 use Rattle.settling.specs.declared.Stepped.{Stepped}
 use Rattle.settling.specs.declared.Stepped.the-variants.{Fits, Full}
-use Rattle.settling.specs.Keys.{keyTargets, rootKey}
+use Rattle.settling.specs.Keys.{keyTargets, keyBehind, rootKey}
 use Rattle.settling.specs.Made.{Sized}
 use Rattle.settling.specs.Good.{WalkMade, WalkAnswer, Exceeding}
 use Rattle.rules.specs.Walk.{walk}
@@ -41,7 +41,7 @@ use Rattle.item_table.specs.Entries.{ItemTable, Ranks}
 use Rattle.stepping.proofs.Offsets.{offset-last}
 use Rattle.stepping.proofs.Paired.{known-pairs, waiting-pairs, known-count, waiting-count, edges-count, settled-count}
 use Rattle.stepping.proofs.Paired.{made-fits, full-exceeds, waits-at, stretch-inside}
-use Rattle.settling.specs.Stand.{settledIn, startIn, countIn}
+use Rattle.settling.specs.Stand.{settledIn, startIn, degreeIn}
 use Rattle.game_writer.specs.Shown.{Showable, shownVertices}
 use Rattle.translate.specs.Runs.{Writable, WroteOut, RunBy, RunByRanks}
 use Rattle.translate.proofs.Shows.{shown-all}
@@ -123,32 +123,32 @@ module _ (x : Input) (v e k : ℕ) (game work : List ℕ) (passed : refusal x (r
       ∙ sym (run-exceeds rank x (roomOf v e) k game work passed (full-exceeds x good rank k v e f))
 
   -- what writing the game asks
-  module _ (c : Counters) (made : WalkMade (keyTargets x) (rootKey x) v e k work c) where
-    showable : Showable work v (c .known) (c .edges) (length game)
+  module _ (c : Counters) (made : WalkMade (keyTargets x) (keyBehind x) (rootKey x) v e k work c) where
+    showable : Showable work v e (c .known) (c .edges) (length game)
     unfolding gameLength
     showable =
-        let n = made .good .ready .table .slots .room in
-        let m = made .good .ready .buffer in
-        let s = made .good .ready .whole in
+        let r = made .good .ready in
+        let few : c .edges ≤ e = r .buffer in
+        let known : c .known ≤ v = r .table .slots .room in
         let l = accepted-lengths x (roomOf v e) (length game) (length work) passed .0 in
         record {
-          known = n;
-          whole = omega arith;
+          placed = record { known = known; most = (r .most, r .most-edges); whole = r .whole };
+          few = few;
           stretches = λ u h p. stretches u (omega (arith, known-count x good k v e work c made)) p (in-or number-equality u (walkOf x k .waiting));
-          total = offset-last (keyTargets x) (rootKey x) v e work c (made .good);
+          total = offset-last (keyTargets x) (keyBehind x) (rootKey x) v e work c (made .good);
           room = omega (arith, l);
         }
       where
         stretches : (u : ℕ) → u < length (walkOf x k .known) → settledIn work v u ≡ true
             → In u (walkOf x k .waiting) ⊎ (¬ In u (walkOf x k .waiting))
-            → startIn work v u + countIn work v u ≤ c .edges
+            → startIn work v u + degreeIn work v u ≤ c .edges
         stretches u h p (inl w) = absurd (true≢false (sym p ∙ waits-at x good k v e work c made u h w))
         stretches u h p (inr n) = stretch-inside x good k v e work c made u h n
 
   -- the game, by a ranking that the priorities show
   module _ (rank : Ranking) (kinds lefts rights priorities : List ℕ)
       (table : ItemTable x kinds lefts rights) (ranks : Ranks rank x priorities)
-      (c : Counters) (made : WalkMade (keyTargets x) (rootKey x) v e k work c) where
+      (c : Counters) (made : WalkMade (keyTargets x) (keyBehind x) (rootKey x) v e k work c) where
     abbrev st : Stand Pair
     st = walkOf x k
 
@@ -161,7 +161,7 @@ module _ (x : Input) (v e k : ℕ) (game work : List ℕ) (passed : refusal x (r
     edged : edgeCount vs ≡ c .edges
     edged = edges-many rank x (roomOf v e) k game work ∙ sym (edges-count x good k v e work c made)
 
-    shown : shownVertices kinds priorities work v (c .known) ≡ vs
+    shown : shownVertices kinds priorities work v e (c .known) ≡ vs
     shown =
         shown-all rank x good k kinds lefts rights priorities table ranks work v e c (made .good)
         (known-pairs x good k v e work c made) (waiting-pairs x good k v e work c made)
@@ -169,7 +169,7 @@ module _ (x : Input) (v e k : ℕ) (game work : List ℕ) (passed : refusal x (r
     -- the game and the cleared work slice
     wrote : (a : Answer) (g w : List ℕ)
         → a ≡ builtAnswer (st .waiting) (length vs - length (st .waiting)) (length vs) (edgeCount vs)
-        → g ≡ padded (length game) (gameOf 0 (shownVertices kinds priorities work v (c .known))) → w ≡ zeros work
+        → g ≡ padded (length game) (gameOf 0 (shownVertices kinds priorities work v e (c .known))) → w ≡ zeros work
         → _≡_ {A = Outcome} (record { answer = a; game = g; work = w }) (run rank x (roomOf v e) k game work)
     unfolding builtOutcome
     wrote a g w p q s =
@@ -186,7 +186,8 @@ module _ (x : Input) (v e k : ℕ) (game work : List ℕ) (passed : refusal x (r
     same-answer = λ i. builtAnswer (st .waiting) (settled-many i) (sym many i) (sym edged i)
 
     -- no vertex waits
-    done-run : (g w : List ℕ) → c .waiting ≡ 0 → g ≡ padded (length game) (gameOf 0 (shownVertices kinds priorities work v (c .known))) → w ≡ zeros work
+    done-run : (g w : List ℕ) → c .waiting ≡ 0
+        → g ≡ padded (length game) (gameOf 0 (shownVertices kinds priorities work v e (c .known))) → w ≡ zeros work
         → RunBy rank x (roomOf v e) k game work (Done (c .settled) (c .known) (c .edges)) g w
     done-run g w z q s =
         wrote (Done (c .settled) (c .known) (c .edges)) g w
@@ -194,7 +195,8 @@ module _ (x : Input) (v e k : ℕ) (game work : List ℕ) (passed : refusal x (r
         (omega (arith, waiting-count x good k v e work c made)) ∙ same-answer) q s
 
     -- a vertex still waits
-    cut-run : (g w : List ℕ) → (c .waiting ≡ 0 → ⊥) → g ≡ padded (length game) (gameOf 0 (shownVertices kinds priorities work v (c .known))) → w ≡ zeros work
+    cut-run : (g w : List ℕ) → (c .waiting ≡ 0 → ⊥)
+        → g ≡ padded (length game) (gameOf 0 (shownVertices kinds priorities work v e (c .known))) → w ≡ zeros work
         → RunBy rank x (roomOf v e) k game work (Cut (c .settled) (c .known) (c .edges)) g w
     cut-run g w z q s =
         wrote (Cut (c .settled) (c .known) (c .edges)) g w
@@ -209,13 +211,15 @@ module _ (x : Input) (r : Room) (k : ℕ) (game work : List ℕ) (passed : refus
   abbrev e : ℕ
   e = r .edges
 
-  pub writable : (walked : Stepped) → WalkAnswer (keyTargets x) (rootKey x) v e k work walked → Writable v (length game) work walked
+  pub writable : (walked : Stepped) → WalkAnswer (keyTargets x) (keyBehind x) (rootKey x) v e k work walked
+      → Writable r (length game) work walked
   writable (Fits c) made = showable x v e k game work passed c made
   writable Full f = tt
 
   pub wrote-out : (kinds lefts rights priorities : List ℕ) → ItemTable x kinds lefts rights
-      → (walked : Stepped) → WalkAnswer (keyTargets x) (rootKey x) v e k work walked
-      → (a : Answer) (g w : List ℕ) → WroteOut kinds priorities v game work a g w walked → RunByRanks priorities x r k game work a g w
+      → (walked : Stepped) → WalkAnswer (keyTargets x) (keyBehind x) (rootKey x) v e k work walked
+      → (a : Answer) (g w : List ℕ) → WroteOut kinds priorities r game work a g w walked
+      → RunByRanks priorities x r k game work a g w
   wrote-out kinds lefts rights priorities table (Fits c) made a g w o = λ rank ranks. go rank ranks (ℕ-discrete (c .waiting) 0)
     where
       go : (rank : Ranking) → Ranks rank x priorities → Dec (c .waiting ≡ 0) → RunBy rank x r k game work a g w

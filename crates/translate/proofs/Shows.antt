@@ -2,12 +2,11 @@
 -- those of the walk's pairs. Assumes nothing.
 use mathlib.Core.Path.{_≡_, refl, sym, ap, _∙_, subst}
 use mathlib.Core.Bool.{true, false, cond}
-use mathlib.Core.List.{List, [], _∷_, map}
+use mathlib.Core.List.{List, [], _∷_, map, map-map}
 use mathlib.Core.Logic.{_⊎_, inl, inr}
 use Prim.Native.Nat.{ℕ, zero, suc, _+_, _-_, _*_, _≤_, _<_, max}
 use native.Mathlib.Omega.{arith}
 use lib.ListN.{length, getD, take, drop, length-map}
-use lib.Seq.{take-take, drop-drop}
 use lib.Dec.{eqb}
 use borrow.Author.Tests.{lt-ltb, eq-eqb, ne-eqb}
 use Rattle.player.specs.Player.{playerIndex}
@@ -15,11 +14,11 @@ use Rattle.player.specs.declared.Player.{Player}
 use Rattle.rules.specs.Lists.{word, In, from, position}
 use Rattle.rules.specs.Words.{Input}
 use Rattle.rules.specs.Depth.{Ranking}
-use Rattle.rules.specs.Pairs.{Pair, samePair, initialPair, owner, priority, targets}
+use Rattle.rules.specs.Pairs.{Pair, samePair, initialPair, owner, priority, targets, transitionsBehind}
 use Rattle.rules.specs.Reach.{Reachable, onward}
 use Rattle.rules.specs.Walk.{Stand}
-use Rattle.rules.specs.Game.{Edge, Vertex, Ruled, edgeTo, waitingVertex, stuckPriority, totalisedBy, totalised, settledVertex}
-use Rattle.rules.specs.Game.{ruledVertex, vertexAt, vertices}
+use Rattle.rules.specs.Game.{Edge, Vertex, Ruled, waitingVertex, stuckPriority, totalisedBy, totalised, settledVertex}
+use Rattle.rules.specs.Game.{ruledEdge, ruledVertex, vertexAt, vertices}
 use Rattle.rules.specs.Run.{walkOf, verticesOf}
 use Rattle.tables.specs.Good.{GoodInput}
 use Rattle.lists.specs.Shapes.{positions}
@@ -28,66 +27,27 @@ use Rattle.lists.proofs.Equalities.{number-equality, pair-equality}
 use Rattle.arena.proofs.SelfTargets.{no-self-target}
 use Rattle.walks.proofs.Steps.{sound}
 use Rattle.walks.proofs.Rename.{positions-map}
-use Rattle.games.proofs.Columns.{edges-map, targets-plain}
 use Rattle.theorems.proofs.Vertices.{vertex-waits, vertex-settled, settled-degree}
 use Rattle.pairs.specs.Table.{keyAt, stateAt, keysOf}
 use Rattle.pairs.proofs.Uses.{key-same, key-pair, key-item-below, key-word, length-keys}
 use Rattle.settling.specs.declared.Counters.{Counters}
-use Rattle.settling.specs.Keys.{pairKey, keyTargets, rootKey}
-use Rattle.settling.specs.Stand.{waitingOf, edgesOf, edgesFor, settledIn, startIn, countIn}
+use Rattle.settling.specs.Keys.{pairKey, keyTargets, keyBehind, rootKey}
+use Rattle.settling.specs.Stand.{waitingOf, edgesOf, countsOf, edgesFor, countsFor, settledIn, startIn, degreeIn}
 use Rattle.settling.specs.Good.{Good, Stretch}
 use Rattle.item_table.specs.Entries.{ShownAt, ItemTable, Ranks, kindOwner}
 use Rattle.item_table.proofs.Steps.{entry-owner, ranks-priority}
-use Rattle.game_writer.specs.Shown.{itemIn, loopsIn, shownPlayer, shownOwner, shownPriority, shownEdges, shownVertex, shownVertices}
-use Rattle.game_writer.proofs.Vertices.{owner-settled, edges-settled, shown-waiting}
+use Rattle.game_writer.specs.Shown.{itemIn, bufferEnd, loopsIn, shownPlayer, shownOwner, shownPriority, shownEdges, shownVertex, shownVertices}
+use Rattle.game_writer.proofs.Vertices.{owner-settled, edges-settled, first-edge, shown-waiting}
 use Rattle.theorems.proofs.Read.{settled-owner}
-use Rattle.stepping.proofs.Keys.{reached-inside, item-fits, alike, moved}
+use Rattle.stepping.proofs.Keys.{reached-inside, item-fits, alike, moved, behind-moved}
 
 -- ---- lists
 
--- a part of a part
-drop-of-take : (s m : ℕ) (l : List ℕ) → drop s (take m l) ≡ take (m - s) (drop s l)
-drop-of-take zero m l = let e : m ≡ m - 0 = omega arith in ap (λ (n : ℕ). take n l) e
-drop-of-take (suc s) zero l = let e : 0 - suc s ≡ 0 = omega arith in sym (ap (λ (n : ℕ). take n (drop (suc s) l)) e)
-drop-of-take (suc s) (suc m) [] = nothing (m - s) (suc m - suc s)
-  where
-    nothing : (a b : ℕ) → _≡_ {A = List ℕ} [] (take b [])
-    nothing a zero = refl
-    nothing a (suc b) = refl
-drop-of-take (suc s) (suc m) (x ∷ l) = let e : m - s ≡ suc m - suc s = omega arith in drop-of-take s m l ∙ ap (λ (n : ℕ). take n (drop s l)) e
-
-part-of-part : (c s m b : ℕ) (w : List ℕ) → s + c ≤ m → take c (drop s (take m (drop b w))) ≡ take c (drop (b + s) w)
-part-of-part c s m b w h =
-    ap (take c) (drop-of-take s m (drop b w))
-    ∙ take-take c (m - s) (drop s (drop b w)) (omega arith)
-    ∙ ap (take c) (drop-drop s b w)
-
--- the first word of a part
-head-of-part : (c b : ℕ) (w : List ℕ) (t : ℕ) (ts : List ℕ) → take c (drop b w) ≡ t ∷ ts → word w b ≡ t
-head-of-part c zero w t ts e = go c w e
-  where
-    go : (n : ℕ) (l : List ℕ) → take n l ≡ t ∷ ts → word l 0 ≡ t
-    go zero l f = absurd (let z : 0 ≡ suc (length ts) = ap length f in omega arith)
-    go (suc n) [] f = absurd (let z : 0 ≡ suc (length ts) = ap length f in omega arith)
-    go (suc n) (y ∷ l) f = ap (λ (q : List ℕ). word q 0) f
-head-of-part c (suc b) [] t ts e = absurd (none c e)
-  where
-    none : (n : ℕ) → take n [] ≡ t ∷ ts → ⊥
-    none zero f = let z : 0 ≡ suc (length ts) = ap length f in absurd (omega arith)
-    none (suc n) f = let z : 0 ≡ suc (length ts) = ap length f in absurd (omega arith)
-head-of-part c (suc b) (y ∷ w) t ts e = head-of-part c b w t ts e
-
-part-length : (c b : ℕ) (w : List ℕ) → length (take c (drop b w)) ≤ c
-part-length zero b w = omega arith
-part-length (suc c) b w = go (drop b w)
-  where
-    least : (n : ℕ) (l : List ℕ) → length (take n l) ≤ n
-    least zero l = omega arith
-    least (suc n) [] = omega arith
-    least (suc n) (y ∷ l) = omega (arith, least n l)
-
-    go : (l : List ℕ) → length (take (suc c) l) ≤ suc c
-    go l = least (suc c) l
+-- a part is no longer than what is asked of it
+part-length : (n : ℕ) (l : List ℕ) → length (take n l) ≤ n
+part-length zero l = omega arith
+part-length (suc n) [] = omega arith
+part-length (suc n) (y ∷ l) = omega (arith, part-length n l)
 
 map-from : (f g : ℕ → Vertex) (i n : ℕ) → ((u : ℕ) → i ≤ u → u < i + n → f u ≡ g u) → map f (from i n) ≡ map g (from i n)
 unfolding from
@@ -101,7 +61,7 @@ map-from f g i (suc n) h =
 -- a vertex that does not wait is settled, and its owner, priority and edges are those of the rules
 module _ (rank : Ranking) (x : Input) (good : GoodInput x) (k : ℕ) (kinds lefts rights priorities : List ℕ)
     (table : ItemTable x kinds lefts rights) (ranks : Ranks rank x priorities)
-    (w : List ℕ) (v e : ℕ) (c : Counters) (g : Good (keyTargets x) (rootKey x) w v e c)
+    (w : List ℕ) (v e : ℕ) (c : Counters) (g : Good (keyTargets x) (keyBehind x) (rootKey x) w v e c)
     (same-known : keysOf w v (c .known) ≡ map pairKey (walkOf x k .known)) (same-waiting : waitingOf w v (c .waiting) ≡ walkOf x k .waiting) where
   abbrev st : Stand Pair
   st = walkOf x k
@@ -147,44 +107,74 @@ module _ (rank : Ranking) (x : Input) (good : GoodInput x) (k : ℕ) (kinds left
       ap (λ (l : List ℕ). positions eqb l (map pairKey (targets x (pair u)))) same-known
       ∙ positions-map pair-equality number-equality pairKey (targets x) (keyTargets x) (initialPair x) (alike x good) (moved x good) (st .known) (targets x (pair u)) reached (numbers-at u h)
 
+  -- the edge that the rules give the pair of vertex u to this target
+  abbrev edge : ℕ → Pair → Edge
+  edge u = ruledEdge samePair (targets x) (initialPair x) (owner x) (priority rank x) (transitionsBehind x) st (pair u)
+
   -- the vertex of a pair with these targets
-  abbrev ruledOf : Player → ℕ → List Pair → Ruled
-  ruledOf o p ts = record { owner = o; priority = p; edges = map (λ q. edgeTo (position samePair q (st .known))) ts }
+  abbrev ruledOf : ℕ → Player → ℕ → List Pair → Ruled
+  ruledOf u o p ts = record { owner = o; priority = p; edges = map (edge u) ts }
 
   abbrev settled : ℕ → Player → ℕ → List Pair → Vertex
-  settled u o p ts = settledVertex (totalised u (ruledOf o p ts))
+  settled u o p ts = settledVertex (totalised u (ruledOf u o p ts))
 
-  edges-for : (u : ℕ) (o : Player) (p : ℕ) (ts : List Pair)
+  abbrev targetWords : Vertex → List ℕ
+  targetWords y = map (λ (d : Edge). d .target) (y .edges)
+
+  abbrev countWords : Vertex → List ℕ
+  countWords y = map (λ (d : Edge). d .count) (y .edges)
+
+  targets-for : (u : ℕ) (o : Player) (p : ℕ) (ts : List Pair)
       → positions eqb (keysOf w v (c .known)) (map pairKey ts) ≡ map (λ q. position samePair q (st .known)) ts
-      → map (λ t. edgeTo t) (edgesFor u (keysOf w v (c .known)) (map pairKey ts)) ≡ settled u o p ts .edges
-  unfolding edgesFor settledVertex totalised totalisedBy
-  edges-for u o p [] s = refl
-  edges-for u o p (t ∷ ts) s = ap (map (λ n. edgeTo n)) s ∙ edges-map (λ q. position samePair q (st .known)) (t ∷ ts)
+      → edgesFor u (keysOf w v (c .known)) (map pairKey ts) ≡ targetWords (settled u o p ts)
+  unfolding edgesFor settledVertex totalised totalisedBy ruledEdge
+  targets-for u o p [] s = refl
+  targets-for u o p (t ∷ ts) s = s ∙ sym (map-map (λ (d : Edge). d .target) (edge u) (t ∷ ts))
 
-  stretch-at : (u : ℕ) → u < c .known → (¬ In u (st .waiting)) → Stretch (keyTargets x) (rootKey x) w v c u
+  counts-for : (u : ℕ) (o : Player) (p : ℕ) (ts : List Pair)
+      → map (keyBehind x (pairKey (pair u))) (map pairKey ts) ≡ map (transitionsBehind x (pair u)) ts
+      → countsFor (keyBehind x (pairKey (pair u))) (map pairKey ts) ≡ countWords (settled u o p ts)
+  unfolding countsFor settledVertex totalised totalisedBy ruledEdge
+  counts-for u o p [] s = refl
+  counts-for u o p (t ∷ ts) s = s ∙ sym (map-map (λ (d : Edge). d .count) (edge u) (t ∷ ts))
+
+  stretch-at : (u : ℕ) → u < c .known → (¬ In u (st .waiting))
+      → Stretch (keyTargets x) (keyBehind x) (rootKey x) w v e c u
   stretch-at u h n = g .stretches u (omega (arith, length-keys w v (c .known)), λ m. n (subst (In u) same-waiting m))
 
-  part-edges : (u : ℕ) → u < c .known → (¬ In u (st .waiting)) → (o : Player) (p : ℕ)
-      → map (λ t. edgeTo t) (take (countIn w v u) (drop (8 * v + startIn w v u) w))
-      ≡ settled u o p (targets x (pair u)) .edges
-  unfolding edgesOf
-  part-edges u h n o p =
+  -- the targets of its edges as they stand in the buffer
+  abbrev targetsOf : ℕ → List ℕ
+  targetsOf u = take (degreeIn w v u) (drop (startIn w v u) (edgesOf w v e (c .edges)))
+
+  part-targets : (u : ℕ) → u < c .known → (¬ In u (st .waiting)) → (o : Player) (p : ℕ)
+      → targetsOf u ≡ targetWords (settled u o p (targets x (pair u)))
+  part-targets u h n o p =
       let s = stretch-at u h n in
-      ap (map (λ t. edgeTo t))
-      (sym (part-of-part (countIn w v u) (startIn w v u) (c .edges) (8 * v) w (s .inside))
-      ∙ s .row
-      ∙ ap (edgesFor u (keysOf w v (c .known))) (targets-at u h))
-      ∙ edges-for u o p (targets x (pair u)) (positions-at u h)
+      s .row
+      ∙ ap (edgesFor u (keysOf w v (c .known))) (targets-at u h)
+      ∙ targets-for u o p (targets x (pair u)) (positions-at u h)
+
+  part-counts : (u : ℕ) → u < c .known → (¬ In u (st .waiting)) → (o : Player) (p : ℕ)
+      → take (degreeIn w v u) (drop (startIn w v u) (countsOf w v e (c .edges)))
+      ≡ countWords (settled u o p (targets x (pair u)))
+  part-counts u h n o p =
+      let s = stretch-at u h n in
+      let key = pairKey (pair u) in
+      s .counts
+      ∙ ap (λ (l : ℕ). countsFor (keyBehind x l) (keyTargets x l)) (key-at u h)
+      ∙ ap (countsFor (keyBehind x key)) (moved x good (pair u) (pair-reached u h))
+      ∙ counts-for u o p (targets x (pair u)) (behind-moved x good (pair u) (pair-reached u h))
 
   -- there is an edge, if only to itself
-  some-edge : (u : ℕ) → u < c .known → (¬ In u (st .waiting)) → 0 < countIn w v u
+  some-edge : (u : ℕ) → u < c .known → (¬ In u (st .waiting)) → 0 < degreeIn w v u
   some-edge u h n =
       let o = owner x (pair u) in
-      let part : List ℕ = take (countIn w v u) (drop (8 * v + startIn w v u) w) in
-      let e : length part ≡ max 1 (length (ruledOf o 0 (targets x (pair u)) .edges))
-      = sym (length-map part (λ t. edgeTo t)) ∙ ap length (part-edges u h n o 0)
-      ∙ settled-degree u (ruledOf o 0 (targets x (pair u))) in
-      omega (arith, part-length (countIn w v u) (8 * v + startIn w v u) w)
+      let part : List ℕ = targetsOf u in
+      let y : Vertex = settled u o 0 (targets x (pair u)) in
+      let long : length part ≡ max 1 (length (ruledOf u o 0 (targets x (pair u)) .edges))
+      = ap length (part-targets u h n o 0) ∙ length-map (y .edges) (λ (d : Edge). d .target)
+      ∙ settled-degree u (ruledOf u o 0 (targets x (pair u))) in
+      omega (arith, part-length (degreeIn w v u) (drop (startIn w v u) (edgesOf w v e (c .edges))))
 
   waits-unsettled : (u : ℕ) → u < c .known → In u (st .waiting) → settledIn w v u ≡ false
   waits-unsettled u h m =
@@ -211,60 +201,70 @@ module _ (rank : Ranking) (x : Input) (good : GoodInput x) (k : ℕ) (kinds left
       let same : t ≡ pair u = sym (position-at pair-equality t (st .known) (initialPair x) known) ∙ ap (λ (i : ℕ). getD (st .known) i (initialPair x)) e in
       no-self-target x good (pair u) (reached-inside x good (pair u) (pair-reached u h)) (subst (λ (q : Pair). In q (targets x (pair u))) same m)
 
-  settled-priority : (u : ℕ) (o : Player) (p : ℕ) (ts : List Pair) → 0 < countIn w v u
-      → map (λ t. edgeTo t) (take (countIn w v u) (drop (8 * v + startIn w v u) w)) ≡ settled u o p ts .edges
+  -- the word that tells the target of its first edge
+  abbrev firstWord : ℕ → ℕ
+  firstWord u = word w (bufferEnd v e 0 - suc (startIn w v u))
+
+  settled-priority : (u : ℕ) (o : Player) (p : ℕ) (ts : List Pair) → 0 < degreeIn w v u
+      → startIn w v u + degreeIn w v u ≤ c .edges → targetsOf u ≡ targetWords (settled u o p ts)
       → ((t : Pair) → In t ts → ¬ (position samePair t (st .known) ≡ u))
-      → cond (loopsIn w v u) (stuckPriority o) p ≡ settled u o p ts .priority
-  unfolding settledVertex totalised totalisedBy loopsIn
-  settled-priority u o p [] some f other =
-      let part : List ℕ = take (countIn w v u) (drop (8 * v + startIn w v u) w) in
-      let l : part ≡ u ∷ [] = sym (targets-plain part) ∙ ap (map (λ (e : Edge). e .target)) f in
-      let e : word w (8 * v + startIn w v u) ≡ u = head-of-part (countIn w v u) (8 * v + startIn w v u) w u [] l in
-      rw (lt-ltb 0 (countIn w v u) some, eq-eqb (word w (8 * v + startIn w v u)) u e) refl
-  settled-priority u o p (t ∷ ts) some f other =
-      let part : List ℕ = take (countIn w v u) (drop (8 * v + startIn w v u) w) in
-      let more : List ℕ = map (λ (e : Edge). e .target) (ruledOf o p ts .edges) in
-      let l : part ≡ position samePair t (st .known) ∷ more
-      = sym (targets-plain part) ∙ ap (map (λ (e : Edge). e .target)) f in
-      let e : word w (8 * v + startIn w v u) ≡ position samePair t (st .known)
-      = head-of-part (countIn w v u) (8 * v + startIn w v u) w (position samePair t (st .known)) more l in
-      let apart = ne-eqb (word w (8 * v + startIn w v u)) u (λ q. other t (inl refl) (sym e ∙ q)) in
-      rw (lt-ltb 0 (countIn w v u) some, apart) refl
+      → cond (loopsIn w v e u) (stuckPriority o) p ≡ settled u o p ts .priority
+  unfolding settledVertex totalised totalisedBy loopsIn ruledEdge
+  settled-priority u o p [] some inside f other =
+      let first : firstWord u ≡ u = first-edge w v e u (c .edges) some inside u [] f in
+      rw (lt-ltb 0 (degreeIn w v u) some, eq-eqb (firstWord u) u first) refl
+  settled-priority u o p (t ∷ ts) some inside f other =
+      let more : List ℕ = map (λ (d : Edge). d .target) (ruledOf u o p ts .edges) in
+      let first : firstWord u ≡ position samePair t (st .known)
+      = first-edge w v e u (c .edges) some inside (position samePair t (st .known)) more f in
+      let apart = ne-eqb (firstWord u) u (λ q. other t (inl refl) (sym first ∙ q)) in
+      rw (lt-ltb 0 (degreeIn w v u) some, apart) refl
 
   abbrev ruled : ℕ → Vertex
   ruled u = settled u (owner x (pair u)) (priority rank x (pair u)) (targets x (pair u))
 
-  shown-settled : (u : ℕ) → u < c .known → (¬ In u (st .waiting)) → shownVertex kinds priorities w v u ≡ ruled u
+  shown-settled : (u : ℕ) → u < c .known → (¬ In u (st .waiting)) → shownVertex kinds priorities w v e u ≡ ruled u
   unfolding shownVertex shownPriority
   shown-settled u h n =
-      let some : settledIn w v u ≡ true = stretch-at u h n .settled in
-      let edged = part-edges u h n (owner x (pair u)) (priority rank x (pair u)) in
+      let s = stretch-at u h n in
+      let some : settledIn w v u ≡ true = s .settled in
+      let o = owner x (pair u) in
+      let p = priority rank x (pair u) in
+      let led = part-targets u h n o p in
       let a : shownOwner kinds w v u ≡ ruled u .owner
       = owner-settled kinds w v u some ∙ ap playerIndex (player-at u h)
-      ∙ sym (settled-owner u (ruledOf (owner x (pair u)) (priority rank x (pair u)) (targets x (pair u)))) in
-      let b : shownPriority kinds priorities w v u ≡ ruled u .priority
+      ∙ sym (settled-owner u (ruledOf u o p (targets x (pair u)))) in
+      let b : shownPriority kinds priorities w v e u ≡ ruled u .priority
       = rw (some, player-at u h, priority-at u h)
-      (settled-priority u (owner x (pair u)) (priority rank x (pair u)) (targets x (pair u)) (some-edge u h n) edged
-      (first-other u h n)) in
-      let d : map (λ t. edgeTo t) (shownEdges w v u) ≡ ruled u .edges
-      = ap (map (λ t. edgeTo t)) (edges-settled w v u some) ∙ edged in
+      (settled-priority u o p (targets x (pair u)) (some-edge u h n) (s .inside) led (first-other u h n)) in
+      let d : shownEdges w v e u ≡ ruled u .edges
+      = edges-settled w v e u (c .edges) (s .inside) (ruled u .edges) led (part-counts u h n o p) in
       λ i. record { owner = a i; priority = b i; edges = d i }
 
-  shown-waits : (u : ℕ) → u < c .known → In u (st .waiting) → shownVertex kinds priorities w v u ≡ waitingVertex
-  shown-waits u h m = shown-waiting kinds priorities w v u (waits-unsettled u h m)
+  shown-waits : (u : ℕ) → u < c .known → In u (st .waiting) → shownVertex kinds priorities w v e u ≡ waitingVertex
+  shown-waits u h m = shown-waiting kinds priorities w v e u (waits-unsettled u h m)
 
-  shown-vertex : (u : ℕ) → u < c .known → shownVertex kinds priorities w v u ≡ vertexAt samePair (targets x) (initialPair x) (owner x) (priority rank x) st u
+  -- what the rules give vertex u
+  abbrev at : ℕ → Vertex
+  at = vertexAt samePair (targets x) (initialPair x) (owner x) (priority rank x) (transitionsBehind x) st
+
+  shown-vertex : (u : ℕ) → u < c .known → shownVertex kinds priorities w v e u ≡ at u
   unfolding ruledVertex
   shown-vertex u h = go (in-or number-equality u (st .waiting))
     where
-      go : In u (st .waiting) ⊎ (¬ In u (st .waiting)) → shownVertex kinds priorities w v u ≡ vertexAt samePair (targets x) (initialPair x) (owner x) (priority rank x) st u
-      go (inl m) = shown-waits u h m ∙ sym (vertex-waits samePair (targets x) (initialPair x) (owner x) (priority rank x) st u m)
-      go (inr n) = shown-settled u h n ∙ sym (vertex-settled samePair (targets x) (initialPair x) (owner x) (priority rank x) st u n)
+      go : In u (st .waiting) ⊎ (¬ In u (st .waiting)) → shownVertex kinds priorities w v e u ≡ at u
+      go (inl m) =
+          shown-waits u h m
+          ∙ sym
+          (vertex-waits samePair (targets x) (initialPair x) (owner x) (priority rank x) (transitionsBehind x) st u m)
+      go (inr n) =
+          shown-settled u h n
+          ∙ sym
+          (vertex-settled samePair (targets x) (initialPair x) (owner x) (priority rank x) (transitionsBehind x) st u n)
 
   -- the vertices shown are those of the rules
-  pub shown-all : shownVertices kinds priorities w v (c .known) ≡ verticesOf rank x (walkOf x k)
+  pub shown-all : shownVertices kinds priorities w v e (c .known) ≡ verticesOf rank x (walkOf x k)
   unfolding shownVertices verticesOf vertices
   shown-all =
-      map-from (shownVertex kinds priorities w v) (vertexAt samePair (targets x) (initialPair x) (owner x) (priority rank x) st) 0 (c .known)
-      (λ u a b. shown-vertex u (omega arith))
-      ∙ ap (λ (n : ℕ). map (vertexAt samePair (targets x) (initialPair x) (owner x) (priority rank x) st) (from 0 n)) (sym known-many)
+      map-from (shownVertex kinds priorities w v e) at 0 (c .known) (λ u a b. shown-vertex u (omega arith))
+      ∙ ap (λ (n : ℕ). map at (from 0 n)) (sym known-many)

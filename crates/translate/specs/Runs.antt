@@ -28,22 +28,23 @@ pub record Prepared (x : Input) (compiled : List ℕ) (items : ℕ) : Type 0 whe
   pub tables : (matched : List ℕ) → MatchTable (x .labels) (x .actions) matched → Tables x compiled matched
 
 -- the game of the walk can be written out, where there was room for it
-abbrev pub Writable : (v size : ℕ) → List ℕ → Stepped → Type 0
-Writable v size work (Fits c) = Showable work v (c .known) (c .edges) size
-Writable v size work Full = Unit
+abbrev pub Writable : Room → (size : ℕ) → List ℕ → Stepped → Type 0
+Writable r size work (Fits c) = Showable work (r .vertices) (r .edges) (c .known) (c .edges) size
+Writable r size work Full = Unit
 
 -- what is left of a walk that there was room for: its answer says whether a vertex waits
-pub record Wrote (kinds priorities : List ℕ) (v : ℕ) (game work : List ℕ) (a : Answer) (game′ work′ : List ℕ)
+pub record Wrote (kinds priorities : List ℕ) (r : Room) (game work : List ℕ) (a : Answer) (game′ work′ : List ℕ)
     (c : Counters) : Type 0 where
   pub done : c .waiting ≡ 0 → a ≡ Done (c .settled) (c .known) (c .edges)
   pub cut : (c .waiting ≡ 0 → ⊥) → a ≡ Cut (c .settled) (c .known) (c .edges)
-  pub written : game′ ≡ padded (length game) (gameOf 0 (shownVertices kinds priorities work v (c .known)))
+  pub written : game′
+      ≡ padded (length game) (gameOf 0 (shownVertices kinds priorities work (r .vertices) (r .edges) (c .known)))
   pub cleared : work′ ≡ zeros work
 
-abbrev pub WroteOut : (kinds priorities : List ℕ) (v : ℕ) (game work : List ℕ) → Answer → (game′ work′ : List ℕ)
+abbrev pub WroteOut : (kinds priorities : List ℕ) (r : Room) (game work : List ℕ) → Answer → (game′ work′ : List ℕ)
     → Stepped → Type 0
-WroteOut kinds priorities v game work a game′ work′ (Fits c) = Wrote kinds priorities v game work a game′ work′ c
-WroteOut kinds priorities v game work a game′ work′ Full =
+WroteOut kinds priorities r game work a game′ work′ (Fits c) = Wrote kinds priorities r game work a game′ work′ c
+WroteOut kinds priorities r game work a game′ work′ Full =
     (a ≡ Refused 60 0) × (game′ ≡ zeros game) × (work′ ≡ zeros work)
 
 -- the answer and both slices afterwards are those of the rules' run by this ranking

@@ -20,7 +20,7 @@ ghost use Rattle.rules.specs.Run.{Outcome, run};
 ghost use Rattle.rules.specs.Demands.{Demand1, Demand3};
 ghost use Rattle.satisfaction.specs.Claims.{NoFalsePass};
 ghost use Rattle.compiled.specs.Stretches.{kindsIn, prioritiesIn};
-ghost use Rattle.settling.specs.Keys.{keyTargets, rootKey};
+ghost use Rattle.settling.specs.Keys.{keyTargets, keyBehind, rootKey};
 ghost use Rattle.settling.specs.Made.{Sized};
 ghost use Rattle.settling.specs.Good.{WalkAnswer};
 ghost use Rattle.stepping.specs.Tables.{Tables};
@@ -41,7 +41,7 @@ fn explore(
     requires { λ x. ⌜ inputOf (now labels) (now system) (now actions) (now formula) ≡ x ⌝ }
     requires { λ x. ⌜ Tables x (now compiled) (now matched) ⌝ }
     requires { λ x. ⌜ Sized (now work) (bounds .room .vertices) (bounds .room .edges) ⌝ }
-    ensures { λ x r. ⌜ WalkAnswer (keyTargets x) (rootKey x) (bounds .room .vertices) (bounds .room .edges)
+    ensures { λ x r. ⌜ WalkAnswer (keyTargets x) (keyBehind x) (rootKey x) (bounds .room .vertices) (bounds .room .edges)
         (bounds .limit) (now (work .exit)) r ⌝ }
 {
     let room = bounds.room;
@@ -65,19 +65,19 @@ fn explore(
 fn write_out(
     walked: Stepped,
     compiled: &Compiled,
-    vertices: u32,
+    room: Room,
     game: &mut [u32],
     work: &mut [u32],
 ) -> Answer
-    requires { ⌜ Writable vertices (length (now game)) (now work) walked ⌝ }
-    ensures { λ r. ⌜ WroteOut (kindsIn (now (compiled .entry))) (prioritiesIn (now (compiled .entry))) vertices
+    requires { ⌜ Writable room (length (now game)) (now work) walked ⌝ }
+    ensures { λ r. ⌜ WroteOut (kindsIn (now (compiled .entry))) (prioritiesIn (now (compiled .entry))) room
         (now (game .entry)) (now (work .entry)) r (now (game .exit)) (now (work .exit)) walked ⌝ }
 {
     match walked {
         Stepped::Fits(counters) => {
             let known = counters.known;
             let edges = counters.edges;
-            game_writer::write_game(game, work, compiled, vertices, known, edges);
+            game_writer::write_game(game, work, compiled, room, known, edges);
             words::clear(work); // nothing of the walk stays
             if counters.waiting == 0 {
                 return Answer::Done(counters.settled, known, edges);
@@ -124,7 +124,7 @@ fn build_game(
         formula,
         &matched,
     );
-    write_out(walked, compiled, bounds.room.vertices, game, work)
+    write_out(walked, compiled, bounds.room, game, work)
 }
 
 // An accepted input is compiled, with the priorities by depth, and its game is built.

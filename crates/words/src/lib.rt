@@ -41,8 +41,9 @@ pub fn operand_at(table: &[u32], node: usize) -> usize
     at(table, 1 + nodes + node)
 }
 
-// ---- the work slice of a run: eight regions with a word for each vertex that fits, then the edges. Its map stands
-// here alone. Regions 0 to 2 are the slots in which a pair is looked up (crate `pairs`)
+// ---- the work slice of a run: eight regions with a word for each vertex that fits, then the edges: a word for the target
+// of each that fits, then one for its count, both taken from the last word downwards. Its map stands here alone. Regions
+// 0 to 2 are the slots in which a pair is looked up (crate `pairs`)
 
 // The key of each vertex.
 pub const KEYS: u32 = 3;
@@ -54,9 +55,11 @@ pub const STACK: u32 = 4;
 pub const STARTS: u32 = 5;
 
 // 0 before a vertex is settled, then one more than the number of its edges.
-pub const COUNTS: u32 = 6;
+pub const DEGREES: u32 = 6;
 
-// The number of the step in which a vertex got its last edge from a modality.
+// One more than the place of the last edge that a modality gave a target, 0 before it has one. A target is told by its
+// state or by its vertex (crate `settling`); where there are more states than vertices, the marks may go on behind this
+// region, in words that no edge has taken yet.
 pub const MARKS: u32 = 7;
 
 // How many regions there are: the edges begin behind them.

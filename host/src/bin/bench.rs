@@ -7,7 +7,7 @@ use hingrezh::check::pgsolver::call as pgsolver;
 use hingrezh::check::pgsolver::large::{TEXT_SHAPES, TextInput, TextShape};
 use hingrezh::check::shapes::{SHAPES, Shape, WORST};
 use hingrezh::check::spread::Spread;
-use hingrezh::{Answer, Model, Room, bytes_of};
+use hingrezh::{Answer, Model, Room, bytes_of, game_words};
 use std::path::PathBuf;
 use std::process::{Command, ExitCode, Stdio};
 use std::time::Duration;
@@ -98,7 +98,7 @@ fn in_turn<T: Copy, const N: usize>(all: [T; N], mut work: impl FnMut(T)) -> [f6
 fn measure(model: &Model, room: Room) -> [Measured; 2] {
     let (v, e) = (room.vertices as usize, room.edges as usize);
     // Filled, so that no page is touched for the first time by a call.
-    let (mut game, mut work) = (vec![7; 4 + 3 * v + e], vec![7; 8 * v + 2 * e]);
+    let (mut game, mut work) = (vec![7; game_words(v, e)], vec![7; 8 * v + 2 * e]);
     let mut answer = [0; 4];
     let Model { labels, system, actions, formula } = model;
     let mut build = |by: Implementation| {
@@ -113,7 +113,7 @@ fn measure(model: &Model, room: Room) -> [Measured; 2] {
     });
     let seconds = in_turn([LIBRARY, PLAIN], build);
     let [_, _, n, m] = answer;
-    game.truncate(4 + 3 * n as usize + m as usize);
+    game.truncate(game_words(n as usize, m as usize));
     drop(work);
     let (mut out, mut map) = (vec![7; game.len()], vec![7; n as usize]);
     let mut queue = map.clone();
@@ -206,10 +206,10 @@ fn measure_text(TextInput { game, text }: &TextInput) -> TextMeasured {
         written_bytes = answer[1] as f64;
     }
     let Room { vertices, edges } = Room::MOST;
-    let mut game = vec![7; 4 + 3 * vertices as usize + edges as usize];
+    let mut game = vec![7; game_words(vertices as usize, edges as usize)];
     (pgsolver::PLAIN.read)(text, vertices, edges, &mut game, &mut answer);
     let [0, _, n, m] = answer else { panic!("a text that can be read: {answer:?}") };
-    game.truncate(4 + 3 * n as usize + m as usize);
+    game.truncate(game_words(n as usize, m as usize));
     let read = in_turn(all, |by| (by.read)(text, n, m, &mut game, &mut answer));
     assert_eq!(answer, [0, n, n, m], "a room that just holds the game");
     let (vertices, edges, bytes) = (n as f64, m as f64, text.len() as f64);

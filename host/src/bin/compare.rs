@@ -2,6 +2,7 @@
 //! text, and what is around all slices; and the verdicts of small games with what their formulas mean.
 use hingrezh::check::call::{Call, LIBRARY, Outcome, PLAIN, perform, show, unlawful};
 use hingrezh::check::cases::{self, Case};
+use hingrezh::check::counts;
 use hingrezh::check::damage::damage;
 use hingrezh::check::finished::{Expected, expected};
 use hingrezh::check::generate::{Random, Sizes, all_formulas, random_game, random_model, table};
@@ -12,7 +13,7 @@ use hingrezh::check::pgsolver::{generate as drafts, large};
 use hingrezh::check::places;
 use hingrezh::check::shapes::{SHAPES, WORST};
 use hingrezh::check::verdicts::{self, Tally, Verdict};
-use hingrezh::{Answer, Model};
+use hingrezh::{Answer, Model, game_words};
 use std::collections::BTreeMap;
 use std::process::ExitCode;
 use std::time::Instant;
@@ -21,7 +22,8 @@ const USAGE: &str = "\
 usage: compare [--oracle PROGRAM] [--seed N] [--times N] [--only TEXT]
 
 Runs the library and the plain Rust implementation on the same inputs and compares every word and byte that they leave,
-those around the lent slices included. Then solves small games of the library's (Even wins if the largest priority seen
+those around the lent slices included. The transitions behind each edge, of which the Rust original knows nothing, are
+counted from system and formula, too. Then solves small games of the library's (Even wins if the largest priority seen
 for ever is even) and compares who wins with the formula itself, read directly on the model. The ranking of fixpoints
 is the Rust original's: it gives false alarms (the formula holds, but Even does not win), which are counted. A false
 pass (Even wins, but the formula does not hold) is a difference.
@@ -46,6 +48,8 @@ struct Comparison {
     /// How often each answer of each call came: 0 for done, -1 for cut, else the refusal's number.
     answers: BTreeMap<(&'static str, i64), u64>,
     verdicts: Tally,
+    /// How many edges of finished games have no transition behind them, one, and several.
+    counts: [u64; 3],
     differences: u64,
     smallest: Option<(usize, String)>,
 }
@@ -53,7 +57,8 @@ struct Comparison {
 impl Comparison {
     fn new(oracle: Option<Oracle>, seed: u64) -> Comparison {
         let (random, answers, verdicts) = (Random::new(seed), BTreeMap::new(), Tally::default());
-        Comparison { oracle, random, inputs: 0, calls: 0, answers, verdicts, differences: 0, smallest: None }
+        let counts = [0; 3];
+        Comparison { oracle, random, inputs: 0, calls: 0, answers, verdicts, counts, differences: 0, smallest: None }
     }
 
     fn differs(&mut self, call: &Call, what: &str) {
@@ -150,12 +155,22 @@ impl Comparison {
         }
     }
 
-    /// Writes a game into slices of several lengths, then reads its text back into a room that just holds it, and a
-    /// text with names and in another order into several rooms.
+    /// Writes a game into slices of several lengths, with other counts to the same effect; then reads its text back
+    /// into a room that just holds it.
     fn round_trip(&mut self, game: &[u32]) {
+        let other = drafts::recounted(&mut self.random, game);
         for call in drafts::lengths(&mut self.random, game) {
             let written = self.text(&call);
             self.inputs += 1;
+            if let pgsolver::Call::Write { text, .. } = call {
+                let call = pgsolver::Call::Write { game: other.clone(), text };
+                let again = self.text(&call);
+                // A refusal leaves what was there, which is not the same in two calls.
+                let same = again.answer == written.answer && (again.answer[0] == 2 || again.text == written.text);
+                if !same {
+                    self.text_differs(&call, &format!("with other counts: {}", written.show()));
+                }
+            }
             if let [0, bytes, ..] = written.answer {
                 let new = large::without_repeats(game);
                 let call = pgsolver::Call::read(&written.text[..bytes as usize], new[0], new[1]);
@@ -191,7 +206,8 @@ impl Comparison {
         Ok(oracle.ask(requests)?.into_iter().map(Some).collect())
     }
 
-    /// Models that are accepted: the finished game comes from the oracle, other rooms and limits follow from it.
+    /// Models that are accepted: the finished game comes from the oracle, its counts from the model; other rooms and
+    /// limits follow from it.
     fn accepted(&mut self, models: Vec<Model>, tries: usize) -> Result<(), String> {
         for models in models.chunks(5_000) {
             let requests: Vec<Request> = models.iter().map(Request::Translate).collect();
@@ -206,6 +222,15 @@ impl Comparison {
                     }
                     None => finish(model),
                 };
+                let game = match counts::completed(model, &game) {
+                    Ok(game) => game,
+                    Err(what) => {
+                        self.differs(&Call::build(model.clone(), 1, 1, 1), &what);
+                        continue;
+                    }
+                };
+                let (_, counts) = game.split_at(game.len() - game[1] as usize);
+                counts.iter().for_each(|&count| self.counts[count.min(2) as usize] += 1);
                 self.rooms(model, &game, tries);
                 if self.random.chance(20) {
                     games.push(game);
@@ -251,10 +276,16 @@ impl Comparison {
                     Some(Reply::Words(words)) => {
                         let (n, m) = (words[0], words[1]);
                         let (new, map) = words.split_at(4 + 3 * n as usize + m as usize);
-                        self.known(&call, &Expected { answer: [0, n, n, m], game: new.to_vec() }, Some(map));
+                        let new = [new, &counts::carried(game, map)].concat();
+                        self.known(&call, &Expected { answer: [0, n, n, m], game: new }, Some(map));
                     }
                     Some(reply) => self.differs(&call, &format!("the oracle says {reply:?}")),
-                    None => drop(self.both(&call)),
+                    None => {
+                        let got = self.both(&call);
+                        if let Some(what) = wrong_counts(&call, &got) {
+                            self.differs(&call, &what);
+                        }
+                    }
                 }
             }
         }
@@ -268,9 +299,8 @@ impl Comparison {
             for (call, reply) in calls.iter().zip(self.replies(&requests)?) {
                 self.inputs += 1;
                 let got = self.both(call);
-                if let Some(reply) = reply
-                    && let Some(what) = disagreement(call, &got, &reply)
-                {
+                let other = reply.and_then(|reply| disagreement(call, &got, &reply));
+                if let Some(what) = other.or_else(|| wrong_counts(call, &got)) {
                     self.differs(call, &what);
                 }
             }
@@ -344,12 +374,29 @@ fn disagreement(call: &Call, got: &Outcome, reply: &Reply) -> Option<String> {
         (2, Reply::NotValid) => None,
         (1, Reply::Words(_)) => None,
         (0, Reply::Words(words)) => {
+            // It knows no counts.
             let end = 4 + 3 * n as usize + m as usize;
             let map = if matches!(call, Call::Build { .. }) { &[] } else { &got.map[..] };
             let same = words.len() == end + map.len() && words[..end] == got.game[..end] && words[end..] == *map;
             (!same).then(|| format!("the oracle's words {}\nplain's            {}", show(words), show(&got.game)))
         }
         _ => Some(format!("answer {:?}, but the oracle says {reply:?}", got.answer)),
+    }
+}
+
+/// The counts of a game that was built, against those of system and formula; of one that was restricted, against those
+/// that it had.
+fn wrong_counts(call: &Call, got: &Outcome) -> Option<String> {
+    let [0 | 1, _, n, m] = got.answer else { return None };
+    let wanted = match call {
+        Call::Build { model, .. } => counts::counts(model, &got.game),
+        Call::Restrict { game, .. } => Ok(counts::carried(game, &got.map)),
+    };
+    let end = game_words(n as usize, m as usize);
+    match wanted {
+        Err(what) => Some(what),
+        Ok(counts) if counts == got.game[end - m as usize..end] => None,
+        Ok(counts) => Some(format!("expected counts {}\nplain's game    {}", show(&counts), show(&got.game))),
     }
 }
 
@@ -637,6 +684,8 @@ fn report(comparison: &Comparison) {
             println!("{name}: {}", of_call.join(", "));
         }
     }
+    let [none, one, several] = comparison.counts;
+    println!("transitions behind edges of finished games: none {none}, one {one}, several {several}");
     println!("verdicts: {}", comparison.verdicts);
     println!("{} inputs, {} calls, {} differences", comparison.inputs, comparison.calls, comparison.differences);
 }

@@ -1,12 +1,13 @@
 //! Writes stored runs into the folder of the crates: `stdin` and `stdout` of the programs `replay`, `texts` and
 //! `pgsolver_runs`, `stdout` of `restricts`. These are calls as records and the lines that they must print (the formats
 //! are in check/record.rs), inputs of the thin program and their texts (check/texts.rs), and PGSolver texts written and
-//! read (check/pgsolver/stored.rs). The answers of accepted words are the oracle's, cut and given their room by
-//! check/finished.rs; those of refused words follow the rules' refusals as the plain implementation states them. Of
-//! PGSolver text the oracle knows nothing: there the outcomes are the plain implementation's, and those of the cases
-//! are written down by hand, too. The library is not asked.
+//! read (check/pgsolver/stored.rs). The answers of accepted words are the oracle's, given their counts by
+//! check/counts.rs, cut and given their room by check/finished.rs; those of refused words follow the rules' refusals as
+//! the plain implementation states them. Of PGSolver text the oracle knows nothing: there the outcomes are the plain
+//! implementation's, and those of the cases are written down by hand, too. The library is not asked.
 use hingrezh::check::call::{Call, LIBRARY, Outcome, PLAIN, perform, show, unlawful};
 use hingrezh::check::cases;
+use hingrezh::check::counts;
 use hingrezh::check::damage::damage;
 use hingrezh::check::finished::expected;
 use hingrezh::check::generate::{Random, Sizes, all_formulas, random_game, random_model, table};
@@ -117,16 +118,17 @@ fn outcome(call: &Call, reply: &Reply, fill: u32) -> Result<Outcome, String> {
         // The order and places of refusals are the rules' own; the oracle only says whether the words are valid.
         (_, _) if refused && [1, 2, 12, 22, 32, 42].contains(&plain.answer[1]) => Ok(plain),
         (Reply::NotValid, _) if refused => Ok(plain),
-        (Reply::Words(words), Call::Build { vertices, edges, limit, game, work, .. }) => {
-            let expected = expected(words, *vertices, *edges, *limit).ok_or("numbers of no walk")?;
+        (Reply::Words(words), Call::Build { model, vertices, edges, limit, game, work }) => {
+            let finished = counts::completed(model, words)?;
+            let expected = expected(&finished, *vertices, *edges, *limit).ok_or("numbers of no walk")?;
             let mut slice = expected.game;
             slice.resize(*game, 0);
             Ok(Outcome { answer: expected.answer, game: slice, map: vec![], work: vec![0; *work], intact: true })
         }
-        (Reply::Words(words), Call::Restrict { out, work, .. }) => {
+        (Reply::Words(words), Call::Restrict { game, out, work, .. }) => {
             let (n, m) = (words[0], words[1]);
             let (new, map) = words.split_at(4 + 3 * n as usize + m as usize);
-            let mut slice = new.to_vec();
+            let mut slice = [new, &counts::carried(game, map)].concat();
             slice.resize(*out, 0);
             Ok(Outcome { answer: [0, n, n, m], game: slice, map: map.to_vec(), work: vec![0; *work], intact: true })
         }

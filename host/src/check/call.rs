@@ -1,6 +1,6 @@
 //! One call with all that decides its outcome, performed on slices with guard words around them.
 use super::lent::Lent;
-use crate::{Model, library, plain};
+use crate::{Model, game_words, library, plain};
 
 /// A call that builds a game: labels, system, actions, formula; room for vertices and edges, step limit; game,
 /// work, answer.
@@ -33,7 +33,7 @@ impl Call {
     /// With slices of the right lengths.
     pub fn build(model: Model, vertices: u32, edges: u32, limit: u32) -> Call {
         let (v, e) = (vertices as usize, edges as usize);
-        Call::Build { model, vertices, edges, limit, game: 4 + 3 * v + e, work: 8 * v + 2 * e }
+        Call::Build { model, vertices, edges, limit, game: game_words(v, e), work: 8 * v + 2 * e }
     }
 
     pub fn restrict(game: Vec<u32>) -> Call {
@@ -137,7 +137,7 @@ pub fn unlawful(outcome: &Outcome, fill: u32) -> Option<&'static str> {
     }
     match answer {
         [0 | 1, _, vertices, edges] => {
-            let end = 4 + 3 * *vertices as usize + *edges as usize;
+            let end = game_words(*vertices as usize, *edges as usize);
             let fine = end <= game.len() && all(&game[end..], 0) && all(work, 0);
             (!fine).then_some("after done or cut, work or the words past the game's end are not 0")
         }

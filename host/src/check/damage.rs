@@ -81,6 +81,12 @@ fn damage_states(random: &mut Random, words: &mut Vec<u32>) {
     words[0] = s as u32;
 }
 
+/// A game as it was before edges had counts.
+fn drop_counts(game: &mut Vec<u32>) {
+    let counts = game.get(1).map_or(0, |&edges| edges as usize);
+    game.truncate(game.len().saturating_sub(counts));
+}
+
 fn damage_lent(random: &mut Random, length: &mut usize) {
     *length = match random.below(4) {
         0 => 0,
@@ -110,6 +116,8 @@ pub fn damage(random: &mut Random, call: &mut Call) {
             if random.chance(12) {
                 let length = one_of(random, [out, map, work]);
                 damage_lent(random, length)
+            } else if random.chance(4) {
+                drop_counts(game)
             } else {
                 let sizes: Vec<u32> = game.iter().take(2).copied().collect();
                 damage_words(random, game, &sizes)

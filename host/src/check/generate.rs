@@ -357,7 +357,7 @@ fn flatten(tree: &Tree, nodes: &mut Vec<(u32, u32)>, places: &mut Vec<(u32, u32)
     }
 }
 
-/// A game for the restriction; it may have vertices without edges, repeated edges and any initial vertex.
+/// A game for the restriction; it may have vertices without edges, repeated edges, any initial vertex and any counts.
 pub fn random_game(random: &mut Random, most: usize) -> Vec<u32> {
     let some = random.within(1, most);
     let n = random.pick(&[1, 2, 3, some]);
@@ -375,5 +375,12 @@ pub fn random_game(random: &mut Random, most: usize) -> Vec<u32> {
         offset
     }));
     words.extend((0..m).map(|_| random.below(n) as u32));
+    words.extend((0..m).map(|_| count(random)));
     words
+}
+
+/// The count of an edge: no number is wrong.
+pub fn count(random: &mut Random) -> u32 {
+    let any = random.word() as u32;
+    random.pick(&[0, 1, 2, any, u32::MAX])
 }

@@ -1,7 +1,7 @@
 //! The kinds of place at which refusals arise, and which kind a refused call shows.
 use super::call::{Call, PLAIN, perform};
 use super::places::base;
-use crate::Model;
+use crate::{Model, game_words};
 
 /// Every kind of place by number.
 pub const KINDS: [(u32, &[&str]); 24] = [
@@ -121,7 +121,7 @@ pub const KINDS: [(u32, &[&str]); 24] = [
             "two words",
             "too few for n and m",
             "too many for n and m",
-            "4 + 3n + m wraps to the length",
+            "4 + 3n + 2m wraps to the length",
             "no vertex",
             "n too large",
             "m too large",
@@ -207,7 +207,7 @@ pub fn kind(call: &Call, number: u32, place: u32) -> String {
         (_, 1) => room(words[0], words[1]),
         (Call::Build { vertices, edges, .. }, 2) => {
             let (v, e) = (*vertices as usize, *edges as usize);
-            lent(&["game slice", "work slice"], &words, &[4 + 3 * v + e, 8 * v + 2 * e])
+            lent(&["game slice", "work slice"], &words, &[game_words(v, e), 8 * v + 2 * e])
         }
         (Call::Restrict { game, .. }, 2) => {
             let n = game[0] as usize;
@@ -217,10 +217,10 @@ pub fn kind(call: &Call, number: u32, place: u32) -> String {
         (_, 21) => length(&words, 3, 3, &[(0, 1), (1, 2)], "S and T"),
         (_, 31) => length(&words, 1, 1, &[(0, 2)], "m"),
         (_, 41) => length(&words, 1, 1, &[(0, 2)], "n"),
-        (_, 51) if words.len() >= 3 && total(&words, 4, &[(0, 3), (1, 1)]) == words.len() as u64 => {
+        (_, 51) if words.len() >= 3 && total(&words, 4, &[(0, 3), (1, 2)]) == words.len() as u64 => {
             size(number, &words)
         }
-        (_, 51) => length(&words, 3, 4, &[(0, 3), (1, 1)], "n and m"),
+        (_, 51) => length(&words, 3, 4, &[(0, 3), (1, 2)], "n and m"),
         (_, 12 | 22 | 32 | 42) => size(number, &words),
         (_, 13) => label_number(&words, at),
         (_, 23) => "initial state is S or more".to_string(),
@@ -280,7 +280,7 @@ fn length(words: &[u32], least: usize, head: u64, sizes: &[(usize, u64)], of: &s
     }
     let right = total(words, head, sizes);
     if right as u32 as usize == found {
-        let sum = ["2 + 2A", "3 + S + 2T", "1 + 2m", "1 + 2n", "4 + 3n + m"];
+        let sum = ["2 + 2A", "3 + S + 2T", "1 + 2m", "1 + 2n", "4 + 3n + 2m"];
         let at = ["A", "S and T", "m", "n", "n and m"].iter().position(|name| *name == of).unwrap_or(0);
         return format!("{} wraps to the length", sum[at]);
     }

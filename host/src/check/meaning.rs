@@ -86,7 +86,7 @@ pub(super) fn moves(model: &Model, node: usize) -> Vec<(usize, usize)> {
     let (degrees, transitions) = model.system[3..].split_at(s);
     let (labels, targets) = transitions.split_at(t);
     let sources = degrees.iter().enumerate().flat_map(|(state, &degree)| std::iter::repeat_n(state, degree as usize));
-    let matched: Vec<bool> = (0..model.labels[0]).map(|label| matches(model, operands[node] as usize, label)).collect();
+    let matched = matched(model, operands[node] as usize);
     sources
         .zip(labels.iter().zip(targets))
         .filter(|(_, (label, _))| matched[**label as usize])
@@ -94,27 +94,33 @@ pub(super) fn moves(model: &Model, node: usize) -> Vec<(usize, usize)> {
         .collect()
 }
 
-/// Whether an action tree matches a label.
-fn matches(model: &Model, node: usize, label: u32) -> bool {
+/// For each label whether an action tree matches it.
+pub(super) fn matched(model: &Model, tree: usize) -> Vec<bool> {
+    let multisets = multisets(model);
+    (0..multisets.len()).map(|label| matches(model, &multisets, tree, label)).collect()
+}
+
+fn matches(model: &Model, multisets: &[Vec<u32>], node: usize, label: usize) -> bool {
     let (kinds, operands) = model.actions[1..].split_at(model.actions[0] as usize);
     let (left, right) = (node + 1, operands[node] as usize);
+    let of = |node: usize| matches(model, multisets, node, label);
     match kinds[node] {
         0 => true,
         1 => false,
-        2 => multiset(model, operands[node]) == multiset(model, label),
-        3 => matches(model, left, label) || matches(model, right, label),
-        4 => matches(model, left, label) && matches(model, right, label),
-        _ => !matches(model, left, label),
+        2 => multisets[operands[node] as usize] == multisets[label],
+        3 => of(left) || of(right),
+        4 => of(left) && of(right),
+        _ => !of(left),
     }
 }
 
-/// The actions of a label in order of their numbers, repeats included.
-fn multiset(model: &Model, label: u32) -> Vec<u32> {
+/// The actions of each label in order of their numbers, repeats included.
+fn multisets(model: &Model) -> Vec<Vec<u32>> {
+    let mut multisets = vec![Vec::new(); model.labels[0] as usize];
     let (labels, actions) = model.labels[2..].split_at(model.labels[1] as usize);
-    let of_label = labels.iter().zip(actions).filter(|(of, _)| **of == label);
-    let mut actions: Vec<u32> = of_label.map(|(_, action)| *action).collect();
-    actions.sort_unstable();
-    actions
+    labels.iter().zip(actions).for_each(|(&label, &action)| multisets[label as usize].push(action));
+    multisets.iter_mut().for_each(|actions| actions.sort_unstable());
+    multisets
 }
 
 #[cfg(test)]

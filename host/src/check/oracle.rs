@@ -1,4 +1,5 @@
-//! Talks to the oracle, the Rust original behind the same words: many requests to a process.
+//! Talks to the oracle, the Rust original behind the same words: many requests to a process. It knows no counts: they
+//! are taken off a game that it is asked about, and its games end with their targets.
 use crate::{Model, bytes_of, words_of};
 use std::io::{self, Error, Read, Write};
 use std::path::PathBuf;
@@ -63,8 +64,17 @@ fn encode(request: &Request) -> Vec<u8> {
     match request {
         // Request 1: the actions of a formula's multi-actions are sorted first, so that they are alike by multiset.
         Request::Translate(model) => [bytes_of(&[1]), model.to_bytes()].concat(),
-        Request::Restrict(game) => [bytes_of(&[2, game.len() as u32]), bytes_of(game)].concat(),
+        Request::Restrict(game) => {
+            let game = without_counts(game);
+            [bytes_of(&[2, game.len() as u32]), bytes_of(game)].concat()
+        }
     }
+}
+
+/// A game without the last m words, its counts. Words that have the wrong length with them have it without them, too.
+fn without_counts(game: &[u32]) -> &[u32] {
+    let counts = game.get(1).map_or(0, |&edges| edges as usize);
+    &game[..game.len().saturating_sub(counts)]
 }
 
 fn decode(mut words: &[u32]) -> Vec<Reply> {

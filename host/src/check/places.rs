@@ -139,29 +139,30 @@ const FORMULAS: [(&str, u32, u32); 47] = [
     ("4 2 6 0 8 3 0 0 1", 45, 3),
 ];
 
-const GAMES: [(&str, u32, u32); 22] = [
+const GAMES: [(&str, u32, u32); 23] = [
     ("", 51, 0),
     ("1", 51, 0),
     ("1 0", 51, 0),
     ("1 0 0", 51, 0),
     ("1 0 0 0 0 0", 51, 0),
     ("1 0 0 0 0 0 0 0", 51, 0),
-    ("1 4294967292 0", 51, 0),
+    ("1 1 0 0 0 0 1 0", 51, 0),
+    ("1 2147483646 0", 51, 0),
     ("1431655766 0 0 0 0 0", 51, 0),
     ("0 0 0 0", 51, 0),
-    ("0 1 0 0 0", 51, 0),
-    ("1 1 0 0 0 1 1 0", 52, 5),
-    ("3 2 0 0 0 0 0 0 0 0 2 1 2 0 0", 52, 11),
-    ("2 1 0 0 1 0 0 0 2 1 0", 52, 9),
-    ("1 1 0 0 0 0 0 0", 52, 6),
-    ("1 1 0 0 0 0 2 0", 52, 6),
-    ("1 1 1 0 0 0 1 0", 53, 2),
-    ("1 1 4294967295 0 0 0 1 0", 53, 2),
-    ("1 1 0 2 0 0 1 0", 53, 3),
-    ("2 1 0 0 2 0 0 0 1 1 0", 53, 4),
-    ("1 1 0 0 0 0 1 1", 53, 7),
-    ("1 1 0 0 0 0 1 4294967295", 53, 7),
-    ("1 2 0 0 0 0 2 0 1", 53, 8),
+    ("0 1 0 0 0 0", 51, 0),
+    ("1 1 0 0 0 1 1 0 0", 52, 5),
+    ("3 2 0 0 0 0 0 0 0 0 2 1 2 0 0 1 1", 52, 11),
+    ("2 1 0 0 1 0 0 0 2 1 0 5", 52, 9),
+    ("1 1 0 0 0 0 0 0 0", 52, 6),
+    ("1 1 0 0 0 0 2 0 0", 52, 6),
+    ("1 1 1 0 0 0 1 0 0", 53, 2),
+    ("1 1 4294967295 0 0 0 1 0 0", 53, 2),
+    ("1 1 0 2 0 0 1 0 0", 53, 3),
+    ("2 1 0 0 2 0 0 0 1 1 0 2", 53, 4),
+    ("1 1 0 0 0 0 1 1 0", 53, 7),
+    ("1 1 0 0 0 0 1 4294967295 4294967295", 53, 7),
+    ("1 2 0 0 0 0 2 0 1 9 9", 53, 8),
 ];
 
 /// Two faults of one group of words: the smaller number, or the smaller place, answers.
@@ -201,14 +202,14 @@ const TWO_IN_FORMULAS: [(&str, u32, u32); 12] = [
     ("4 2 0 8 6 2 0 0 0", 44, 3),
 ];
 const TWO_IN_GAMES: [(&str, u32, u32); 8] = [
-    ("0 1 1 1 9", 51, 0),
-    ("1 1 1 2 0 1 1 1", 52, 5),
-    ("2 1 0 0 0 0 0 1 0 1 0", 52, 7),
-    ("3 1 0 0 0 0 0 0 0 0 2 1 0 9", 52, 11),
-    ("1 1 1 2 0 0 1 1", 53, 2),
-    ("1 1 0 2 0 0 1 1", 53, 3),
-    ("2 2 0 2 2 0 0 0 1 2 2 2", 53, 3),
-    ("1 2 0 0 0 0 2 1 1", 53, 7),
+    ("0 1 1 1 9 0", 51, 0),
+    ("1 1 1 2 0 1 1 1 0", 52, 5),
+    ("2 1 0 0 0 0 0 1 0 1 0 0", 52, 7),
+    ("3 1 0 0 0 0 0 0 0 0 2 1 0 9 0", 52, 11),
+    ("1 1 1 2 0 0 1 1 0", 53, 2),
+    ("1 1 0 2 0 0 1 1 0", 53, 3),
+    ("2 2 0 2 2 0 0 0 1 2 2 2 0 0", 53, 3),
+    ("1 2 0 0 0 0 2 1 1 0 0", 53, 7),
 ];
 
 /// One state with a loop on label 0, which is action 7; the formula is true.
@@ -302,15 +303,15 @@ pub fn pairs() -> Vec<Case> {
             let (vertices, edges, limit) = (16, 32, 99);
             let lent = |game, work| Call::Build { model: model.clone(), vertices, edges, limit, game, work };
             all.push(refusal(Call::build(model.clone(), 0, 32, 99), 1, 0));
-            all.push(refusal(lent(85, 192), 2, 0));
-            all.push(refusal(lent(84, 191), 2, 0));
+            all.push(refusal(lent(117, 192), 2, 0));
+            all.push(refusal(lent(116, 191), 2, 0));
             // Room for less than the game needs: 60 is last.
             all.push(refusal(Call::build(model.clone(), 1, 1, 99), number, place));
         }
     }
     for &(text, number, place) in last_of_each(&GAMES) {
         let lent = |out, map, work| Call::Restrict { game: words(text), out, map, work };
-        all.extend([lent(0, 1, 1), lent(9, 2, 1), lent(8, 1, 0)].map(|call| refusal(call, number, place)));
+        all.extend([lent(0, 1, 1), lent(11, 2, 1), lent(9, 1, 0)].map(|call| refusal(call, number, place)));
     }
     let model = base();
     let (vertices, edges) = (0, 32);

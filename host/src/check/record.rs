@@ -14,17 +14,17 @@
 //! | 12 to 75 | the slices one after the other, zeros past them | the same |
 //!
 //! The slices have at most 64 words in all, V is at most 16 and E at most 32, and no lent slice is longer than
-//! 4 + 3 * 16 + 32 + 1 = 85 (game or output), 65 (map) or 8 * 16 + 2 * 32 + 1 = 193 words (work): the lengths that
+//! 4 + 3 * 16 + 2 * 32 + 1 = 117 (game or output), 65 (map) or 8 * 16 + 2 * 32 + 1 = 193 words (work): the lengths that
 //! V and E ask for, and one more.
 //!
 //! A line has the answer as the thin program prints it, `|`, the words of the game slice (or the output), `|`, the
 //! words of the map (none for a build), `|`, and how many words of the work slice are not 0; parted by one space.
 use super::call::{Call, Outcome};
-use crate::{Answer, Model, bytes_of};
+use crate::{Answer, Model, bytes_of, game_words};
 
 pub const RECORD: usize = 76;
 const HEAD: usize = 12;
-const MOST_GAME: usize = 85;
+const MOST_GAME: usize = game_words(16, 32) + 1;
 const MOST_MAP: usize = 65;
 const MOST_WORK: usize = 193;
 

@@ -4,7 +4,7 @@
 //! Solved, it must give the verdict that [`meaning`](super::meaning) gives, always. So a game of the library's that is
 //! won otherwise is a matter of its ranking, and not of the solver or of the direct reading.
 use super::meaning;
-use crate::Model;
+use crate::{Model, game_words};
 
 struct Vertex {
     owner: u32,
@@ -77,5 +77,7 @@ fn words(vertices: &[Vertex], initial: u32) -> Vec<u32> {
         offset
     }));
     words.extend(vertices.iter().flat_map(|vertex| &vertex.targets));
+    // Equal moves are edges of their own here, and who wins does not depend on counts.
+    words.resize(game_words(vertices.len(), edges), 0);
     words
 }

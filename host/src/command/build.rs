@@ -38,7 +38,7 @@ pub fn write(given: &Given, answer: &Answer, form: &Form, map: Option<&[u32]>) -
     match given.output().filter(|&file| file != STREAM) {
         None => {
             form.write(out).and_then(|()| out.flush()).map_err(failed)?;
-            if !matches!(form, Form::Lines(..)) {
+            if !matches!(form, Form::Lines(..) | Form::CountedLines(..)) {
                 complain(&answer.to_string());
             }
         }

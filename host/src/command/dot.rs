@@ -2,6 +2,7 @@
 use super::input::{Input, STREAM, name, open};
 use super::options::Given;
 use super::{CUT, DONE, Failure, NO_WORDS, REFUSED, no_room, output, status_of, told};
+use crate::explain::lacks_counts;
 use crate::{Answer, Game, Model, Player, Room};
 use std::io::{self, BufWriter, Write};
 
@@ -11,6 +12,7 @@ const SMALL: Room = Room { vertices: 1_000, edges: 4_000 };
 const HEAD: &str = "\
 // Diamonds are Even's vertices, boxes Odd's, dashed ones still wait; inside is the priority, beside the vertex.
 // The largest priority seen for ever decides, an even one for Even; the formula holds if Even wins vertex 0.
+// A number at an edge says how many transitions are behind it, where there are several.
 digraph game {
   node [fontname=\"sans-serif\"];
   start [shape=point];";
@@ -56,7 +58,7 @@ fn game_of(given: &Given, room: Room) -> Result<(Vec<u32>, u8), Failure> {
             Ok((words, status))
         }
         (_, Ok(model)) => built(Input::new(model, file), given, room),
-        (Err(fault), _) if fault.number == 51 => {
+        (Err(fault), _) if fault.number == 51 && !lacks_counts(&words) => {
             let message = "neither the words of a game nor four lengths and their words";
             Err(Failure::new(NO_WORDS, format!("{}: {message}", name(file))))
         }
@@ -81,8 +83,11 @@ fn draw(out: &mut impl Write, game: Game) -> io::Result<()> {
             Some(Player::Odd) => writeln!(out, "  {vertex} [shape=box, label={priority}, xlabel={vertex}];")?,
             None => writeln!(out, "  {vertex} [shape=ellipse, style=dashed, label=\"?\", xlabel={vertex}];")?,
         }
-        for target in game.successors(vertex) {
-            writeln!(out, "  {vertex} -> {target};")?;
+        for (target, &count) in game.successors(vertex).iter().zip(game.counts(vertex)) {
+            match count {
+                0 | 1 => writeln!(out, "  {vertex} -> {target};")?,
+                _ => writeln!(out, "  {vertex} -> {target} [label={count}];")?,
+            }
         }
     }
     writeln!(out, "}}")

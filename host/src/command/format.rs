@@ -2,7 +2,7 @@
 //! lines for people.
 use super::Failure;
 use super::output::write_words;
-use crate::{Answer, Refusal, game_lines, try_write_pgsolver};
+use crate::{Answer, Refusal, counted_lines, game_lines, try_write_pgsolver};
 use std::borrow::Cow;
 use std::io::{self, Write};
 
@@ -11,18 +11,26 @@ pub enum Format {
     Pgsolver,
     Words,
     Lines,
+    /// Lines that show counts, too: `--counts` makes them of lines.
+    CountedLines,
 }
 
 impl Format {
+    /// Those that the option names.
     pub const ALL: [Format; 3] = [Format::Pgsolver, Format::Words, Format::Lines];
 
-    /// As the option names it.
+    /// As the option names it, and a manifest.
     pub fn name(self) -> &'static str {
         match self {
             Format::Pgsolver => "pgsolver",
             Format::Words => "words",
             Format::Lines => "lines",
+            Format::CountedLines => "lines with counts",
         }
+    }
+
+    pub fn is_lines(self) -> bool {
+        matches!(self, Format::Lines | Format::CountedLines)
     }
 
     /// How the name of a night's game ends.
@@ -30,7 +38,7 @@ impl Format {
         match self {
             Format::Pgsolver => "pg",
             Format::Words => "game",
-            Format::Lines => "lines",
+            Format::Lines | Format::CountedLines => "lines",
         }
     }
 }
@@ -40,6 +48,7 @@ pub enum Form<'a> {
     Text(Cow<'a, [u8]>),
     Words(&'a [u32]),
     Lines(&'a Answer, &'a [u32]),
+    CountedLines(&'a Answer, &'a [u32]),
 }
 
 impl Form<'_> {
@@ -53,6 +62,7 @@ impl Form<'_> {
         match format {
             Format::Words => Ok(Form::Words(game)),
             Format::Lines => Ok(Form::Lines(answer, game)),
+            Format::CountedLines => Ok(Form::CountedLines(answer, game)),
             Format::Pgsolver => {
                 let written = try_write_pgsolver(game)?;
                 match written.answer {
@@ -68,6 +78,7 @@ impl Form<'_> {
             Form::Text(text) => out.write_all(text),
             Form::Words(game) => write_words(out, game),
             Form::Lines(answer, game) => game_lines(out, answer, game),
+            Form::CountedLines(answer, game) => counted_lines(out, answer, game),
         }
     }
 }

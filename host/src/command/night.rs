@@ -208,6 +208,7 @@ impl Night {
             },
             Format::Words => Form::Words(self.slices.game()),
             Format::Lines => Form::Lines(answer, self.slices.game()),
+            Format::CountedLines => Form::CountedLines(answer, self.slices.game()),
         };
         let written = output::replace(&task.game, &output::part_of(&task.game, ""), |file| {
             let mut out = BufWriter::new(Summed::new(file));

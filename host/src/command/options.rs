@@ -18,6 +18,7 @@ pub const EDGES: Choice = Choice { names: &["--edges"], takes_value: true };
 pub const LIMIT: Choice = Choice { names: &["--limit"], takes_value: true };
 pub const OUTPUT: Choice = Choice { names: &["-o", "--output", "--words"], takes_value: true };
 pub const FORMAT: Choice = Choice { names: &["--format"], takes_value: true };
+pub const COUNTS: Choice = Choice { names: &["--counts"], takes_value: false };
 pub const MAP: Choice = Choice { names: &["--map"], takes_value: false };
 pub const ALL: Choice = Choice { names: &["--all"], takes_value: false };
 const HELP: Choice = Choice { names: &["--help", "-h"], takes_value: false };
@@ -92,7 +93,14 @@ impl Given {
     pub fn format(&self, otherwise: Format) -> Result<Format, Failure> {
         let wrong = |value: &str| usage(format!("--format wants pgsolver, words or lines, not {value:?}"));
         let named = |value: &str| Format::ALL.into_iter().find(|format| format.name() == value);
-        self.value(&FORMAT).map_or(Ok(otherwise), |value| named(value).ok_or_else(|| wrong(value)))
+        let format = self.value(&FORMAT).map_or(Ok(otherwise), |value| named(value).ok_or_else(|| wrong(value)))?;
+        match format {
+            _ if !self.has(&COUNTS) => Ok(format),
+            Format::Lines => Ok(Format::CountedLines),
+            other => {
+                Err(usage(format!("--counts is for lines, and the format is {}: add --format lines", other.name())))
+            }
+        }
     }
 
     pub fn limit(&self) -> Result<u32, Failure> {

@@ -1,5 +1,5 @@
 //! The part of a game that its initial vertex reaches.
-use super::format::{Form, Format};
+use super::format::Form;
 use super::input::{STREAM, name, open};
 use super::options::{Given, MAP};
 use super::{DONE, Failure, USAGE, build, told};
@@ -9,7 +9,7 @@ pub fn run(given: &Given) -> Result<u8, Failure> {
     let [file] = &given.files[..] else { return Err(Failure::new(USAGE, "exactly one file is wanted")) };
     let format = given.format(build::usual(given))?;
     let streamed = given.output().is_none_or(|output| output == STREAM);
-    if given.has(&MAP) && streamed && format != Format::Lines {
+    if given.has(&MAP) && streamed && !format.is_lines() {
         return Err(Failure::new(USAGE, "--map is a line, and the game no lines: one of them to standard output"));
     }
     given.output_apart()?;

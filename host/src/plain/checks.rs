@@ -17,9 +17,9 @@ pub fn sizes(vertices: u32, edges: u32) -> Result<(), Fault> {
     unless((1..=MOST_VERTICES).contains(&vertices) && (1..=MOST_EDGES).contains(&edges), 1, 0)
 }
 
-/// The length of a game slice for a room.
+/// The length of a game slice for a room: a target and a count for each edge.
 pub fn game_words(vertices: u32, edges: u32) -> usize {
-    4 + 3 * vertices as usize + edges as usize
+    4 + 3 * vertices as usize + 2 * edges as usize
 }
 
 pub fn room(vertices: u32, edges: u32, game: usize, work: usize) -> Result<(), Fault> {
@@ -134,7 +134,7 @@ fn roots(ends: &[u32]) -> Vec<bool> {
 }
 
 pub fn game(words: &[u32]) -> Result<(), Fault> {
-    unless(words.len() >= 3 && words.len() as u64 == 4 + 3 * words[0] as u64 + words[1] as u64, 51, 0)?;
+    unless(words.len() >= 3 && words.len() as u64 == 4 + 3 * words[0] as u64 + 2 * words[1] as u64, 51, 0)?;
     unless((1..=MOST_VERTICES).contains(&words[0]) && words[1] <= MOST_EDGES, 51, 0)?;
     let (n, m) = (words[0] as usize, words[1]);
     let (first, last) = (3 + 2 * n, 3 + 3 * n);
@@ -144,7 +144,7 @@ pub fn game(words: &[u32]) -> Result<(), Fault> {
     })?;
     unless((words[2] as usize) < n, 53, 2)?;
     none_of(3..3 + n, 53, |at| words[at] > 1)?;
-    none_of(4 + 3 * n..words.len(), 53, |at| words[at] as usize >= n)
+    none_of(4 + 3 * n..4 + 3 * n + m as usize, 53, |at| words[at] as usize >= n)
 }
 
 /// The slices lent to the restriction.

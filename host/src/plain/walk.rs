@@ -8,7 +8,8 @@ fn pair(state: u32, item: u32) -> u32 {
 
 /// The work slice, divided, and the run's counters.
 struct Walk<'a> {
-    /// 2V slots of key and vertex + 1 (0: empty), searched upwards from the key's own: at most half are taken.
+    /// 3V/2 slots of key and vertex + 1 (0: empty), searched upwards from the key's own: at most two thirds are taken,
+    /// but for one vertex the only one.
     slots: &'a mut [[u32; 2]],
     /// The pair of each vertex.
     pairs: &'a mut [u32],
@@ -16,11 +17,12 @@ struct Walk<'a> {
     stack: &'a mut [u32],
     /// Of a settled vertex: where its edges begin in `edges`, and how many they are.
     starts: &'a mut [u32],
-    counts: &'a mut [u32],
-    /// Targets in the order of settling.
-    edges: &'a mut [u32],
-    /// At a vertex less 1: the last step that gave it an edge of a modality.
+    degrees: &'a mut [u32],
+    /// Of each target, by its state or its vertex: one past the place of the last edge that a modality gave it.
     marks: &'a mut [u32],
+    /// Targets in the order of settling, and the transitions behind each.
+    edges: &'a mut [u32],
+    counts: &'a mut [u32],
     known: usize,
     waiting: usize,
     made: usize,
@@ -32,17 +34,18 @@ struct Full;
 
 impl<'a> Walk<'a> {
     fn new(work: &'a mut [u32], v: usize, e: usize) -> Self {
-        let (slots, rest) = work.split_at_mut(4 * v);
+        let (slots, rest) = work.split_at_mut(3 * v);
         let (pairs, rest) = rest.split_at_mut(v);
         let (stack, rest) = rest.split_at_mut(v);
         let (starts, rest) = rest.split_at_mut(v);
-        let (counts, rest) = rest.split_at_mut(v);
-        let (edges, marks) = rest.split_at_mut(e);
+        let (degrees, rest) = rest.split_at_mut(v);
+        let (marks, rest) = rest.split_at_mut(v);
+        let (edges, counts) = rest.split_at_mut(e);
         slots.fill(0);
-        counts.fill(0);
+        degrees.fill(0);
         marks.fill(0);
         let slots = slots.as_chunks_mut::<2>().0;
-        Walk { slots, pairs, stack, starts, counts, edges, marks, known: 0, waiting: 0, made: 0, settled: 0 }
+        Walk { slots, pairs, stack, starts, degrees, marks, edges, counts, known: 0, waiting: 0, made: 0, settled: 0 }
     }
 
     /// The vertex of a pair, a new one if it has none yet.
@@ -52,6 +55,10 @@ impl<'a> Walk<'a> {
         while self.slots[at][1] != 0 {
             if self.slots[at][0] == pair {
                 return Ok(self.slots[at][1] - 1);
+            }
+            // The only slot of the smallest room.
+            if self.slots.len() == 1 {
+                return Err(Full);
             }
             at += 1;
             if at == self.slots.len() {
@@ -67,15 +74,16 @@ impl<'a> Walk<'a> {
         Ok(vertex as u32)
     }
 
-    fn edge(&mut self, target: u32) -> Result<(), Full> {
+    fn edge(&mut self, target: u32, count: u32) -> Result<(), Full> {
         *self.edges.get_mut(self.made).ok_or(Full)? = target;
+        self.counts[self.made] = count;
         self.made += 1;
         Ok(())
     }
 
     fn target(&mut self, state: u32, item: u32) -> Result<(), Full> {
         let vertex = self.number(pair(state, item))?;
-        self.edge(vertex)
+        self.edge(vertex, 0)
     }
 
     /// Settles the vertex that was numbered last.
@@ -92,31 +100,39 @@ impl<'a> Walk<'a> {
                 self.target(state, left)?;
                 self.target(state, right)?;
             }
-            4 | 5 => self.modality(system.transitions(state), compiled.set(right), left)?,
+            4 | 5 => self.modality(system, state, compiled.set(right), left)?,
             _ => self.target(state, left)?,
         }
         if self.made == start {
-            self.edge(vertex)?;
+            self.edge(vertex, 0)?;
         }
         self.starts[vertex as usize] = start as u32;
-        self.counts[vertex as usize] = (self.made - start) as u32;
+        self.degrees[vertex as usize] = (self.made - start) as u32;
         self.settled += 1;
         Ok(())
     }
 
-    fn modality(&mut self, (labels, targets): (&[u32], &[u32]), set: &[u64], operand: u32) -> Result<(), Full> {
-        let step = self.settled as u32 + 1;
+    /// Where there is a mark for each state the marks go by the state: then only the first transition to a state looks
+    /// its pair up.
+    fn modality(&mut self, system: &System, state: u32, set: &[u64], operand: u32) -> Result<(), Full> {
+        let start = self.made as u32;
+        let by_state = system.states() <= self.marks.len();
+        let (labels, targets) = system.transitions(state);
         for (&label, &state) in labels.iter().zip(targets) {
             if set[label as usize / 64] >> (label % 64) & 1 == 0 {
                 continue;
             }
+            if by_state && self.marks[state as usize] > start {
+                self.counts[self.marks[state as usize] as usize - 1] += 1;
+                continue;
+            }
             let vertex = self.number(pair(state, operand))?;
-            // Every vertex but 0 was numbered for an edge, and 0 is an equation, which is no operand of a modality.
-            // So a vertex past the marks is one more than there is room for edges.
-            let mark = self.marks.get_mut(vertex as usize - 1).ok_or(Full)?;
-            if *mark != step {
-                *mark = step;
-                self.edge(vertex)?;
+            let mark = &mut self.marks[if by_state { state } else { vertex } as usize];
+            if *mark > start {
+                self.counts[*mark as usize - 1] += 1;
+            } else {
+                *mark = self.made as u32 + 1;
+                self.edge(vertex, 1)?;
             }
         }
         Ok(())
@@ -141,6 +157,10 @@ impl<'a> System<'a> {
             start
         }));
         System { starts, labels: &words[3 + s..3 + s + t], targets: &words[3 + s + t..] }
+    }
+
+    fn states(&self) -> usize {
+        self.starts.len() - 1
     }
 
     fn transitions(&self, state: u32) -> (&[u32], &[u32]) {
@@ -192,23 +212,27 @@ fn write_game(walk: &Walk, items: &[Item], game: &mut [u32]) {
     let (head, rest) = game.split_at_mut(3);
     let (owners, rest) = rest.split_at_mut(n);
     let (priorities, rest) = rest.split_at_mut(n);
-    let (offsets, targets) = rest.split_at_mut(n + 1);
+    let (offsets, rest) = rest.split_at_mut(n + 1);
+    let (targets, rest) = rest.split_at_mut(m);
+    let (counts, past) = rest.split_at_mut(m);
     head.copy_from_slice(&[n as u32, m as u32, 0]);
     let mut offset = 0;
     for vertex in 0..n {
         offsets[vertex] = offset as u32;
-        let count = walk.counts[vertex] as usize;
+        let degree = walk.degrees[vertex] as usize;
         // A settled vertex has an edge.
-        if count == 0 {
+        if degree == 0 {
             (owners[vertex], priorities[vertex]) = (2, 0);
             continue;
         }
-        let edges = &walk.edges[walk.starts[vertex] as usize..][..count];
+        let start = walk.starts[vertex] as usize;
+        let edges = &walk.edges[start..][..degree];
         let item = &items[walk.pairs[vertex] as usize % 2_048];
         (owners[vertex], priorities[vertex]) = owner_and_priority(item, vertex, edges);
-        targets[offset..offset + count].copy_from_slice(edges);
-        offset += count;
+        targets[offset..offset + degree].copy_from_slice(edges);
+        counts[offset..offset + degree].copy_from_slice(&walk.counts[start..][..degree]);
+        offset += degree;
     }
     offsets[n] = offset as u32;
-    targets[m..].fill(0);
+    past.fill(0);
 }

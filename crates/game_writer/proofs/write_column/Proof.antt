@@ -13,19 +13,19 @@ use Rattle.game_writer.proofs.write_column.Statement.{statement}
 use Rattle.game_writer.proofs.write_column.Tie as tie
 
 abbrev Inv-loop : tie.InvT-loop
-Inv-loop work compiled vertices known column game₀ start vertex₀ place₀ game vertex place =
-    (vertex ≤ known) × Writing place
-    (map (shownWord (kindsIn compiled) (prioritiesIn compiled) work vertices column) (from vertex (known - vertex)))
-    game start (map (shownWord (kindsIn compiled) (prioritiesIn compiled) work vertices column) (from 0 known)) game₀
+Inv-loop work compiled room known column game₀ start vertex₀ place₀ game vertex place =
+    let shown = shownWord (kindsIn compiled) (prioritiesIn compiled) work (room .vertices) (room .edges) column in
+    (vertex ≤ known)
+    × Writing place (map shown (from vertex (known - vertex))) game start (map shown (from 0 known)) game₀
 
 abbrev μ-loop : tie.MeasureT-loop
-μ-loop work compiled vertices known column game₀ start vertex₀ place₀ game vertex place = known - vertex
+μ-loop work compiled room known column game₀ start vertex₀ place₀ game vertex place = known - vertex
 
 -- the words of the column
 abbrev shown : tie.Start Inv-loop μ-loop → ℕ → ℕ
 shown s =
     shownWord (kindsIn (now (s .args .compiled))) (prioritiesIn (now (s .args .compiled))) (now (s .args .work))
-    (s .args .vertices) (s .args .column)
+    (s .args .room .vertices) (s .args .room .edges) (s .args .column)
 
 loop-holds : tie.Need-loop-holds Inv-loop μ-loop
 loop-holds c =

@@ -1,6 +1,6 @@
 use Rattle.compiled.specs.Stretches.{kindsIn, prioritiesIn}
 use denote.Ref.{now}
-use Prim.Native.Nat.{_-_}
+use Prim.Native.Nat.{ℕ, _-_}
 use native.Mathlib.Omega.{arith}
 use mathlib.Core.List.{List}
 use lib.ListN.{drop}
@@ -13,12 +13,24 @@ use Rattle.game_writer.proofs.write_columns.Statement.{statement}
 use Rattle.game_writer.proofs.write_columns.Tie as tie
 
 abbrev Inv-loop : tie.InvT-loop
-Inv-loop work compiled vertices known game₀ start all column₀ place₀ game column place =
-    let shown = shownVertices (kindsIn compiled) (prioritiesIn compiled) work vertices known in
+Inv-loop work compiled room known game₀ start all column₀ place₀ game column place =
+    let shown = shownVertices (kindsIn compiled) (prioritiesIn compiled) work (room .vertices) (room .edges) known in
     Writing place (columns (drop column vertexColumns) shown) game start (columns vertexColumns shown) game₀
 
 abbrev μ-loop : tie.MeasureT-loop
-μ-loop work compiled vertices known game₀ start all column₀ place₀ game column place = all - column
+μ-loop work compiled room known game₀ start all column₀ place₀ game column place = all - column
+
+abbrev kinds : tie.Start Inv-loop μ-loop → List ℕ
+kinds s = kindsIn (now (s .args .compiled))
+
+abbrev priorities : tie.Start Inv-loop μ-loop → List ℕ
+priorities s = prioritiesIn (now (s .args .compiled))
+
+-- the vertices that are written
+abbrev shown : tie.Start Inv-loop μ-loop → List Vertex
+shown s =
+    shownVertices (kinds s) (priorities s) (now (s .args .work)) (s .args .room .vertices) (s .args .room .edges)
+    (s .args .known)
 
 vertex-columns-requires : tie.Need-vertex-columns-requires Inv-loop μ-loop
 vertex-columns-requires c κs = tt
@@ -32,7 +44,10 @@ write-column-requires c κs =
     let at-loop = at-loop-test .before in
     let at-vertex-columns = at-loop .before in
     let start = at-vertex-columns .before .before .before in
-    let h = column-room (kindsIn (now (start .args .compiled))) (prioritiesIn (now (start .args .compiled))) (now (start .args .work)) (start .args .vertices) (start .args .known) (at-loop .loop .column) (omega (arith, at-loop-test .loop-test .taken, at-vertex-columns .vertex-columns .ensures)) (start .pre .1) (at-loop .loop .inv) in
+    let h = column-room (kinds start) (priorities start) (now (start .args .work)) (start .args .room .vertices)
+    (start .args .room .edges) (start .args .known) (at-loop .loop .column)
+    (omega (arith, at-loop-test .loop-test .taken, at-vertex-columns .vertex-columns .ensures)) (start .pre .1)
+    (at-loop .loop .inv) in
     (start .pre .0, (omega (arith, at-loop-test .loop-test .taken, at-vertex-columns .vertex-columns .ensures), h))
 
 add-column : tie.Need-add-column Inv-loop μ-loop
@@ -46,10 +61,12 @@ loop-again c =
     let at-write-column = c .before .before in
     let at-loop = at-write-column .before .before .before in
     let start = at-loop .before .before .before .before in
-    let vs : List Vertex = shownVertices (kindsIn (now (start .args .compiled))) (prioritiesIn (now (start .args .compiled))) (now (start .args .work)) (start .args .vertices) (start .args .known) in
-    columns-put vertexColumns vs (at-loop .loop .column) (omega (arith, at-write-column .before .before .loop-test .taken, at-loop .before .vertex-columns .ensures))
-    (column-shown (kindsIn (now (start .args .compiled))) (prioritiesIn (now (start .args .compiled))) (now (start .args .work)) (start .args .vertices) (at-loop .loop .column) (start .args .known))
-    (at-write-column .write-column .kept .1 .1 .1 .1 .1 .0) (at-write-column .write-column .ensures) (at-loop .loop .inv)
+    columns-put vertexColumns (shown start) (at-loop .loop .column)
+    (omega (arith, at-write-column .before .before .loop-test .taken, at-loop .before .vertex-columns .ensures))
+    (column-shown (kinds start) (priorities start) (now (start .args .work)) (start .args .room .vertices)
+    (start .args .room .edges) (at-loop .loop .column) (start .args .known))
+    (at-write-column .write-column .kept .1 .1 .1 .1 .1 .0) (at-write-column .write-column .ensures)
+    (at-loop .loop .inv)
 
 same-length : tie.Need-same-length Inv-loop μ-loop
 same-length c = c .before .loop .inv .long
@@ -57,8 +74,8 @@ same-length c = c .before .loop .inv .long
 returns : tie.Need-returns Inv-loop μ-loop
 returns c =
     let at-loop = c .before in
-    let start = at-loop .before .before .before .before in
-    columns-done vertexColumns (shownVertices (kindsIn (now (start .args .compiled))) (prioritiesIn (now (start .args .compiled))) (now (start .args .work)) (start .args .vertices) (start .args .known)) (at-loop .loop .column) (omega (arith, c .loop-test .left, at-loop .before .vertex-columns .ensures)) (at-loop .loop .inv)
+    columns-done vertexColumns (shown (at-loop .before .before .before .before)) (at-loop .loop .column)
+    (omega (arith, c .loop-test .left, at-loop .before .vertex-columns .ensures)) (at-loop .loop .inv)
 
 pub write-columns-spec : {M : Type 1} → statement M
 write-columns-spec =

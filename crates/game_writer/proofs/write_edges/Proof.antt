@@ -1,15 +1,44 @@
-use Prim.Native.Nat.{_+_, _*_}
+use denote.Ref.{now}
+use Prim.Native.Nat.{_+_, _-_, _*_, _≤_}
 use native.Mathlib.Omega.{arith}
-use Rattle.game_writer.proofs.Vertices.{settled-read, waits-read, wrote-some, wrote-none}
+use Rattle.settling.specs.Stand.{startIn, degreeIn}
+use Rattle.game_writer.proofs.Vertices.{settled-read, waits-read, column-end, wrote-some, wrote-none}
 use borrow.Author.Needs.{needs}
 use Rattle.game_writer.proofs.write_edges.Statement.{statement}
 use Rattle.game_writer.proofs.write_edges.Tie as tie
+
+-- the entry, and the words that were read of the vertex
+abbrev entry : tie.After-region-word2 → tie.Start
+entry c = c .before .before .before .before .before .before
+
+abbrev held : tie.After-region-word2 → tie.After-region-word
+held c = c .before .before .before
+
+-- its edges stand in the buffer
+within : (c : tie.After-region-word2)
+    → startIn (now (entry c .args .work)) (entry c .args .room .vertices) (entry c .args .vertex .0)
+    + degreeIn (now (entry c .args .work)) (entry c .args .room .vertices) (entry c .args .vertex .0)
+    ≤ entry c .args .room .edges
+within c =
+    entry c .pre .0 .edged .stretch (entry c .args .vertex .0) (omega arith)
+    (settled-read _ _ _ _ (held c .region-word .ensures) (c .before .before .if1 .left))
+
+-- the column ends in the buffer
+column-ends : (c : tie.After-region-word2)
+    → (8 * entry c .args .room .vertices + entry c .args .room .edges ≤ c .before .buffer-end .result)
+    × (c .before .buffer-end .result ≤ 8 * entry c .args .room .vertices + 2 * entry c .args .room .edges)
+column-ends c =
+    let ends = column-end (entry c .args .room .vertices) (entry c .args .room .edges) (entry c .args .column)
+    (entry c .pre .1 .0) in
+    (omega (arith, ends, c .before .buffer-end .ensures), omega (arith, ends, c .before .buffer-end .ensures))
 
 region-word-requires : tie.Need-region-word-requires
 region-word-requires c κs = search needs
 
 returns : tie.Need-returns
-returns c = wrote-none _ _ _ _ _ (waits-read _ _ _ _ (c .before .region-word .ensures) (c .if1 .taken))
+returns c =
+    wrote-none _ _ _ _ (c .before .before .before .before .args .column) _ _
+    (waits-read _ _ _ _ (c .before .region-word .ensures) (c .if1 .taken))
 
 sub-count : tie.Need-sub-count
 sub-count c = search needs
@@ -17,38 +46,39 @@ sub-count c = search needs
 cast-count : tie.Need-cast-count
 cast-count c = search needs
 
-mul-first : tie.Need-mul-first
-mul-first c = search needs
+buffer-end-requires : tie.Need-buffer-end-requires
+buffer-end-requires c κs = search needs
 
 region-word-requires-2 : tie.Need-region-word-requires-2
 region-word-requires-2 c κs = search needs
 
-cast-first : tie.Need-cast-first
-cast-first c = search needs
+cast-past : tie.Need-cast-past
+cast-past c = search needs
 
-add-first : tie.Need-add-first
-add-first c = search needs
+sub-past : tie.Need-sub-past
+sub-past c = omega (arith, column-ends c, c .region-word2 .ensures, within c)
 
-add-copy : tie.Need-add-copy
-add-copy c = search needs
-
-copy-requires : tie.Need-copy-requires
-copy-requires c κs =
-    let at-if1 = c .before .before in
-    let at-region-word = at-if1 .before in
-    let start = at-region-word .before .before .before in
-    (omega arith, omega (arith, start .pre .1 (settled-read _ _ _ _ (at-region-word .region-word .ensures) (at-if1 .if1 .left)), at-region-word .region-word .ensures, c .before .region-word2 .ensures), omega (arith, start .pre .0 .2, at-region-word .region-word .ensures, at-if1 .if1 .left))
+copy-down-requires : tie.Need-copy-down-requires
+copy-down-requires c κs =
+    let at = c .before in
+    let start = entry at in (
+      omega (arith, column-ends at, at .region-word2 .ensures, held at .region-word .ensures, within at),
+      omega (arith, column-ends at, start .pre .0 .placed .whole),
+      omega (arith, start .pre .1 .1, held at .region-word .ensures),
+    )
 
 same-length : tie.Need-same-length
 same-length c = search needs
 
 returns-2 : tie.Need-returns-2
 returns-2 c =
-    let at-region-word2 = c .before .before .before .before in
-    let at-if1 = at-region-word2 .before in
-    let at-region-word = at-if1 .before in
-    let start = at-region-word .before .before .before in
-    wrote-some (start .args .work .now) (start .args .vertices) (start .args .vertex .0) (8 * start .args .vertices + at-region-word2 .region-word2 .result) _ (settled-read _ _ _ _ (at-region-word .region-word .ensures) (at-if1 .if1 .left)) (omega (arith, at-region-word2 .region-word2 .ensures)) (omega (arith, at-region-word .region-word .ensures)) (omega (arith, start .pre .1 (settled-read _ _ _ _ (at-region-word .region-word .ensures) (at-if1 .if1 .left)), at-region-word .region-word .ensures, at-region-word2 .region-word2 .ensures)) (c .before .before .copy .ensures)
+    let at = c .before .before .before .before in
+    let start = entry at in
+    wrote-some (now (start .args .work)) (start .args .room .vertices) (start .args .room .edges)
+    (start .args .vertex .0) (start .args .column) (at .before .buffer-end .result - at .region-word2 .result)
+    (held at .region-word .result - 1) (start .pre .1 .0)
+    (omega (arith, at .before .buffer-end .ensures, at .region-word2 .ensures))
+    (omega (arith, held at .region-word .ensures)) (c .before .before .copy-down .ensures)
 
 pub write-edges-spec : {M : Type 1} → statement M
 write-edges-spec =
@@ -58,11 +88,10 @@ write-edges-spec =
     returns
     sub-count
     cast-count
-    mul-first
+    buffer-end-requires
     region-word-requires-2
-    cast-first
-    add-first
-    add-copy
-    copy-requires
+    cast-past
+    sub-past
+    copy-down-requires
     same-length
     returns-2)

@@ -10,10 +10,10 @@ use Rattle.compiled.specs.Stretches.{kindsIn, prioritiesIn}
 use Rattle.rules.specs.Game.{Vertex, edgeCount, gameOf}
 use Rattle.words.proofs.Stretches.{Writing, called}
 use Rattle.parity_game.proofs.Calls.{behindHeader, behindColumns, behindOffsets, header-done, columns-fit, offsets-fit}
-use Rattle.parity_game.proofs.Calls.{targets-fit, game-fits, game-done}
+use Rattle.parity_game.proofs.Calls.{edges-fit, last-done, game-fits, game-done}
 use Rattle.game_writer.specs.Shown.{shownVertices}
 use Rattle.game_writer.proofs.Edges.{total}
-use Rattle.game_writer.proofs.Whole.{placed, edges-within, showing, shown-length}
+use Rattle.game_writer.proofs.Whole.{showing, shown-length}
 use borrow.Author.Needs.{needs}
 use Rattle.game_writer.proofs.write_game.Statement.{statement}
 use Rattle.game_writer.proofs.write_game.Tie as tie
@@ -26,15 +26,21 @@ priorities s = prioritiesIn (now (s .args .compiled))
 
 -- the vertices that are written, and how many they and their edges are
 abbrev shown : tie.Start → List Vertex
-shown s = shownVertices (kinds s) (priorities s) (now (s .args .work)) (s .args .vertices) (s .args .known)
+shown s =
+    shownVertices (kinds s) (priorities s) (now (s .args .work)) (s .args .room .vertices) (s .args .room .edges)
+    (s .args .known)
 
 many : (s : tie.Start) → s .args .known ≡ length (shown s)
-many s = sym (shown-length (kinds s) (priorities s) (now (s .args .work)) (s .args .vertices) (s .args .known))
+many s =
+    sym
+    (shown-length (kinds s) (priorities s) (now (s .args .work)) (s .args .room .vertices) (s .args .room .edges)
+    (s .args .known))
 
 most : (s : tie.Start) → s .args .edges ≡ edgeCount (shown s)
 most s =
     sym (s .pre .total)
-    ∙ sym (total (kinds s) (priorities s) (now (s .args .work)) (s .args .vertices) (s .args .known) (edges-within (s .pre)))
+    ∙ sym (total (kinds s) (priorities s) (now (s .args .work)) (s .args .room .vertices) (s .args .room .edges)
+    (s .args .known))
 
 -- so much is left of the game, where `at` words of it are written
 abbrev Left : tie.Start → (at : ℕ) (left : List ℕ) (out : List ℕ) → Type 0
@@ -71,14 +77,14 @@ offsets c =
     called (c .write-offsets .kept .1 .1 .1 .0) (c .write-offsets .ensures (kinds s) (priorities s))
     (columns (c .before .before .before .before))
 
-abbrev targets-start : tie.After-write-targets → tie.Start
-targets-start c = offsets-start (c .before .before .before .before)
+abbrev edges-start : tie.After-write-edge-columns → tie.Start
+edges-start c = offsets-start (c .before .before .before .before)
 
-targets : (c : tie.After-write-targets)
-    → Left (targets-start c) (c .write-targets .result) [] (c .write-targets .last .1 .1 .1 .0)
-targets c =
-    let s = targets-start c in
-    called (c .write-targets .kept .1 .1 .1 .0) (c .write-targets .ensures (kinds s) (priorities s))
+edges : (c : tie.After-write-edge-columns)
+    → Left (edges-start c) (c .write-edge-columns .result) [] (c .write-edge-columns .last .1 .1 .1 .0)
+edges c =
+    let s = edges-start c in
+    last-done (c .write-edge-columns .kept .1 .1 .1 .0) (c .write-edge-columns .ensures (kinds s) (priorities s))
     (offsets (c .before .before .before .before))
 
 write-header-requires : tie.Need-write-header-requires
@@ -93,24 +99,24 @@ write-offsets-requires : tie.Need-write-offsets-requires
 write-offsets-requires c κs =
     let s = columns-start (c .before .before .before) in
     let fit = offsets-fit (shown s) _ _ (many s) (most s) (s .pre .room) (columns (c .before .before .before)) in
-    (placed (s .pre), (edges-within (s .pre), (omega (arith, s .pre .total), omega (arith, fit))))
+    (s .pre .placed, (omega (arith, s .pre .total), omega (arith, fit)))
 
-write-targets-requires : tie.Need-write-targets-requires
-write-targets-requires c κs =
+write-edge-columns-requires : tie.Need-write-edge-columns-requires
+write-edge-columns-requires c κs =
     let s = offsets-start (c .before .before .before) in
-    let fit = targets-fit (shown s) _ _ (many s) (most s) (s .pre .room) (offsets (c .before .before .before)) in
-    (placed (s .pre), (edges-within (s .pre), omega (arith, fit, s .pre .total)))
+    let fit = edges-fit (shown s) _ _ (many s) (most s) (s .pre .room) (offsets (c .before .before .before)) in
+    (showing (s .pre), omega (arith, fit, s .pre .total))
 
 fill-requires : tie.Need-fill-requires
 fill-requires c κs =
-    let s = targets-start (c .before .before .before) in
-    game-fits (shown s) _ _ (many s) (most s) (s .pre .room) (targets (c .before .before .before))
+    let s = edges-start (c .before .before .before) in
+    game-fits (shown s) _ _ (many s) (most s) (s .pre .room) (edges (c .before .before .before))
 
 same-length : tie.Need-same-length
 same-length c = search needs
 
 returns : tie.Need-returns
-returns c = game-done (targets (c .before .before .before .before .before .before)) (c .before .before .fill .ensures)
+returns c = game-done (edges (c .before .before .before .before .before .before)) (c .before .before .fill .ensures)
 
 pub write-game-spec : {M : Type 1} → statement M
 write-game-spec =
@@ -119,7 +125,7 @@ write-game-spec =
     write-header-requires
     write-columns-requires
     write-offsets-requires
-    write-targets-requires
+    write-edge-columns-requires
     fill-requires
     same-length
     returns)

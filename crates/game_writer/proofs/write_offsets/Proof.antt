@@ -14,32 +14,36 @@ use Rattle.game_writer.proofs.write_offsets.Statement.{statement}
 use Rattle.game_writer.proofs.write_offsets.Tie as tie
 
 abbrev Inv-loop : tie.InvT-loop
-Inv-loop work vertices known game₀ start vertex₀ edges₀ place₀ game vertex edges place =
-    (vertex ≤ known) × (edges ≡ degreesIn work vertices vertex)
+Inv-loop work room known game₀ start vertex₀ edges₀ place₀ game vertex edges place =
+    (vertex ≤ known) × (edges ≡ degreesIn work (room .vertices) vertex)
     × ((kinds priorities : List ℕ)
-    → Writing place (offsets edges (later kinds priorities work vertices known vertex)) game start
-    (offsets 0 (shownVertices kinds priorities work vertices known)) game₀)
+    → Writing place (offsets edges (later kinds priorities work (room .vertices) (room .edges) known vertex)) game start
+    (offsets 0 (shownVertices kinds priorities work (room .vertices) (room .edges) known)) game₀)
 
 abbrev μ-loop : tie.MeasureT-loop
-μ-loop work vertices known game₀ start vertex₀ edges₀ place₀ game vertex edges place = known - vertex
+μ-loop work room known game₀ start vertex₀ edges₀ place₀ game vertex edges place = known - vertex
 
 loop-holds : tie.Need-loop-holds Inv-loop μ-loop
 loop-holds c =
     let start = c .before .before in
-    (omega arith, below-none (now (start .args .work)) (start .args .vertices), λ ks ps. offsets-start ks ps (now (start .args .work)) (start .args .vertices) (start .args .known) (start .pre .1 .0))
+    let work = now (start .args .work) in (
+      omega arith,
+      below-none work (start .args .room .vertices),
+      λ ks ps. offsets-start ks ps work (start .args .room .vertices) (start .args .room .edges) (start .args .known),
+    )
 
-count-of-requires : tie.Need-count-of-requires Inv-loop μ-loop
-count-of-requires c κs =
+degree-of-requires : tie.Need-degree-of-requires Inv-loop μ-loop
+degree-of-requires c κs =
     let start = c .before .before .before .before in
     let p = start .pre .0 in
-    (p .regions, omega (arith, p .known, c .loop-test .taken))
+    (omega (arith, p .whole), omega (arith, p .known, c .loop-test .taken))
 
 -- there is room for the next word, and for the last
 room : (c : tie.At-loop Inv-loop μ-loop) → c .loop .place < length (c .loop .game)
 room c =
     let start = c .before .before .before in
-    offsets-room [] [] (now (start .args .work)) (start .args .vertices) (start .args .known) (start .pre .1 .0)
-    (c .loop .edges) (c .loop .vertex) (c .loop .inv .0) (start .pre .1 .1 .1) (c .loop .inv .2 [] [])
+    offsets-room [] [] (now (start .args .work)) (start .args .room .vertices) (start .args .room .edges)
+    (start .args .known) (c .loop .edges) (c .loop .vertex) (c .loop .inv .0) (start .pre .1 .1) (c .loop .inv .2 [] [])
 
 mul-game : tie.Need-mul-game Inv-loop μ-loop
 mul-game c = omega (arith, room (c .before .before), c .before .before .loop .inv .2 [] [] .long)
@@ -54,8 +58,9 @@ add-edges : tie.Need-add-edges Inv-loop μ-loop
 add-edges c =
     let start = c .before .before .before .before .before in
     let l = c .before .before .loop in
-    let most = below-most [] [] (now (start .args .work)) (start .args .vertices) (start .args .known) (start .pre .1 .0) (l .vertex) in
-    omega (arith, most (c .before .loop-test .taken), l .inv .1, c .count-of .ensures, start .pre .1 .1 .0)
+    let most = below-most [] [] (now (start .args .work)) (start .args .room .vertices) (start .args .room .edges)
+    (start .args .known) (l .vertex) in
+    omega (arith, most (c .before .loop-test .taken), l .inv .1, c .degree-of .ensures, start .pre .1 .0)
 
 add-vertex : tie.Need-add-vertex Inv-loop μ-loop
 add-vertex c = omega arith
@@ -68,9 +73,11 @@ loop-again c =
     let start = c .before .before .before .before .before in
     let l = c .before .before .loop in (
       omega arith,
-      below-more (now (start .args .work)) (start .args .vertices) (l .vertex) (l .edges) _ (l .inv .1) (c .count-of .ensures),
-      λ ks ps. offsets-put ks ps (now (start .args .work)) (start .args .vertices) (start .args .known) (start .pre .1 .0) (l .edges) (l .vertex) _
-          (c .count-of .ensures) (c .before .loop-test .taken) (room (c .before .before)) (l .inv .2 ks ps),
+      below-more (now (start .args .work)) (start .args .room .vertices) (l .vertex) (l .edges) _ (l .inv .1)
+          (c .degree-of .ensures),
+      λ ks ps. offsets-put ks ps (now (start .args .work)) (start .args .room .vertices) (start .args .room .edges)
+          (start .args .known) (l .edges) (l .vertex) _ (c .degree-of .ensures) (c .before .loop-test .taken)
+          (room (c .before .before)) (l .inv .2 ks ps),
     )
 
 mul-game-2 : tie.Need-mul-game-2 Inv-loop μ-loop
@@ -91,8 +98,8 @@ returns : tie.Need-returns Inv-loop μ-loop
 returns c =
     let start = c .before .before .before .before in
     let l = c .before .loop in
-    λ ks ps. offsets-done ks ps (now (start .args .work)) (start .args .vertices) (start .args .known) (start .pre .1 .0) (l .edges) (l .vertex) (c .loop-test .left)
-    (room (c .before)) (l .inv .2 ks ps)
+    λ ks ps. offsets-done ks ps (now (start .args .work)) (start .args .room .vertices) (start .args .room .edges)
+    (start .args .known) (l .edges) (l .vertex) (c .loop-test .left) (room (c .before)) (l .inv .2 ks ps)
 
 pub write-offsets-spec : {M : Type 1} → statement M
 write-offsets-spec =
@@ -101,7 +108,7 @@ write-offsets-spec =
     Inv-loop
     μ-loop
     loop-holds
-    count-of-requires
+    degree-of-requires
     mul-game
     slice-write-game
     add-place

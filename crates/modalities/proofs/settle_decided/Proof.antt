@@ -7,7 +7,7 @@ use lib.Dec.{eqb}
 use Rattle.rules.specs.Lists.{once}
 use Rattle.rules.specs.Labels.{labelCount}
 use Rattle.rules.specs.Actions.{actionTree}
-use Rattle.settling.specs.Made.{Answer}
+use Rattle.settling.specs.Made.{Answer, tallies}
 use Rattle.modalities.specs.Matched.{Labelled}
 use Rattle.modalities.proofs.Matches.{answered-matched}
 use Rattle.modalities.proofs.Deciding.{decided-bytes}
@@ -62,7 +62,7 @@ returns c =
     let same = answered-matched _ _ (actionTree (a .labels .now) (a .actions .now) (a .modality .action)) _
     (a .modality .operand) (a .moves .first) (a .moves .end) (at-decide-labels .decide-labels .ensures .1) in
     subst (λ (ts : List ℕ). Answer (a .work .now) (a .room .vertices) (a .room .edges) (a .counters) (once eqb ts)
-    (r .last .1 .1 .0) (r .result)) same (r .ensures)
+    (tallies ts) (r .last .1 .1 .0) (r .result)) same (r .ensures)
 
 pub settle-decided-spec : {M : Type 1} → statement M
 settle-decided-spec =

@@ -1,116 +1,88 @@
--- `settle_matched` meets its contract: between its turns the transitions before t have given their targets. Assumes
--- nothing.
-use mathlib.Core.Path.{subst, sym}
-use Prim.Native.Nat.{_-_}
+-- `settle_matched` meets its contract: there are marks for the step that its edges do not meet, and none of them is
+-- past the edges. Assumes nothing.
+use mathlib.Core.Path.{refl, subst, sym}
 use native.Mathlib.Omega.{arith}
-use borrow.Author.Needs.{needs}
 use Rattle.pairs.specs.Slot.{Multiples}
-use Rattle.settling.specs.Made.{Gathered}
-use Rattle.modalities.proofs.Gathering.{Gathering, gathering-start, gathering-on, gathering-many, gathering-end}
+use Rattle.modalities.proofs.Spaces.{marks-inside, cleared-ready, cleared-spacious, cleared-answer}
+use borrow.Author.Needs.{needs}
 use Rattle.modalities.proofs.settle_matched.Statement.{statement}
 use Rattle.modalities.proofs.settle_matched.Tie as tie
 
-abbrev Inv-loop : tie.InvT-loop
-Inv-loop compiled work₀ room system answers moves item multiples scaled operand so-far₀ t₀ work so-far t =
-    Gathering system answers (room .vertices) (room .edges) item (moves .first) (moves .end) work₀ so-far₀ work so-far t
+shared-slice-read-states : tie.Need-shared-slice-read-states
+shared-slice-read-states c = search needs
 
-abbrev μ-loop : tie.MeasureT-loop
-μ-loop compiled work₀ room system answers moves item multiples scaled operand so-far₀ t₀ work so-far t = moves .end - t
+sub-mark-count : tie.Need-sub-mark-count
+sub-mark-count c = search needs
 
-multiples-requires : tie.Need-multiples-requires Inv-loop μ-loop
+mark-count-requires : tie.Need-mark-count-requires
+mark-count-requires c κs = search needs
+
+clear-marks-requires : tie.Need-clear-marks-requires
+clear-marks-requires c κs =
+    let start = c .before .before .before .before .before .before .before in
+    let ready = start .pre .1 .0 .0 in
+    (ready .most, marks-inside _ _ _ _ _ _ (c .before .mark-count .ensures) ready)
+
+multiples-requires : tie.Need-multiples-requires
 multiples-requires c κs = search needs
 
-product-requires : tie.Need-product-requires Inv-loop μ-loop
+product-requires : tie.Need-product-requires
 product-requires c κs =
-    let start = c .before .before .before .before in
+    let start = c .before .before .before .before .before .before .before .before .before .before .before in
     (subst Multiples (sym (c .multiples .ensures)) (start .pre .0 .0), omega (arith, start .pre .0 .3))
 
-loop-holds : tie.Need-loop-holds Inv-loop μ-loop
-loop-holds c =
-    let start = c .before .before .before .before .before in
-    gathering-start _ _ _ _ _ _ _ _ _ (start .pre .0 .2 .rises) (start .pre .1 .0 .0) (start .pre .1 .0 .2)
-
-follow-requires : tie.Need-follow-requires Inv-loop μ-loop
-follow-requires c κs =
-    let at-if1 = c .before in
-    let at-multiples = at-if1 .before .before .before .before in
-    let start = at-multiples .before .before .before .before in
-    let l = at-if1 .before .before .loop in
-    let p = start .pre .0 in (
-      (record { multiples = subst Multiples (sym (at-multiples .multiples .ensures)) (p .0); product = at-if1 .before .before .before .product .ensures }, p .1, p .2),
+follow-all-requires : tie.Need-follow-all-requires
+follow-all-requires c κs =
+    let at-product = c .before in
+    let at-multiples = at-product .before in
+    let at-clear = at-multiples .before .before .before in
+    let at-count = at-clear .before .before in
+    let start = at-count .before .before .before .before .before .before in
+    let p = start .pre .0 in
+    let unmarked = start .pre .1 .0 in
+    let count = at-count .mark-count .ensures in
+    let cleared = at-clear .clear-marks .ensures in (
       (
-        (l .inv .made .ready, omega (arith, l .inv .made .grows, l .inv .made .same-settled, start .pre .1 .0 .1)),
+        record {
+          multiples = subst Multiples (sym (at-multiples .multiples .ensures)) (p .0);
+          product = at-product .product .ensures;
+        },
+        p .1,
+        p .2,
+        p .3,
+      ),
+      (
         (
-          omega (arith, p .2 .inside, at-if1 .if1 .taken),
-          p .3,
-          start .pre .1 .1 _ (l .inv .since) (at-if1 .if1 .taken),
+          cleared-ready _ _ _ _ _ _ count _ unmarked cleared,
+          refl,
+          cleared-spacious _ _ _ _ _ _ count _ unmarked cleared (start .args .system .now) refl _ _,
         ),
+        start .pre .1 .1,
       ),
     )
 
-enum-known-next : tie.Need-enum-known-next Inv-loop μ-loop
-enum-known-next c = search needs
+same-length : tie.Need-same-length
+same-length c = search needs
 
-enum-told : tie.Need-enum-told Inv-loop μ-loop
-enum-told c = search needs
-
-same-length : tie.Need-same-length Inv-loop μ-loop
-same-length c =
-    let at-follow = c .before .before .before .before in
-    let at-loop = at-follow .before .before .before .before in
-    omega (arith, at-loop .loop .inv .same, at-follow .follow .kept .1 .1 .0)
-
-returns : tie.Need-returns Inv-loop μ-loop
+returns : tie.Need-returns
 returns c =
-    let at-follow = c .before .before .before .before in
-    let at-loop = at-follow .before .before .before .before in
-    let l = at-loop .loop in
-    gathering-many _ _ _ _ _ _ _ _ _ _ (at-follow .follow .last .1 .1 .0) _ _ (l .inv)
-    (at-follow .before .before .if1 .taken)
-    (subst (Gathered _ _ _ _ _ _ _) (c .enum-told .given .1) (at-follow .follow .ensures _ (l .inv .marked)))
-
-add-t : tie.Need-add-t Inv-loop μ-loop
-add-t c =
-    let at-if1 = c .before .before .before .before .before .before .before in
-    let start = at-if1 .before .before .before .before .before .before .before .before in
-    omega (arith, start .pre .0 .2 .inside, start .pre .0 .1 .1 .moves, at-if1 .if1 .taken)
-
-loop-less : tie.Need-loop-less Inv-loop μ-loop
-loop-less c =
-    let at-if1 = c .before .before .before .before .before .before .before in
-    omega (arith, at-if1 .if1 .taken)
-
-loop-again : tie.Need-loop-again Inv-loop μ-loop
-loop-again c =
-    let at-follow = c .before .before .before .before .before in
-    let at-loop = at-follow .before .before .before .before in
-    let l = at-loop .loop in
-    gathering-on _ _ _ _ _ _ _ _ _ _ _ _ _ (l .inv) (at-follow .before .before .if1 .taken) _
-    (at-follow .follow .kept .1 .1 .0)
-    (subst (Gathered _ _ _ _ _ _ _) (c .before .next .given .1) (at-follow .follow .ensures _ (l .inv .marked)))
-
-same-length-2 : tie.Need-same-length-2 Inv-loop μ-loop
-same-length-2 c = c .before .before .loop .inv .same
-
-returns-2 : tie.Need-returns-2 Inv-loop μ-loop
-returns-2 c = gathering-end _ _ _ _ _ _ _ _ _ _ _ _ (c .before .before .loop .inv) (c .if1 .left)
+    let at-follow = c .before .before in
+    let at-clear = at-follow .before .before .before .before .before .before in
+    let at-count = at-clear .before .before in
+    let start = at-count .before .before .before .before .before .before in
+    cleared-answer _ _ _ _ _ _ (at-count .mark-count .ensures) _ (start .pre .1 .0) (at-clear .clear-marks .ensures)
+    _ _ _ (at-follow .follow-all .result) (at-follow .follow-all .ensures)
 
 pub settle-matched-spec : {M : Type 1} → statement M
 settle-matched-spec =
     tie.close
     (tie.spec
-    Inv-loop
-    μ-loop
+    shared-slice-read-states
+    sub-mark-count
+    mark-count-requires
+    clear-marks-requires
     multiples-requires
     product-requires
-    loop-holds
-    follow-requires
-    enum-known-next
-    enum-told
+    follow-all-requires
     same-length
-    returns
-    add-t
-    loop-less
-    loop-again
-    same-length-2
-    returns-2)
+    returns)

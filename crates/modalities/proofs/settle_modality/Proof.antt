@@ -1,6 +1,6 @@
 -- `settle_modality` meets its contract: a row, or the answers decided for this state, choose the transitions that
 -- match. Assumes nothing.
-use mathlib.Core.Path.{subst, ap, _∙_}
+use mathlib.Core.Path.{subst₂, ap, _∙_}
 use mathlib.Core.List.{List, []}
 use Prim.Native.Nat.{ℕ}
 use native.Mathlib.Omega.{arith}
@@ -9,8 +9,8 @@ use Rattle.rules.specs.Lists.{once}
 use Rattle.rules.specs.Words.{inputOf}
 use Rattle.rules.specs.Labels.{labelCount}
 use Rattle.rules.specs.Actions.{actionTree}
-use Rattle.settling.specs.Made.{Answer}
-use Rattle.modalities.proofs.Matches.{answered-matched, matched-modality}
+use Rattle.settling.specs.Made.{Answer, tallies}
+use Rattle.modalities.proofs.Matches.{answered-matched, matched-modality, tallied-modality}
 use Rattle.modalities.proofs.Deciding.{row-bytes, row-answers}
 use borrow.Author.Needs.{needs}
 use Rattle.modalities.proofs.settle_modality.Statement.{statement}
@@ -41,9 +41,11 @@ returns c =
     let r = c .before .before .settle-decided in
     let a = start .args in
     let x = inputOf (a .labels .now) (a .system .now) (a .actions .now) [] in
-    let all = matched-modality x (a .modality) (at-moves-of .moves-of .result) (at-moves-of .moves-of .ensures .1) in
-    subst (λ (ts : List ℕ). Answer (a .work .now) (a .room .vertices) (a .room .edges) (a .counters) ts (r .last .1 .1 .0)
-    (r .result)) all (r .ensures)
+    let moves = at-moves-of .moves-of .result in
+    let all = matched-modality x (a .modality) moves (at-moves-of .moves-of .ensures .1) in
+    let counts = tallied-modality x (a .modality) moves (at-moves-of .moves-of .ensures .1) in
+    subst₂ (λ (ts cs : List ℕ). Answer (a .work .now) (a .room .vertices) (a .room .edges) (a .counters) ts cs
+    (r .last .1 .1 .0) (r .result)) all counts (r .ensures)
 
 settle-matched-requires : tie.Need-settle-matched-requires
 settle-matched-requires c κs =
@@ -70,12 +72,13 @@ returns-2 c =
     let moves = at-moves-of .moves-of .result in
     let x = inputOf (a .labels .now) (a .system .now) (a .actions .now) [] in
     let all = matched-modality x (a .modality) moves (at-moves-of .moves-of .ensures .1) in
+    let counts = tallied-modality x (a .modality) moves (at-moves-of .moves-of .ensures .1) in
     let row = at-moves-of .before .row .ensures (omega (arith, at-if1 .if1 .left)) in
     let answers = row-answers _ _ _ _ _ _ _ (start .pre .0 .system) (at-moves-of .moves-of .ensures .0 .inside) row in
     let tree = actionTree (a .labels .now) (a .actions .now) (a .modality .action) in
     let same = answered-matched _ _ tree _ (a .modality .operand) (moves .first) (moves .end) answers in
-    subst (λ (ts : List ℕ). Answer (a .work .now) (a .room .vertices) (a .room .edges) (a .counters) ts (r .last .1 .1 .0)
-    (r .result)) (ap (once eqb) same ∙ all) (r .ensures)
+    subst₂ (λ (ts cs : List ℕ). Answer (a .work .now) (a .room .vertices) (a .room .edges) (a .counters) ts cs
+    (r .last .1 .1 .0) (r .result)) (ap (once eqb) same ∙ all) (ap tallies same ∙ counts) (r .ensures)
 
 pub settle-modality-spec : {M : Type 1} → statement M
 settle-modality-spec =

@@ -6,7 +6,7 @@ use lib.ListN.{length, take}
 use Rattle.rules.specs.Game.{vertexCount}
 use Rattle.rules.specs.Restrict.{searchFrom, reachedVertices}
 use Rattle.reachability.specs.Search.{Knows}
-use Rattle.reachability.proofs.Edges.{edges-past, edges-end, leads-at}
+use Rattle.reachability.proofs.Edges.{edges-past, edges-end, targets-end, leads-at}
 use Rattle.reachability.proofs.Meeting.{none-known, knows-at, filled}
 use Rattle.reachability.proofs.Turns.{search-start, search-step, search-done}
 use Rattle.reachability.proofs.explore.Statement.{statement}
@@ -55,31 +55,37 @@ vertex-at-requires-2 c κs =
     let at-loop = c .before .before in
     omega (arith, at-loop .loop .inv .0 .within, at-loop .loop .inv .0 .workLong)
 
-targets-from-requires : tie.Need-targets-from-requires Inv-loop μ-loop
-targets-from-requires c κs =
+edges-from-requires : tie.Need-edges-from-requires Inv-loop μ-loop
+edges-from-requires c κs =
     let at-loop = c .before .before .before in
     let start = at-loop .before .before .before .before .before .before .before .before .before .before .before .before .before .before .before .before in (
       start .pre .0,
-      omega (
-        arith,
-        c .vertex-at2 .ensures,
-        knows-at (at-loop .loop .inv .0) (at-loop .loop .i)
-            (c .before .before .loop-test .taken),
-        at-loop .loop .inv .1,
+      (
+        omega arith,
+        omega (
+          arith,
+          c .vertex-at2 .ensures,
+          knows-at (at-loop .loop .inv .0) (at-loop .loop .i)
+              (c .before .before .loop-test .taken),
+          at-loop .loop .inv .1,
+        ),
       ),
     )
 
-targets-end-requires : tie.Need-targets-end-requires Inv-loop μ-loop
-targets-end-requires c κs =
+edges-end-requires : tie.Need-edges-end-requires Inv-loop μ-loop
+edges-end-requires c κs =
     let at-loop = c .before .before .before .before in
     let start = at-loop .before .before .before .before .before .before .before .before .before .before .before .before .before .before .before .before in (
       start .pre .0,
-      omega (
-        arith,
-        c .before .vertex-at2 .ensures,
-        knows-at (at-loop .loop .inv .0) (at-loop .loop .i)
-            (c .before .before .before .loop-test .taken),
-        at-loop .loop .inv .1,
+      (
+        omega arith,
+        omega (
+          arith,
+          c .before .vertex-at2 .ensures,
+          knows-at (at-loop .loop .inv .0) (at-loop .loop .i)
+              (c .before .before .before .loop-test .taken),
+          at-loop .loop .inv .1,
+        ),
       ),
     )
 
@@ -96,11 +102,11 @@ discover-all-requires c κs =
           (at-vertex-at2 .before .before .loop-test .taken),
       at-loop .loop .inv .1,
     ) in
-    let first = edges-past (now (start .args .game)) v _ (c .before .before .before .targets-from .ensures) in
-    let last = edges-end _ (start .pre .0) v _ i (c .before .before .targets-end .ensures) in (
+    let first = edges-past (now (start .args .game)) v _ (c .before .before .before .edges-from .ensures) in
+    let last = targets-end _ (start .pre .0) v _ i (c .before .before .edges-end .ensures) in (
       at-loop .loop .inv .0,
       (
-        last,
+        edges-end _ (start .pre .0) 0 v _ (omega arith) i (c .before .before .edges-end .ensures),
         λ p l h. omega (
           arith,
           leads-at _ (start .pre .0) p (omega (arith, first)) (omega (arith, last)),
@@ -122,11 +128,11 @@ loop-less c =
 loop-again : tie.Need-loop-again Inv-loop μ-loop
 loop-again c =
     let at-discover-all = c .before .before .before .before in
-    let at-targets-from = at-discover-all .before .before .before .before in
-    let at-loop = at-targets-from .before .before .before .before in
+    let at-edges-from = at-discover-all .before .before .before .before in
+    let at-loop = at-edges-from .before .before .before .before in
     let turn = search-step _ _ _ _ _ _ _ _ _ _ (at-loop .loop .inv .0) (at-loop .loop .inv .1)
-    (at-targets-from .before .before .before .loop-test .taken) (at-targets-from .before .vertex-at2 .ensures)
-    (at-targets-from .targets-from .ensures) (at-discover-all .before .before .before .targets-end .ensures)
+    (at-edges-from .before .before .before .loop-test .taken) (at-edges-from .before .vertex-at2 .ensures)
+    (at-edges-from .edges-from .ensures) (at-discover-all .before .before .before .edges-end .ensures)
     (at-discover-all .discover-all .ensures .1) (at-loop .loop .inv .2) in
     (at-discover-all .discover-all .ensures .0, at-discover-all .discover-all .kept .1 .1 .1 .0 ∙ at-loop .loop .inv .1, turn)
 
@@ -160,8 +166,8 @@ explore-spec =
     discover-requires
     loop-holds
     vertex-at-requires-2
-    targets-from-requires
-    targets-end-requires
+    edges-from-requires
+    edges-end-requires
     discover-all-requires
     add-i
     loop-less

@@ -1,4 +1,4 @@
--- `write_game` meets its contract: four calls write the game of the vertices that are kept, and zeros follow. Assumes
+-- `write_game` meets its contract: five calls write the game of the vertices that are kept, and zeros follow. Assumes
 -- nothing.
 use mathlib.Core.Path.{_≡_, sym, _∙_}
 use mathlib.Core.List.{List, []}
@@ -11,8 +11,9 @@ use Rattle.rules.specs.Game.{Vertex, gameWords, gameOf}
 use Rattle.rules.specs.Restrict.{keptVertices}
 use Rattle.restrictions.proofs.Kept.{kept-length}
 use Rattle.words.proofs.Stretches.{Writing, called}
-use Rattle.parity_game.proofs.Calls.{behindHeader, behindColumns, behindOffsets, header-done, columns-fit, offsets-fit}
-use Rattle.parity_game.proofs.Calls.{targets-fit, game-fits, game-done}
+use Rattle.parity_game.proofs.Calls.{behindHeader, behindColumns, behindOffsets, behindTargets, header-done}
+use Rattle.parity_game.proofs.Calls.{columns-fit, offsets-fit, targets-fit, others-fit, game-fits}
+use Rattle.parity_game.proofs.Calls.{targets-done, last-done, game-done}
 use borrow.Author.Needs.{needs}
 use Rattle.reachability.proofs.write_game.Statement.{statement}
 use Rattle.reachability.proofs.write_game.Tie as tie
@@ -74,10 +75,20 @@ abbrev targets-counted : tie.After-write-targets → tie.After-count-edges
 targets-counted c = offsets-counted (c .before .before .before .before)
 
 targets : (c : tie.After-write-targets)
-    → Left (edges-start (targets-counted c)) (c .write-targets .result) [] (c .write-targets .last .1 .1 .1 .1 .0)
+    → Left (edges-start (targets-counted c)) (c .write-targets .result)
+    (behindTargets (kept (edges-start (targets-counted c)))) (c .write-targets .last .1 .1 .1 .1 .0)
 targets c =
-    called (c .write-targets .kept .1 .1 .1 .1 .0) (c .write-targets .ensures)
-    (offsets (c .before .before .before .before))
+    targets-done (kept (edges-start (targets-counted c))) (c .write-targets .kept .1 .1 .1 .1 .0)
+    (c .write-targets .ensures) (offsets (c .before .before .before .before))
+
+abbrev copied-counted : tie.After-write-all-copied → tie.After-count-edges
+copied-counted c = targets-counted (c .before .before .before .before)
+
+copied : (c : tie.After-write-all-copied)
+    → Left (edges-start (copied-counted c)) (c .write-all-copied .result) [] (c .write-all-copied .last .1 .1 .1 .0)
+copied c =
+    last-done (c .write-all-copied .kept .1 .1 .1 .0) (c .write-all-copied .ensures)
+    (targets (c .before .before .before .before))
 
 count-edges-requires : tie.Need-count-edges-requires
 count-edges-requires c κs = search needs
@@ -112,19 +123,28 @@ write-targets-requires c κs =
     let fit = targets-fit (kept s) _ _ (many s) (at-count .count-edges .ensures) (room at-count) (offsets (c .before .before .before)) in
     (s .pre .0, (s .pre .1 .0, (s .pre .1 .1 .0, omega (arith, fit, at-count .count-edges .ensures))))
 
-fill-requires : tie.Need-fill-requires
-fill-requires c κs =
+write-all-copied-requires : tie.Need-write-all-copied-requires
+write-all-copied-requires c κs =
     let at-count = targets-counted (c .before .before .before) in
     let s = edges-start at-count in
-    game-fits (kept s) _ _ (many s) (at-count .count-edges .ensures) (room at-count) (targets (c .before .before .before))
+    let fit = others-fit (kept s) _ _ (many s) (at-count .count-edges .ensures) (room at-count)
+    (targets (c .before .before .before)) in
+    (s .pre .0, omega (arith, fit, at-count .count-edges .ensures))
+
+fill-requires : tie.Need-fill-requires
+fill-requires c κs =
+    let at-count = copied-counted (c .before .before .before) in
+    let s = edges-start at-count in
+    game-fits (kept s) _ _ (many s) (at-count .count-edges .ensures) (room at-count)
+    (copied (c .before .before .before))
 
 same-length : tie.Need-same-length
 same-length c = search needs
 
 returns : tie.Need-returns
 returns c =
-    let at-targets = c .before .before .before .before .before .before in
-    (targets-counted at-targets .count-edges .ensures, game-done (targets at-targets) (c .before .before .fill .ensures))
+    let at-copied = c .before .before .before .before .before .before in
+    (copied-counted at-copied .count-edges .ensures, game-done (copied at-copied) (c .before .before .fill .ensures))
 
 pub write-game-spec : {M : Type 1} → statement M
 write-game-spec =
@@ -137,6 +157,7 @@ write-game-spec =
     write-columns-requires
     write-offsets-requires
     write-targets-requires
+    write-all-copied-requires
     fill-requires
     same-length
     returns)

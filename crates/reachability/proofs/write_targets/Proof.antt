@@ -10,9 +10,9 @@ use Rattle.games.specs.Columns.{edgeColumnOf}
 use Rattle.rules.specs.Game.{vertexCount}
 use Rattle.rules.specs.Restrict.{keptVertices}
 use Rattle.words.proofs.Stretches.{Writing, turn, called, done}
-use Rattle.reachability.proofs.Edges.{edges-past, edges-end, leads-at}
-use Rattle.reachability.proofs.Stretches.{met-vertex}
-use Rattle.reachability.proofs.Stretches.{some-of, all-some, rises-read, count-more, targets-next, targets-last, targets-room}
+use Rattle.reachability.proofs.Edges.{edges-past, edges-end, targets-end, leads-at}
+use Rattle.reachability.proofs.Stretches.{met-vertex, edges-room}
+use Rattle.reachability.proofs.Stretches.{some-of, all-some, rises-read, count-more, targets-next, column-last}
 use Rattle.reachability.proofs.write_targets.Statement.{statement}
 use Rattle.reachability.proofs.write_targets.Tie as tie
 
@@ -38,34 +38,38 @@ vertex-at-requires c κs =
     let start = c .before .before .before .before .before .before in
     omega (arith, start .pre .0 .within)
 
-targets-from-requires : tie.Need-targets-from-requires Inv-loop μ-loop
-targets-from-requires c κs =
+edges-from-requires : tie.Need-edges-from-requires Inv-loop μ-loop
+edges-from-requires c κs =
     let start = c .before .before .before .before .before .before .before in
-    met-vertex _ _ (start .pre .0) (c .before .loop-test .taken) (c .vertex-at .ensures)
+    met-vertex 0 _ _ (omega arith) (start .pre .0) (c .before .loop-test .taken) (c .vertex-at .ensures)
 
-targets-end-requires : tie.Need-targets-end-requires Inv-loop μ-loop
-targets-end-requires c κs =
+edges-end-requires : tie.Need-edges-end-requires Inv-loop μ-loop
+edges-end-requires c κs =
     let start = c .before .before .before .before .before .before .before .before in
-    met-vertex _ _ (start .pre .0) (c .before .before .loop-test .taken) (c .before .vertex-at .ensures)
+    met-vertex 0 _ _ (omega arith) (start .pre .0) (c .before .before .loop-test .taken) (c .before .vertex-at .ensures)
 
 write-numbers-requires : tie.Need-write-numbers-requires Inv-loop μ-loop
 write-numbers-requires c κs =
-    let at-targets-end = c .before in
-    let at-targets-from = at-targets-end .before in
-    let at-vertex-at = at-targets-from .before in
+    let at-edges-end = c .before in
+    let at-edges-from = at-edges-end .before in
+    let at-vertex-at = at-edges-from .before in
     let at-loop = at-vertex-at .before .before in
     let start = at-loop .before .before .before .before .before in
     let v = at-vertex-at .vertex-at .result .0 in
     let t = at-vertex-at .before .loop-test .taken in
     let i : v < vertexCount (now (start .args .game)) = omega
     (arith, at-vertex-at .vertex-at .ensures, start .pre .0 .inside (at-loop .loop .i) t) in
-    let rise = rises-read _ _ _ _ _ _ _ (start .pre .0) t (at-vertex-at .vertex-at .ensures)
-    (at-targets-from .targets-from .ensures) (at-targets-end .targets-end .ensures) in
-    let m = count-more _ _ _ _ _ _ _ (start .pre .0) t (at-vertex-at .vertex-at .ensures)
-    (at-targets-from .targets-from .ensures) (at-targets-end .targets-end .ensures) in
-    let first = edges-past (now (start .args .game)) v _ (at-targets-from .targets-from .ensures) in
-    let last = edges-end _ (start .pre .0 .good) v _ i (at-targets-end .targets-end .ensures) in (
-      (rise, last, omega (arith, m, targets-room _ _ _ _ (start .pre .1 .1 .1) (at-loop .loop .inv .1))),
+    let rise = rises-read 0 _ _ _ _ _ _ _ (start .pre .0) t (at-vertex-at .vertex-at .ensures)
+    (at-edges-from .edges-from .ensures) (at-edges-end .edges-end .ensures) in
+    let m = count-more 0 (omega arith) _ _ _ _ _ _ _ (start .pre .0) t (at-vertex-at .vertex-at .ensures)
+    (at-edges-from .edges-from .ensures) (at-edges-end .edges-end .ensures) in
+    let first = edges-past (now (start .args .game)) v _ (at-edges-from .edges-from .ensures) in
+    let last = targets-end _ (start .pre .0 .good) v _ i (at-edges-end .edges-end .ensures) in (
+      (
+        rise,
+        edges-end _ (start .pre .0 .good) 0 v _ (omega arith) i (at-edges-end .edges-end .ensures),
+        omega (arith, m, edges-room 0 _ _ _ _ (start .pre .1 .1 .1) (at-loop .loop .inv .1)),
+      ),
       λ p l k. omega (
         arith,
         leads-at _ (start .pre .0 .good) p (omega (arith, first)) (omega (arith, last)),
@@ -84,19 +88,19 @@ loop-less c = omega arith
 loop-again : tie.Need-loop-again Inv-loop μ-loop
 loop-again c =
     let at-write-numbers = c .before .before in
-    let at-targets-end = at-write-numbers .before .before in
-    let at-targets-from = at-targets-end .before in
-    let start = at-targets-from .before .before .before .before .before .before .before .before in
+    let at-edges-end = at-write-numbers .before .before in
+    let at-edges-from = at-edges-end .before in
+    let start = at-edges-from .before .before .before .before .before .before .before .before in
     let t = targets-next _ (now (start .args .mapping)) _ _ _ _ _ _ (start .pre .0) (start .pre .1 .0)
-    (start .pre .1 .1 .0) (at-targets-from .before .before .loop-test .taken)
-    (at-targets-from .before .vertex-at .ensures) (at-targets-from .targets-from .ensures)
-    (at-targets-end .targets-end .ensures) in (
+    (start .pre .1 .1 .0) (at-edges-from .before .before .loop-test .taken)
+    (at-edges-from .before .vertex-at .ensures) (at-edges-from .edges-from .ensures)
+    (at-edges-end .edges-end .ensures) in (
       omega arith,
       called {s =
           map (λ t. word (now (start .args .mapping)) t)
-          (slice (at-targets-from .targets-from .result) (at-targets-end .targets-end .result) (now (start .args .game)))}
+          (slice (at-edges-from .edges-from .result) (at-edges-end .edges-end .result) (now (start .args .game)))}
           (at-write-numbers .write-numbers .kept .1 .1 .1 .1 .0) (at-write-numbers .write-numbers .ensures)
-          (turn t (at-targets-from .before .before .before .loop .inv .1)),
+          (turn t (at-edges-from .before .before .before .loop .inv .1)),
     )
 
 same-length : tie.Need-same-length Inv-loop μ-loop
@@ -106,7 +110,7 @@ returns : tie.Need-returns Inv-loop μ-loop
 returns c =
     let at-loop = c .before in
     let start = at-loop .before .before .before .before .before in
-    let t = targets-last (now (start .args .game)) (now (start .args .work)) (start .args .count) (at-loop .loop .i)
+    let t = column-last 0 (now (start .args .game)) (now (start .args .work)) (start .args .count) (at-loop .loop .i)
     (c .loop-test .left) in
     done (turn t (at-loop .loop .inv .1))
 
@@ -118,8 +122,8 @@ write-targets-spec =
     μ-loop
     loop-holds
     vertex-at-requires
-    targets-from-requires
-    targets-end-requires
+    edges-from-requires
+    edges-end-requires
     write-numbers-requires
     add-i
     loop-less

@@ -2,7 +2,7 @@ use mathlib.Core.Path.{refl, subst}
 use mathlib.Core.Logic.{inr}
 use native.Mathlib.Omega.{arith}
 use Rattle.settling.specs.Made.{MeetAnswer}
-use Rattle.settling.proofs.Make.{edge-made, many-one, marks-rest}
+use Rattle.settling.proofs.Make.{edge-made, many-one, marks-rest, marks-rise}
 use borrow.Author.Needs.{needs}
 use Rattle.settling.proofs.number_target.Statement.{statement}
 use Rattle.settling.proofs.number_target.Tie as tie
@@ -39,7 +39,9 @@ returns-2 c =
     let at-meet = at-if1 .before .before .before .before .before .before .before in
     let start = at-meet .before .before .before .before in
     let p = subst (MeetAnswer _ _ _ _ _ _) (at-if1 .before .before .before .vertex .given .1) (at-meet .meet .ensures) in
-    edge-made _ _ _ _ _ _ _ _ _ _ _ (start .pre .1 .0) p (omega (arith, start .pre .1 .0 .buffer, at-if1 .if1 .left)) (at-meet .meet .kept .1 .1 .0) (λ a h. refl) refl (marks-rest _ _ _ _ (p .rest)) (c .before .before .put-edge .ensures)
+    edge-made _ _ _ _ _ _ (start .args .counters) _ _ _ _ 0 (start .pre .1 .0) p
+    (omega (arith, start .pre .1 .0 .buffer, at-if1 .if1 .left)) (at-meet .meet .kept .1 .1 .0) (λ a h. refl) refl refl
+    (λ m. marks-rise _ _ _ _ (omega arith) (marks-rest _ _ _ _ (p .rest) m)) (c .before .before .put-edge .ensures)
 
 same-length-3 : tie.Need-same-length-3
 same-length-3 c = search needs

@@ -18,21 +18,28 @@ abbrev μ-loop : tie.MeasureT-loop
 loop-holds : tie.Need-loop-holds Inv-loop μ-loop
 loop-holds c = settling-start _ _ _ _ _ _ (c .before .before .pre .1 .0 .0)
 
-operand-requires : tie.Need-operand-requires Inv-loop μ-loop
-operand-requires c κs =
+nth-operand-requires : tie.Need-nth-operand-requires Inv-loop μ-loop
+nth-operand-requires c κs =
     let start = c .before .before .before .before in
     omega (arith, c .loop-test .taken, start .pre .1 .0 .2)
 
 product-requires : tie.Need-product-requires Inv-loop μ-loop
 product-requires c κs =
     let start = c .before .before .before .before .before in
-    (start .pre .0, omega (arith, c .operand .ensures, operand-fits (start .args .state) _ _ _ _ (c .before .loop-test .taken) (start .pre .1 .0 .2) (start .pre .1 .0 .1) (start .pre .1 .1) .item-fits))
+    let h = start .pre .1 in
+    let fits = operand-fits (start .args .state) _ _ _ _ (c .before .loop-test .taken) (h .0 .2) (h .0 .1) (h .1) in
+    (start .pre .0, omega (arith, c .nth-operand .ensures, fits .item-fits))
 
 number-target-requires : tie.Need-number-target-requires Inv-loop μ-loop
 number-target-requires c κs =
     let at-loop = c .before .before .before .before in
     let start = at-loop .before .before .before in
-    (record { multiples = start .pre .0; product = c .before .product .ensures }, (at-loop .loop .inv .made .ready, subst (Fitting (start .args .state)) (sym (c .before .before .operand .ensures)) (operand-fits _ _ _ _ _ (c .before .before .before .loop-test .taken) (start .pre .1 .0 .2) (start .pre .1 .0 .1) (start .pre .1 .1))))
+    let h = start .pre .1 in
+    let less = c .before .before .before .loop-test .taken in
+    let fits = operand-fits (start .args .state) _ _ _ _ less (h .0 .2) (h .0 .1) (h .1) in
+    let fits-item = subst (Fitting (start .args .state)) (sym (c .before .before .nth-operand .ensures)) fits in
+    let ready = at-loop .loop .inv .made .ready in
+    (record { multiples = start .pre .0; product = c .before .product .ensures }, (ready, fits-item))
 
 enum-known-next : tie.Need-enum-known-next Inv-loop μ-loop
 enum-known-next c = search needs
@@ -48,8 +55,10 @@ returns c =
     let at-number-target = c .before .before .before .before in
     let at-loop-test = at-number-target .before .before .before .before in
     let start = at-loop-test .before .before .before .before in
-    settling-many _ _ _ _ _ _ _ _ (start .pre .1 .0 .2) _ (at-number-target .number-target .last .1 .1 .0) _ _ (at-loop-test .before .loop .inv) (at-loop-test .loop-test .taken) _ (at-number-target .before .before .before .operand .ensures)
-    (subst (Answer _ _ _ _ _ _) (c .enum-told .given .1) (at-number-target .number-target .ensures))
+    settling-many _ _ _ _ _ _ _ _ (start .pre .1 .0 .2) _ (at-number-target .number-target .last .1 .1 .0) _ _
+    (at-loop-test .before .loop .inv) (at-loop-test .loop-test .taken) _
+    (at-number-target .before .before .before .nth-operand .ensures)
+    (subst (Answer _ _ _ _ _ _ _) (c .enum-told .given .1) (at-number-target .number-target .ensures))
 
 add-i : tie.Need-add-i Inv-loop μ-loop
 add-i c = search needs
@@ -62,8 +71,10 @@ loop-again c =
     let at-number-target = c .before .before .before .before .before in
     let at-loop-test = at-number-target .before .before .before .before in
     let start = at-loop-test .before .before .before .before in
-    settling-on _ _ _ _ _ _ _ _ (start .pre .1 .0 .2) _ _ _ _ (at-loop-test .before .loop .inv) (at-loop-test .loop-test .taken) _ (at-number-target .before .before .before .operand .ensures) _ (at-number-target .number-target .kept .1 .1 .0)
-    (subst (Answer _ _ _ _ _ _) (c .before .next .given .1) (at-number-target .number-target .ensures))
+    settling-on _ _ _ _ _ _ _ _ (start .pre .1 .0 .2) _ _ _ _ (at-loop-test .before .loop .inv)
+    (at-loop-test .loop-test .taken) _ (at-number-target .before .before .before .nth-operand .ensures) _
+    (at-number-target .number-target .kept .1 .1 .0)
+    (subst (Answer _ _ _ _ _ _ _) (c .before .next .given .1) (at-number-target .number-target .ensures))
 
 same-length-2 : tie.Need-same-length-2 Inv-loop μ-loop
 same-length-2 c = c .before .loop .inv .same
@@ -80,7 +91,7 @@ settle-operands-spec =
     Inv-loop
     μ-loop
     loop-holds
-    operand-requires
+    nth-operand-requires
     product-requires
     number-target-requires
     enum-known-next

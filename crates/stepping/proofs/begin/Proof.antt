@@ -70,7 +70,7 @@ returns c =
     let marks = at-clear-region .clear-region in
     let starts = at-clear-region2 .clear-region2 in
     let same = starts .kept .0 ∙ marks .kept .0 ∙ started .kept .0 in
-    start-made _ _ _ _ _ _ (start .pre .1) (started .ensures) (marks .ensures) (starts .ensures) same _ _ _ _ _ _ p
+    start-made _ _ _ _ _ _ (start .pre .1) (started .ensures) (marks .ensures) (starts .ensures) same _ _ _ _ _ _ _ p
     (at-meet .meet .kept .1 .1 .0)
 
 same-length-2 : tie.Need-same-length-2

@@ -65,7 +65,7 @@ use Rattle.rules.specs.Words.{Input, inputOf}
 use Rattle.rules.specs.declared.Room.{Room}
 use Rattle.rules.proofs.Room as P
 use Rattle.rules.proofs.Room.Laws as P′
-use Rattle.settling.specs.Keys.{keyTargets, rootKey}
+use Rattle.settling.specs.Keys.{keyTargets, keyBehind, rootKey}
 use Rattle.settling.specs.Good.{Good, WalkMade}
 use Rattle.settling.specs.declared.Counters.{Counters}
 use Rattle.settling.proofs.Counters as T
@@ -140,15 +140,15 @@ abbrev begun : Counters → List ℕ → State
 begun c ys = record { counters = c; work = ys; steps = 0 }
 
 -- what a turn begins from
-record Turn (targets : ℕ → List ℕ) (root v e limit : ℕ) (ys₀ : List ℕ) : Type 0 where
+record Turn (targets : ℕ → List ℕ) (counts : ℕ → ℕ → ℕ) (root v e limit : ℕ) (ys₀ : List ℕ) : Type 0 where
   st : State
   fit : Fits (st .counters)
-  walking : Walking targets root v e limit ys₀ (st .work) (st .counters) (st .steps)
+  walking : Walking targets counts root v e limit ys₀ (st .work) (st .counters) (st .steps)
 
-begins : (targets : ℕ → List ℕ) (root v e limit : ℕ) (ys₀ : List ℕ) (c : Counters) → Fits c → WalkMade targets root v e 0 ys₀ c
-    → Turn targets root v e limit ys₀
-begins targets root v e limit ys₀ c fit made =
-    record { st = begun c ys₀; fit = fit; walking = walking-start targets root v e limit ys₀ c made }
+begins : (targets : ℕ → List ℕ) (counts : ℕ → ℕ → ℕ) (root v e limit : ℕ) (ys₀ : List ℕ) (c : Counters) → Fits c
+    → WalkMade targets counts root v e 0 ys₀ c → Turn targets counts root v e limit ys₀
+begins targets counts root v e limit ys₀ c fit made =
+    record { st = begun c ys₀; fit = fit; walking = walking-start targets counts root v e limit ys₀ c made }
 
 module _ {M : Type 1} (𝓤 : URA M) (H : Heap 𝓤) (A : Atoms 𝓤) (W : Given 𝓤 H A) (at-mem : Memory → SProp 𝓤) (run : Routine → Fun 𝓤)
     (κ1 : Lft) (κs′ : Lfts 6) (q1 : Share) (qs′ : Shares 6) (b1 o1 : ℕ) (γ1 : GName) (ys₀ : List ℕ) (lent : Six (Unit {0}))
@@ -183,6 +183,9 @@ module _ {M : Type 1} (𝓤 : URA M) (H : Heap 𝓤) (A : Atoms 𝓤) (W : Given
   abbrev targets : ℕ → List ℕ
   targets = keyTargets x
 
+  abbrev counts : ℕ → ℕ → ℕ
+  counts = keyBehind x
+
   abbrev root : ℕ
   root = rootKey x
 
@@ -194,10 +197,10 @@ module _ {M : Type 1} (𝓤 : URA M) (H : Heap 𝓤) (A : Atoms 𝓤) (W : Given
   Ready = Prepared x (s .1 .1 .1 .1 .0 .now) (s .1 .1 .1 .1 .1 .0 .now)
 
   abbrev Begun : Type 0
-  Begun = WalkMade targets root (room .vertices) (room .edges) 0 ys₀ c₀
+  Begun = WalkMade targets counts root (room .vertices) (room .edges) 0 ys₀ c₀
 
   abbrev Answer : State → Type 0
-  Answer t = RanAnswer targets root (room .vertices) (room .edges) limit (t .work) (t .counters) (t .steps)
+  Answer t = RanAnswer targets counts root (room .vertices) (room .edges) limit (t .work) (t .counters) (t .steps)
 
   abbrev κs : Lfts 7
   κs = (κ1, κs′)
@@ -278,7 +281,7 @@ module _ {M : Type 1} (𝓤 : URA M) (H : Heap 𝓤) (A : Atoms 𝓤) (W : Given
     all-owned = owns (MutRef (named 0) (ν ∷ []) T.the-row ∷ MutSlice (named 1) (ν1 ∷ []) u32 ∷ lent-rows κs′ 2) passed passed-at
 
     abbrev Asked : Type 0
-    Asked = Ready × Good targets root ys (room .vertices) (room .edges) c
+    Asked = Ready × Good targets counts root ys (room .vertices) (room .edges) c
 
     asked : Tied → Asked → ent 𝓤 (⋆ 𝓤 H A (all-toks ∷ ‵ all-owned ∷ [])) (InPlace 𝓤 H A at-mem run .pre to)
     asked tied pre = qed W (all-toks ∷ ‵ all-owned ∷ []) ∵ says-two ! tied pre $ join ! $ done !
@@ -295,7 +298,7 @@ module _ {M : Type 1} (𝓤 : URA M) (H : Heap 𝓤) (A : Atoms 𝓤) (W : Given
         move ! (2 ∷ 0 ∷ []) $ use2 W (raw (InPlace 𝓤 H A at-mem run .pre to)) (asked tied pre) $ done !
 
   abbrev Tn : Type 0
-  Tn = Turn targets root (room .vertices) (room .edges) limit ys₀
+  Tn = Turn targets counts root (room .vertices) (room .edges) limit ys₀
 
   abbrev Nearer : Tn → Tn → Type 0
   Nearer t u = limit - t .st .steps < limit - u .st .steps
@@ -403,13 +406,15 @@ module _ {M : Type 1} (𝓤 : URA M) (H : Heap 𝓤) (A : Atoms 𝓤) (W : Given
 
       -- what `step_in_place` ensures
       abbrev Said : Bool → Counters → List ℕ → Type 0
-      Said r d zs = TriedAnswer targets root ys (room .vertices) (room .edges) c zs d r
+      Said r d zs = TriedAnswer targets counts root ys (room .vertices) (room .edges) c zs d r
 
       next : (r : Bool) (d : Counters) (zs : List ℕ) → Holds (ltb i limit) → Fits d → length zs ≡ length ys → Said r d zs → Holds (not (not r)) → Tn
       next r d zs less is l e more = record {
         st = record { counters = d; work = zs; steps = i + 1 };
         fit = is;
-        walking = tried-on targets root (room .vertices) (room .edges) limit ys₀ ys c i (u .walking) (small less) zs d l r more e;
+        walking =
+            tried-on targets counts root (room .vertices) (room .edges) limit ys₀ ys c i (u .walking) (small less)
+            zs d l r more e;
       }
 
       turns : Sq W (AtT u) (runs C Λ En piece.turn-1 (anyQ (Turned u)))
@@ -481,7 +486,8 @@ module _ {M : Type 1} (𝓤 : URA M) (H : Heap 𝓤) (A : Atoms 𝓤) (W : Given
           (λ halt. jumps ! $ exec ! C Λ En piece.t-5 (atRet En Post) $
           forget ! 2 refl $ forget ! 4 refl $ forget ! 6 refl $ forget ! 8 refl $ forget ! 10 refl $
           leaves (record { counters = zs .0; work = zs .1 .0; steps = i }) is (u .walking .until) (l ∙ u .walking .same)
-          (tried-last targets root (room .vertices) (room .edges) limit ys₀ ys c i (u .walking) (small less) (zs .1 .0) (zs .0) l r halt e))
+          (tried-last targets counts root (room .vertices) (room .edges) limit ys₀ ys c i (u .walking) (small less)
+          (zs .1 .0) (zs .0) l r halt e))
           (λ more. skips ! $ exec ! C Λ En (after′ (after′ (after′ (after′ (after′ (after′ (after′ (after′ (piece.turn-1))))))))) (anyQ (Turned u)) $
           assigns-last ! (bin ! (load ! (from ! (stop !)) (look ! 12 refl)) (lit ! tt) (record { fits = next-fits less })) (from ! (stop !))
           (store ! 12 refl (tt, record { fits = next-fits less })) $
@@ -489,14 +495,16 @@ module _ {M : Type 1} (𝓤 : URA M) (H : Heap 𝓤) (A : Atoms 𝓤) (W : Given
           again ! Nearer AtT u (next r (zs .0) (zs .1 .0) less is l e more) (add-one-dec limit i (small less)))))))))))))))
           (λ past. jumps ! $ exec ! C Λ En piece.t-5 (atRet En Post) $ forget ! 10 refl $
           leaves t (u .fit) (u .walking .until) (u .walking .same)
-          (walked-all targets root (room .vertices) (room .edges) limit ys₀ ys c i (u .walking) (nltb→le i limit past)))
+          (walked-all targets counts root (room .vertices) (room .edges) limit ys₀ ys c i (u .walking)
+          (nltb→le i limit past)))
 
     -- the loop, from where the walk begins
     looped : Begun → Sq W (At (begun c₀ ys₀)) (runs C Λ En piece.t-4 (atRet En Post))
     unfolding begins
     looped made =
         first ! $ blocks ! $
-        loops ! 𝓣 Nearer Nearer-wf AtT turns (begins targets root (room .vertices) (room .edges) limit ys₀ c₀ c₀-fits made)
+        loops ! 𝓣 Nearer Nearer-wf AtT turns
+        (begins targets counts root (room .vertices) (room .edges) limit ys₀ c₀ c₀-fits made)
 
   -- the MIR up to the loop
   abbrev passed-in : List Val

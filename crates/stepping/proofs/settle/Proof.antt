@@ -1,12 +1,13 @@
--- `settle` meets its contract: by the kind of the item the targets are those of a modality, or the operands at the
--- same state. Assumes nothing.
+-- `settle` meets its contract: by the kind of the item the targets are those of a modality, with its counts, or the
+-- operands at the same state, with none. Assumes nothing.
 use mathlib.Core.Path.{sym, _∙_}
 use Prim.Native.Nat.{_/_}
 use native.Mathlib.Omega.{arith}
 use borrow.Author.Tests.{eqb-true, eqb-false}
 use Rattle.rules.specs.Actions.{actionTree}
 use Rattle.modalities.proofs.Matches.{successors-any}
-use Rattle.stepping.proofs.ByKind.{item-small, kind-operands, operands-fit, modality-inside, modality-targets}
+use Rattle.stepping.proofs.ByKind.{item-small, kind-operands, kind-counts, operands-fit}
+use Rattle.stepping.proofs.ByKind.{modality-inside, modality-targets, modality-counts, counts-any}
 use borrow.Author.Needs.{needs}
 use Rattle.stepping.proofs.settle.Statement.{statement}
 use Rattle.stepping.proofs.settle.Tie as tie
@@ -49,8 +50,12 @@ returns c =
     let tree = actionTree (a .labels .now) (a .actions .now) (modality .action) in
     let any = successors-any (a .labels .now) (a .system .now) (a .actions .now) (a .formula .now) tree (modality .state) in
     let p = start .pre .0 in
-    let keys = modality-targets _ _ _ (p .0) _ _ (p .1) _ (at-kind-of .kind-of .ensures) modality (at-modality-of .modality-of .ensures) modal in
-    rw (keys, sym any) (c .before .before .settle-modality .ensures)
+    let kind = at-kind-of .kind-of .ensures in
+    let of = at-modality-of .modality-of .ensures in
+    let keys = modality-targets _ _ _ (p .0) _ _ (p .1) _ kind modality of modal in
+    let counts = modality-counts _ _ _ (p .0) _ _ (p .1) _ kind modality of modal in
+    let any-counts = counts-any (a .labels .now) (a .system .now) (a .actions .now) (a .formula .now) modality in
+    rw (keys, counts ∙ sym any-counts, sym any) (c .before .before .settle-modality .ensures)
 
 settle-at-state-requires : tie.Need-settle-at-state-requires
 settle-at-state-requires c κs =
@@ -74,8 +79,9 @@ returns-2 c =
     let p = start .pre .0 in
     let other = eqb-false (at-kind-of .kind-of .result / 2) 2 (sym (at-if1 .before .is-modality .ensures) ∙ at-if1 .if1 .left) in
     let state = start .args .popped .pair .state in
-    rw (kind-operands _ _ _ (p .0) state _ (p .1) _ (at-kind-of .kind-of .ensures) (λ h. omega (arith, other)))
-    (c .before .before .settle-at-state .ensures)
+    let keys = kind-operands _ _ _ (p .0) state _ (p .1) _ (at-kind-of .kind-of .ensures) (λ h. omega (arith, other)) in
+    let counts = kind-counts _ _ _ (p .0) state _ (p .1) _ (at-kind-of .kind-of .ensures) (λ h. omega (arith, other)) in
+    rw (keys, counts) (c .before .before .settle-at-state .ensures)
 
 pub settle-spec : {M : Type 1} → statement M
 settle-spec =

@@ -2,14 +2,16 @@
 -- nothing.
 use mathlib.Core.Path.{sym, subst}
 use native.Mathlib.Omega.{arith}
+use Rattle.rules.specs.Lists.{zeros}
 use Rattle.pairs.specs.Slot.{Multiples}
 use Rattle.settling.proofs.Make.{made-none}
-use Rattle.stepping.proofs.Operands.{operands-none, first-fits, few, second-fits, operand-keys}
+use Rattle.stepping.proofs.Operands.{operands-none, first-fits, few, second-fits, operand-keys, operand-counts}
 use borrow.Author.Needs.{needs}
 use Rattle.stepping.proofs.settle_at_state.Statement.{statement}
 use Rattle.stepping.proofs.settle_at_state.Tie as tie
 
 returns : tie.Need-returns
+unfolding zeros
 returns c =
     let start = c .before .before in
     rw (operands-none _ _ _ (c .if1 .taken)) (made-none _ _ _ _ (start .pre .1 .0))
@@ -53,9 +55,12 @@ returns-2 c =
     let at-operand-count = c .before .before .before .before .before in
     let start = at-operand-count .before .before .before .before .before in
     let o = at-operand-count .operand-count .ensures in
-    let keys = operand-keys _ _ _ _ (start .pre .1 .1) _ _ (at-operand-count .before .before .left-of .ensures) (at-operand-count .before .right-of .ensures) _ (o .0) (o .1)
-    (omega (arith, at-operand-count .before .before .before .if1 .left)) in
-    rw keys (c .before .before .settle-operands .ensures)
+    let left = at-operand-count .before .before .left-of .ensures in
+    let right = at-operand-count .before .right-of .ensures in
+    let some = at-operand-count .before .before .before .if1 .left in
+    let keys = operand-keys _ _ _ _ (start .pre .1 .1) _ _ left right _ (o .0) (o .1) (omega (arith, some)) in
+    let counts = operand-counts _ _ _ _ (start .pre .1 .1) _ _ left right _ (o .0) (o .1) (omega (arith, some)) in
+    rw (keys, counts) (c .before .before .settle-operands .ensures)
 
 pub settle-at-state-spec : {M : Type 1} → statement M
 settle-at-state-spec =

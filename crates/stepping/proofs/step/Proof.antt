@@ -12,14 +12,14 @@ use Rattle.stepping.proofs.step.Tie as tie
 returns : tie.Need-returns
 returns c =
     let start = c .before .before .before .before .before .before .before in
-    step-none _ _ _ _ _ _ (start .pre .1) (c .if1 .taken)
+    step-none _ _ _ _ _ _ _ (start .pre .1) (c .if1 .taken)
 
 pop-requires : tie.Need-pop-requires
 pop-requires c κs =
     let at-if1 = c .before in
     let start = at-if1 .before .before .before .before .before .before .before in
     let g = start .pre .1 in
-    (g .ready, (omega (arith, at-if1 .if1 .left), top-below _ _ _ _ _ _ g (at-if1 .if1 .left) _ refl))
+    (g .ready, (omega (arith, at-if1 .if1 .left), top-below _ _ _ _ _ _ _ g (at-if1 .if1 .left) _ refl))
 
 settle-requires : tie.Need-settle-requires
 settle-requires c κs =
@@ -39,7 +39,7 @@ close-requires c κs =
     let at-settle = c .before .before .before .before .before .before in
     let at-pop = at-settle .before .before .before .before .before in
     let start = at-pop .before .before .before .before .before .before .before .before .before in
-    let m = subst (Answer _ _ _ _ _ _) (c .before .before .made .given .1) (at-settle .settle .ensures) in
+    let m = subst (Answer _ _ _ _ _ _ _) (c .before .before .made .given .1) (at-settle .settle .ensures) in
     pop-close _ (start .pre .0 .input) _ _ _ _ (start .pre .1) (at-pop .before .before .if1 .left) _ _ (at-pop .pop .ensures) _ _ m
 
 enum-told : tie.Need-enum-told
@@ -54,7 +54,7 @@ returns-2 c =
     let at-settle = at-made .before .before .before .before in
     let at-pop = at-settle .before .before .before .before .before in
     let start = at-pop .before .before .before .before .before .before .before .before .before in
-    let m = subst (Answer _ _ _ _ _ _) (at-made .made .given .1) (at-settle .settle .ensures) in
+    let m = subst (Answer _ _ _ _ _ _ _) (at-made .made .given .1) (at-settle .settle .ensures) in
     let closed = c .before .before .close in
     pop-answer _ (start .pre .0 .input) _ _ _ _ (start .pre .1) (at-pop .before .before .if1 .left) _ _ (at-pop .pop .ensures) _ _ m
     (closed .last .1 .0) (closed .result) (closed .ensures)
@@ -67,7 +67,7 @@ returns-3 c =
     let at-settle = c .before .before .before .before in
     let at-pop = at-settle .before .before .before .before .before in
     let start = at-pop .before .before .before .before .before .before .before .before .before in
-    let m = subst (Answer _ _ _ _ _ _) (c .enum-told .given .1) (at-settle .settle .ensures) in
+    let m = subst (Answer _ _ _ _ _ _ _) (c .enum-told .given .1) (at-settle .settle .ensures) in
     pop-full _ (start .pre .0 .input) _ _ _ _ (start .pre .1) (at-pop .before .before .if1 .left) _ _ (at-pop .pop .ensures) m
 
 pub step-spec : {M : Type 1} → statement M

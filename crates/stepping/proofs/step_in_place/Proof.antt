@@ -52,7 +52,7 @@ use Rattle.rules.specs.Words.{Input, inputOf}
 use Rattle.rules.specs.declared.Room.{Room}
 use Rattle.rules.proofs.Room as P
 use Rattle.rules.proofs.Room.Laws as P′
-use Rattle.settling.specs.Keys.{keyTargets, rootKey}
+use Rattle.settling.specs.Keys.{keyTargets, keyBehind, rootKey}
 use Rattle.settling.specs.Good.{Good}
 use Rattle.settling.specs.declared.Counters.{Counters}
 use Rattle.settling.proofs.Counters as T
@@ -114,11 +114,13 @@ module _ {M : Type 1} (𝓤 : URA M) (H : Heap 𝓤) (A : Atoms 𝓤) (W : Given
   abbrev Pre : Type 0
   Pre =
       Prepared x (s .1 .1 .1 .1 .0 .now) (s .1 .1 .1 .1 .1 .0 .now)
-      × Good (keyTargets x) (rootKey x) ys (room .vertices) (room .edges) h
+      × Good (keyTargets x) (keyBehind x) (rootKey x) ys (room .vertices) (room .edges) h
 
   -- what `try_step` answers, with the work words that it leaves
   abbrev Said : Tried → List ℕ → Type 0
-  Said r zs = TriedAnswer (keyTargets x) (rootKey x) ys (room .vertices) (room .edges) h zs (r .counters) (r .more)
+  Said r zs =
+      TriedAnswer (keyTargets x) (keyBehind x) (rootKey x) ys (room .vertices) (room .edges) h zs
+      (r .counters) (r .more)
 
   abbrev κs : Lfts 8
   κs = (κ0, (κ1, κs′))

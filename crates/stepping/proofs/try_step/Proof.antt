@@ -10,7 +10,7 @@ use Rattle.stepping.proofs.try_step.Tie as tie
 returns : tie.Need-returns
 returns c =
     let start = c .before .before .before .before .before .before .before in
-    inl (c .if1 .taken, step-none _ _ _ _ _ _ (start .pre .1) (c .if1 .taken))
+    inl (c .if1 .taken, step-none _ _ _ _ _ _ _ (start .pre .1) (c .if1 .taken))
 
 step-requires : tie.Need-step-requires
 step-requires c κs = search needs
@@ -25,7 +25,8 @@ returns-2 : tie.Need-returns-2
 returns-2 c =
     let at-if1 = c .before .before .before .before .before in
     let stepped = c .before .before .before .step in
-    tried-answer _ _ _ _ _ _ _ (stepped .result) _ (c .tried-by .ensures) (omega (arith, at-if1 .if1 .left)) (stepped .ensures)
+    tried-answer _ _ _ _ _ _ _ _ (stepped .result) _ (c .tried-by .ensures) (omega (arith, at-if1 .if1 .left))
+    (stepped .ensures)
 
 pub try-step-spec : {M : Type 1} → statement M
 try-step-spec = tie.close (tie.spec returns step-requires tried-by-requires same-length returns-2)

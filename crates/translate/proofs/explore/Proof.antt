@@ -17,7 +17,7 @@ walk-requires : tie.Need-walk-requires
 walk-requires c κs =
     let at-begin = c .before .before .before .before .before .before in
     let start = at-begin .before .before .before .before .before .before .before .before in
-    (start .pre .0, subst (WalkAnswer _ _ _ _ _ _) (c .before .before .counters .given .1) (at-begin .begin .ensures))
+    (start .pre .0, subst (WalkAnswer _ _ _ _ _ _ _) (c .before .before .counters .given .1) (at-begin .begin .ensures))
 
 enum-told : tie.Need-enum-told
 enum-told c = search needs
@@ -34,7 +34,8 @@ same-length-2 c = search needs
 returns-2 : tie.Need-returns-2
 returns-2 c =
     let at-begin = c .before .before .before .before in
-    exceeding-later _ _ _ _ 0 _ (omega arith) (subst (WalkAnswer _ _ _ _ _ _) (c .enum-told .given .1) (at-begin .begin .ensures))
+    exceeding-later _ _ _ _ 0 _ (omega arith)
+    (subst (WalkAnswer _ _ _ _ _ _ _) (c .enum-told .given .1) (at-begin .begin .ensures))
 
 pub explore-spec : {M : Type 1} → statement M
 explore-spec =

@@ -2,7 +2,7 @@
 //! around them.
 use crate::check::call::show;
 use crate::check::lent::Lent;
-use crate::plain;
+use crate::{game_words, plain};
 
 /// A call that writes a text: game; text, answer.
 pub type Write = fn(&[u32], &mut [u8], &mut [u32; 4]);
@@ -62,7 +62,7 @@ pub enum Call {
 impl Call {
     /// Reads into a slice of the right length.
     pub fn read(text: impl Into<Vec<u8>>, vertices: u32, edges: u32) -> Call {
-        let game = 4 + 3 * vertices as usize + edges as usize;
+        let game = game_words(vertices as usize, edges as usize);
         Call::Read { text: text.into(), vertices, edges, game }
     }
 
@@ -144,7 +144,8 @@ pub fn perform(call: &Call, by: Implementation, fill: u8) -> Outcome {
     Outcome { answer: answer.read().try_into().expect("four words"), text, game, intact }
 }
 
-/// What holds after every call, whatever it was handed: zeros past what was written, and a refusal alters nothing.
+/// What holds after every call, whatever it was handed: zeros past what was written, a game that is read has no counts,
+/// and a refusal alters nothing.
 pub fn unlawful(outcome: &Outcome, fill: u8) -> Option<&'static str> {
     let Outcome { answer, text, game, intact } = outcome;
     if !intact {
@@ -157,7 +158,10 @@ pub fn unlawful(outcome: &Outcome, fill: u8) -> Option<&'static str> {
     match *answer {
         // The other slice is empty; a game that was read counts its vertices as steps.
         [0, bytes, 0, 0] => zero_from(bytes as usize),
-        [0, steps, n, m] if steps == n => zero_from(4 + 3 * n as usize + m as usize),
+        [0, steps, n, m] if steps == n => {
+            let end = game_words(n as usize, m as usize);
+            zero_from(end).or_else(|| zero_from(end - m as usize).map(|_| "a game that was read has a count"))
+        }
         [2, _, 0, 0] | [2, 52 | 53, _, 0] => {
             let same = text.iter().all(|&byte| byte == fill) && game.iter().all(|&word| word == fill as u32);
             (!same).then_some("a refusal altered the lent slice")

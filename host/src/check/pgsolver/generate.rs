@@ -1,6 +1,7 @@
 //! Random games and random texts, most of them of the form, with faults of vertices, room and numbers.
 use super::call::{Call, PLAIN, perform};
-use crate::check::generate::{Random, random_game};
+use crate::check::generate::{Random, count, random_game};
+use crate::game_words;
 
 /// A game in which most vertices have successors, some of them repeated, and some starts are not vertex 0.
 pub fn game(random: &mut Random, most: usize) -> Vec<u32> {
@@ -14,7 +15,7 @@ pub fn game(random: &mut Random, most: usize) -> Vec<u32> {
     assembled(random, degrees.into_iter().enumerate().map(|(v, d)| if stuck == Some(v) { 0 } else { d }).collect())
 }
 
-/// A game of these out-degrees, with any owners, priorities and targets.
+/// A game of these out-degrees, with any owners, priorities, targets and counts.
 fn assembled(random: &mut Random, degrees: Vec<u32>) -> Vec<u32> {
     let (n, m) = (degrees.len(), degrees.iter().sum());
     let initial = if random.chance(30) { random.below(n) as u32 } else { 0 };
@@ -28,7 +29,15 @@ fn assembled(random: &mut Random, degrees: Vec<u32>) -> Vec<u32> {
     // Few different targets give many repeats.
     let targets = random.pick(&[n, n, n.min(3)]);
     words.extend((0..m).map(|_| random.below(targets) as u32));
+    words.extend((0..m).map(|_| count(random)));
     words
+}
+
+/// The game with other counts, of which its text says nothing.
+pub fn recounted(random: &mut Random, game: &[u32]) -> Vec<u32> {
+    let (rest, counts) = game.split_at(game.len() - game[1] as usize);
+    let counts: Vec<u32> = counts.iter().map(|_| count(random)).collect();
+    [rest, &counts].concat()
 }
 
 /// Every count of digits, and the largest.
@@ -65,7 +74,7 @@ pub fn rooms(random: &mut Random, text: &[u8]) -> Vec<Call> {
         [0, _, n, m] => (n, m),
         _ => return vec![largest, Call::read(text, v.div_ceil(2), e.div_ceil(2))],
     };
-    let wrong = 4 + 3 * n as usize + m as usize + random.pick(&[1, 2]) - random.pick(&[0, 3]);
+    let wrong = game_words(n as usize, m as usize) + random.pick(&[1, 2]) - random.pick(&[0, 3]);
     let wrong = Call::Read { text: text.to_vec(), vertices: n, edges: m, game: wrong };
     let exact = Call::read(text, n, m);
     vec![largest, exact, Call::read(text, n - 1, m), Call::read(text, n, m - 1), wrong]

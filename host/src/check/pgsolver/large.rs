@@ -7,7 +7,7 @@ use crate::plain::{MOST_EDGES, MOST_VERTICES};
 use crate::{Answer, Room};
 use std::io::Write;
 
-/// The game with repeated edges removed, from vertex 0: what its text says.
+/// The game with repeated edges removed, from vertex 0 and with all counts 0: what its text says.
 pub fn without_repeats(game: &[u32]) -> Vec<u32> {
     let n = game[0] as usize;
     let (mut offsets, mut targets) = (vec![0], Vec::new());
@@ -22,7 +22,8 @@ pub fn without_repeats(game: &[u32]) -> Vec<u32> {
         }
         offsets.push(targets.len() as u32);
     }
-    [&[game[0], targets.len() as u32, 0], &game[3..3 + 2 * n], &offsets, &targets].concat()
+    let counts = vec![0; targets.len()];
+    [&[game[0], targets.len() as u32, 0], &game[3..3 + 2 * n], &offsets, &targets, &counts].concat()
 }
 
 /// So many vertices with so many edges each; of four, about one in eleven repeats the one before it.
@@ -37,6 +38,7 @@ pub fn game(n: u32, degree: u32) -> Vec<u32> {
         let target = if random.chance(12) { last.min(n - 1) } else { random.below(n as usize) as u32 };
         words.push(target);
     }
+    words.extend((0..n * degree).map(|edge| edge % 5));
     words
 }
 
@@ -207,5 +209,6 @@ fn hub(n: u32, degree: u32) -> Vec<u32> {
     words.extend((0..n).map(|vertex| degree + vertex));
     words.extend((0..degree).map(|_| random.below(n as usize) as u32));
     words.extend(std::iter::repeat_n(0, n as usize - 1));
+    words.extend((0..degree + n - 1).map(|edge| edge % 5));
     words
 }

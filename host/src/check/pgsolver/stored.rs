@@ -11,7 +11,7 @@ use super::generate::Draft;
 use super::{cases, damage, generate, large};
 use crate::check::generate::Random;
 use crate::check::{call, kinds, record};
-use crate::{bytes_of, words_of};
+use crate::{bytes_of, game_words, words_of};
 
 /// The most bytes handed over, and the most bytes or words lent.
 pub const MOST: usize = 4_096;
@@ -70,7 +70,7 @@ pub fn cause(called: &Call, answer: [u32; 4]) -> (u32, String) {
         (Call::Write { .. }, _) => "text slice too short".to_string(),
         (Call::Read { vertices, edges, .. }, 1) => kinds::room(*vertices, *edges),
         (Call::Read { vertices, edges, game, .. }, 2) => {
-            let short = *game < 4 + 3 * *vertices as usize + *edges as usize;
+            let short = *game < game_words(*vertices as usize, *edges as usize);
             format!("game slice too {}", if short { "short" } else { "long" })
         }
         (_, 91) => "not of the form".to_string(),
