@@ -15,7 +15,7 @@ ghost use Rattle.alike_nodes.specs.Nodes.{ActionNodeShown, NodeShown, shape_word
 use words::at;
 
 // What a node is: its kind and its two operands.
-#[derive(Drop)]
+#[derive(Clone, Copy)]
 pub struct Shape {
     pub kind: u32,
     pub left: u32,

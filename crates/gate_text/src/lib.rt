@@ -15,7 +15,7 @@ ghost use Rattle.gate_text.specs.Shown.{Shown};
 use rules::Answer;
 
 // What the bytes are: so many words, or nothing that can be run.
-#[derive(Drop)]
+#[derive(Clone, Copy)]
 enum Decoded {
     Read(usize),
     Unreadable,

@@ -14,7 +14,7 @@ pub const LABELS: usize = 4096;
 type LabelStarts = [u32; LABELS];
 
 // The places from `from` up to `to` in the list of the labels' actions.
-#[derive(Drop)]
+#[derive(Clone, Copy)]
 struct Places {
     from: usize,
     to: usize,

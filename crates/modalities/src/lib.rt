@@ -26,7 +26,7 @@ use words::at;
 type Answers = [u8; LABELS];
 
 // A modality at a state: the state, the node of its action formula, the item number of its operand.
-#[derive(Drop)]
+#[derive(Clone, Copy)]
 pub struct Modality {
     pub state: u32,
     pub action: u32,
@@ -35,7 +35,7 @@ pub struct Modality {
 
 // The transitions of a state, from `first` up to `end`, and where among the words of the system the labels and the
 // targets of all transitions begin.
-#[derive(Drop)]
+#[derive(Clone, Copy)]
 pub struct Moves {
     pub first: usize,
     pub end: usize,

@@ -99,14 +99,14 @@ fn slot_of(multiples: &[u32], state: u32, item: u32, scaled: u32, slots: u32) ->
 }
 
 // Where a pair stands: the vertex that it has, or the empty slot that is for it, or nowhere, because no slot is empty.
-#[derive(Drop)]
+#[derive(Clone, Copy)]
 pub enum Place {
     Known(VertexIndex),
     Free(usize),
     Nowhere,
 }
 
-#[derive(Drop)]
+#[derive(Clone, Copy)]
 pub enum Numbered {
     Vertex { vertex: VertexIndex, known: u32 },
     NoRoom,

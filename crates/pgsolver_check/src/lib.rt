@@ -21,7 +21,7 @@ use pgsolver_scan::{Number, Row, VertexLine};
 // What the survey of a text finds: the highest vertex number, the place of the first line, how many lines there are,
 // the highest number and the highest priority on them, a bound for the edges, whether the lines are in the order of
 // their numbers, and whether their numbers below 1,048,576 are all different.
-#[derive(Drop)]
+#[derive(Clone, Copy)]
 struct Found {
     highest: usize,
     first: usize,
@@ -33,7 +33,7 @@ struct Found {
     apart: bool,
 }
 
-#[derive(Drop)]
+#[derive(Clone, Copy)]
 enum Survey {
     Surveyed(Found),
     Formless,
@@ -41,7 +41,7 @@ enum Survey {
 
 // What a text that is not refused gives: its highest vertex, the place of its first line, and whether its lines are in
 // the order of their numbers; or the number of its refusal.
-#[derive(Drop)]
+#[derive(Clone, Copy)]
 pub enum Plan {
     Good {
         highest: usize,
@@ -220,7 +220,7 @@ fn numbers_differ(text: &[u8], first: usize, highest: usize, bits: &mut Bitmap) 
 // ---- edges: they are counted only where the bound that the survey found is more than there is room for
 
 // How many different numbers a list has, and the place past it.
-#[derive(Drop)]
+#[derive(Clone, Copy)]
 struct Counted {
     count: usize,
     next: usize,

@@ -26,14 +26,14 @@ use pgsolver_check::Plan;
 use rules::{Answer, Check, Room};
 
 // What was written of a vertex: the place past its targets in the game, and the place past its successors in the text.
-#[derive(Drop)]
+#[derive(Clone, Copy)]
 struct Written {
     end: usize,
     next: usize,
 }
 
 // How many digits the vertices below a bound have; the bound is the first number that has one more.
-#[derive(Drop)]
+#[derive(Clone, Copy)]
 struct Digits {
     count: usize,
     bound: usize,

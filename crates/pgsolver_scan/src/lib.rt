@@ -11,28 +11,28 @@ ghost use Rattle.pgsolver_scan.specs.Told.{ToldRow};
 ghost use Rattle.pgsolver_scan.specs.declared.Number.TheVariants.{At};
 
 // A number, and the place past it.
-#[derive(Drop)]
+#[derive(Clone, Copy)]
 pub enum Number {
     At { value: usize, next: usize },
     NoNumber,
 }
 
 // The same of a number that is known to stand there.
-#[derive(Drop)]
+#[derive(Clone, Copy)]
 pub struct Known {
     pub value: usize,
     pub next: usize,
 }
 
 // Numbers parted by commas: the largest, how many are listed, and the place past them.
-#[derive(Drop)]
+#[derive(Clone, Copy)]
 pub enum Numbers {
     Ends(usize, usize, usize),
     NoNumbers,
 }
 
 // The place past something.
-#[derive(Drop)]
+#[derive(Clone, Copy)]
 pub enum Skip {
     To(usize),
     NoSkip,
@@ -40,7 +40,7 @@ pub enum Skip {
 
 // What the line of a vertex says: number, priority, owner, the largest of its successors, how many are listed, and the
 // place past the line.
-#[derive(Drop)]
+#[derive(Clone, Copy)]
 pub struct VertexLine {
     pub number: usize,
     pub priority: usize,
@@ -50,7 +50,7 @@ pub struct VertexLine {
     pub next: usize,
 }
 
-#[derive(Drop)]
+#[derive(Clone, Copy)]
 pub enum Row {
     Given(VertexLine),
     NoRow,

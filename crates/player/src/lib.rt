@@ -3,18 +3,18 @@
 ghost use Rattle.std.specs.Prelude.{◌≡◌};
 ghost use Rattle.player.specs.Player.{player_index, other_player};
 
-#[derive(Drop)]
+#[derive(Clone, Copy)]
 pub enum Player {
     Even,
     Odd,
 }
 
 // The number of a vertex. Only where words are written is it taken apart.
-#[derive(Drop)]
+#[derive(Clone, Copy)]
 pub struct VertexIndex(pub u32);
 
 // The priority of a vertex. Only where words are written is it taken apart.
-#[derive(Drop)]
+#[derive(Clone, Copy)]
 pub struct Priority(pub u32);
 
 // Even is 0, Odd is 1.

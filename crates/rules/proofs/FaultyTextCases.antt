@@ -62,6 +62,7 @@ ranked = even_line 0 4_294_967_296 (0 ∷ 0 ∷ [])
 
 one_line : (v p s : ℕ) (ss : List ℕ) (l : SolverLine) → In l (even_line v p (s ∷ ss) ∷ []) → ProperLine l
 one_line v p s ss l (inl e) = subst ProperLine (sym e) (even_proper v p s ss)
+one_line v p s ss l (inr x') = elim x' [ ]
 
 pub one_says : HasForm (characters "parity 0;\n0 0 0 0;\n") (says 0 (line0 ∷ []))
 unfolding every_rule every_solver_rule
@@ -97,6 +98,7 @@ named_says = record { spelling = refl; proper = alone }
   where
     other : (c : ℕ) → ¬ (◌≡◌ {A = ℕ} c 59) → ¬ In c (59 ∷ [])
     other c d (inl e) = d e
+    other c d (inr x') = elim x' [ ]
 
     plain : ProperLine named
     plain =
@@ -108,11 +110,13 @@ named_says = record { spelling = refl; proper = alone }
 
     alone : (l : SolverLine) → In l (named ∷ []) → ProperLine l
     alone l (inl e) = subst ProperLine (sym e) plain
+    alone l (inr x') = elim x' [ ]
 
 -- ---- and what is wrong with them
 
 zero_alone : ¬ In {A = ℕ} 1 (0 ∷ [])
 zero_alone (inl e) = let z : ◌≡◌ {A = ℕ} 1 0 = e in omega arith
+zero_alone (inr x') = elim x' [ ]
 
 pub reading_faults : FaultyReading (room_of 1048577 1) [] 0 1 0
     × FaultyReading (room_of 1 1) [] 10 2 0

@@ -2,7 +2,7 @@
 // the room that a run is lent.
 
 // What a call answers: Done (steps, vertices, edges), Cut (steps, vertices known, edges) or Refused (number, place).
-#[derive(Drop)]
+#[derive(Clone, Copy)]
 pub enum Answer {
     Done(u32, u32, u32),
     Cut(u32, u32, u32),
@@ -10,14 +10,14 @@ pub enum Answer {
 }
 
 // What a check of an input answers: it passed, or has a fault (number, place).
-#[derive(Drop)]
+#[derive(Clone, Copy)]
 pub enum Check {
     Passed,
     Fault(u32, u32),
 }
 
 // The room lent for a game: so many vertices and edges.
-#[derive(Drop)]
+#[derive(Clone, Copy)]
 pub struct Room {
     pub vertices: u32,
     pub edges: u32,

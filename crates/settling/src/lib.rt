@@ -15,7 +15,7 @@ use rules::Room;
 use words::{DEGREES, MARKS, REGIONS, STACK};
 
 // Where a walk stands, in numbers.
-#[derive(Drop)]
+#[derive(Clone, Copy)]
 pub struct Counters {
     pub known: u32,
     pub settled: u32,
@@ -24,14 +24,14 @@ pub struct Counters {
 }
 
 // What a step, or a part of one, answers: the counters, or that the lent room is too small.
-#[derive(Drop)]
+#[derive(Clone, Copy)]
 pub enum Stepped {
     Fits(Counters),
     Full,
 }
 
 // What meeting a pair answers: its vertex, or that there are too many vertices.
-#[derive(Drop)]
+#[derive(Clone, Copy)]
 pub enum Met {
     Meets {
         vertex: VertexIndex,
@@ -183,7 +183,7 @@ fn mark_index(by_state: bool, state: u32, vertex: VertexIndex) -> u32
 // What the targets of a modality share: the item of its operand, the item's multiple, from which the slots are told, the
 // place where their edges begin, whether their marks go by their states or by their vertices, and how many marks there
 // are.
-#[derive(Drop)]
+#[derive(Clone, Copy)]
 pub struct Operand {
     pub item: u32,
     pub scaled: u32,

@@ -27,7 +27,7 @@ use settling::{Counters, Met, Stepped};
 use words::{DEGREES, MARKS, STACK, STARTS};
 
 // A state and the number of an item.
-#[derive(Drop)]
+#[derive(Clone, Copy)]
 pub struct Pair {
     pub state: u32,
     pub item: u32,
@@ -46,7 +46,7 @@ fn pair_of(work: &[u32], vertices: u32, vertex: VertexIndex) -> Pair
 }
 
 // A vertex taken off the stack: the counters without it, and the pair that it stands for.
-#[derive(Drop)]
+#[derive(Clone, Copy)]
 pub struct Popped {
     pub counters: Counters,
     pub vertex: VertexIndex,
@@ -180,7 +180,7 @@ pub fn step(
 }
 
 // The counters after a try, and whether there may be another step.
-#[derive(Drop)]
+#[derive(Clone, Copy)]
 pub struct Tried {
     pub counters: Counters,
     pub more: bool,
@@ -260,14 +260,14 @@ pub fn step_in_place(
 }
 
 // Where the steps end: the counters, and how many steps there were.
-#[derive(Drop)]
+#[derive(Clone, Copy)]
 pub struct Ran {
     pub counters: Counters,
     pub steps: u32,
 }
 
 // What a run may use: room for vertices and edges, and so many steps.
-#[derive(Drop)]
+#[derive(Clone, Copy)]
 pub struct Bounds {
     pub room: Room,
     pub limit: u32,

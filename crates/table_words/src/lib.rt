@@ -11,7 +11,7 @@ use rules::Check;
 use words::NODES;
 
 // The tables of trees that a run reads.
-#[derive(Drop)]
+#[derive(Clone, Copy)]
 pub enum Table {
     Actions,
     Formula,

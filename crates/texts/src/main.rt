@@ -10,7 +10,7 @@ use libc::{STDIN_FILENO, STDOUT_FILENO};
 use rules::Answer;
 
 // What a record shows; Nothing where none is left.
-#[derive(Drop)]
+#[derive(Clone, Copy)]
 enum Seen {
     Same,
     Different,
