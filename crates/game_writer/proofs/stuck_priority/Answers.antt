@@ -1,0 +1,8 @@
+use mathlib.Core.Path.{ap, ◌∙◌}
+use Rattle.player.specs.Player.{player_index}
+use Rattle.rules.specs.Game.{stuck_priority}
+use Rattle.game_writer.proofs.stuck_priority.Goals as goal
+
+pub returns : goal.returns
+unfolding stuck_priority
+returns c = c.to_index.ensures ∙ ap player_index c.opponent-winner.ensures
