@@ -7,7 +7,4 @@ pub mod Walking
 pub mod Starts
 pub mod Offsets
 pub mod Paired
-pub mod Aside
 pub mod Slots
-pub mod Lent
-pub mod Lies

@@ -1,7 +1,7 @@
 -- Steps one after another: the loop of the function `run_steps`. Assumes nothing.
 use mathlib.Core.Path.{◌≡◌, refl, sym, ◌∙◌, ap, subst}
 use mathlib.Core.List.{List, []}
-use mathlib.Core.Bool.{Bool, true, false, not}
+use mathlib.Core.Bool.{Bool, true, false, not, false≢true, true≢false}
 use mathlib.Core.Logic.{inl, inr, ⊎_elim}
 use Prim.Native.Nat.{ℕ, ◌+◌, ◌-◌, ◌≤◌, ◌<◌}
 use native.Mathlib.Numerals.{add-one}
@@ -105,3 +105,14 @@ module _ (targets : ℕ → List ℕ) (behind : ℕ → ℕ → ℕ) (root v e k
           made = ⊎_elim (λ (p : k ≤ i). absurd (omega (arith, p, h))) (λ (p : c'.waiting ≤ 0). absurd (omega (arith, p, m.0)));
           many = λ _ _. walking_many w c i s h m.1;
         }
+
+    -- the same by the test of the loop
+    pub stepped_on : (r : Bool) → r ≡ true → TriedAnswer targets behind root w v e c w' c' r
+        → Walking targets behind root v e k w₀ w' c' (i + 1)
+    stepped_on true _ m = walking_on w c i s w' c' h l m
+    stepped_on false f m = absurd (false≢true f)
+
+    pub stepped_last : (r : Bool) → r ≡ false → TriedAnswer targets behind root w v e c w' c' r
+        → RanAnswer targets behind root v e k w' c' i
+    stepped_last true f m = absurd (true≢false f)
+    stepped_last false _ m = tried_last false tt m
