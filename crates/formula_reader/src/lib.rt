@@ -5,7 +5,7 @@ ghost use Rattle.std.specs.Prelude.{◌≡◌};
 ghost use Rattle.rules.specs.Table.{kind, operand};
 ghost use Rattle.words.specs.Node.{has_kind, has_operand};
 
-#[derive(Drop)]
+#[derive(Clone, Copy)]
 pub struct FormulaReader<'a> {
     pub words: &'a [u32],
     pub node: usize,
