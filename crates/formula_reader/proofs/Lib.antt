@@ -1,3 +1,0 @@
-pub mod Owned
-pub mod Through
-pub mod Held

@@ -1,0 +1,15 @@
+use Prim.Native.Nat.{ℕ, ◌+◌, ◌≤◌, ◌-◌}
+use mathlib.Core.Path.{◌≡◌}
+use lib.ListN.{length, get_or}
+use Rattle.rules.specs.Table.{size}
+use Rattle.tables.specs.Ends.{end_of}
+use Rattle.table_words.specs.Tables.{children_of}
+use Rattle.table_words.proofs.tree_ends.Given as goal
+
+abbrev pub invariant-loop-node : goal.invariant-loop-node
+invariant-loop-node l =
+    (l.node ≤ size l.ws) × (length l.ends ≡ 1026)
+    × ((j : ℕ) → l.node ≤ j → j ≤ size l.ws + 1 → get_or l.ends j 0 ≡ end_of (children_of l.table l.ws) (size l.ws) j)
+
+abbrev pub decreases-loop-node : goal.decreases-loop-node
+decreases-loop-node l = l.node
