@@ -68,7 +68,13 @@ fn nodes(rt: &impl Print, count: usize) -> io::Result<()>
     }
     formula[0] = count as u32;
     let end = 1 + 2 * count;
-    attempt(rt, &[1, 1, 0, 7], &[1, 0, 0, 0], &[1, 2, 0], &formula[..end])
+    attempt(
+        rt,
+        &[1, 1, 0, 7],
+        &[1, 0, 0, 0],
+        &[1, 2, 0],
+        &formula[..end],
+    )
 }
 
 // A row of so many action formulas `true`.
@@ -78,7 +84,13 @@ fn row(rt: &impl Print, count: usize) -> io::Result<()>
     let mut actions = table();
     actions[0] = count as u32;
     let end = 1 + 2 * count;
-    attempt(rt, &[1, 1, 0, 7], &[1, 0, 0, 0], &actions[..end], &[1, 0, 0])
+    attempt(
+        rt,
+        &[1, 1, 0, 7],
+        &[1, 0, 0, 0],
+        &actions[..end],
+        &[1, 0, 0],
+    )
 }
 
 fn label_room() -> [u32; 32772]
@@ -113,7 +125,13 @@ fn transitions(rt: &impl Print, count: usize) -> io::Result<()>
     system[1] = count as u32;
     system[3] = count as u32;
     let end = 4 + 2 * count;
-    attempt(rt, &[1, 1, 0, 7], &system[..end], &[1, 2, 0], &[2, 5, 0, 0, 0])
+    attempt(
+        rt,
+        &[1, 1, 0, 7],
+        &system[..end],
+        &[1, 2, 0],
+        &[2, 5, 0, 0, 0],
+    )
 }
 
 // Room in range is refused here for the slices' lengths, by 2; room out of range by 1.

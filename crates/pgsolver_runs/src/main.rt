@@ -47,12 +47,7 @@ fn widen(bytes: &[u8], shown: &mut [u32])
     }
 }
 
-fn print_widened(
-    rt: &impl Print,
-    answer: Answer,
-    text: &[u8],
-    shown: &mut [u32],
-) -> io::Result<()>
+fn print_widened(rt: &impl Print, answer: Answer, text: &[u8], shown: &mut [u32]) -> io::Result<()>
     requires { length shown.old ≤ length text.now }
 {
     widen(text, shown);

@@ -115,7 +115,7 @@ fn judge_short(rt: &impl Print, number: u64, input: &[u8]) -> io::Result<Seen> {
     if !refused_length(answer) {
         return differs_short(rt, number, answer);
     }
-    if text[..] == held[..] {
+    if text == held {
         return Ok(Seen::Same);
     }
     differs_short(rt, number, answer)
@@ -151,7 +151,7 @@ fn judge_buffer(
     if !wrote(answer, stored) {
         return differs(rt, number, answer, stored);
     }
-    if text[..] == *want {
+    if &text[..] == want {
         return judge_short(rt, number, input);
     }
     differs(rt, number, answer, stored)
@@ -171,7 +171,7 @@ fn judge(
     if !wrote(answer, stored) {
         return differs(rt, number, answer, stored);
     }
-    if text[..] == *want {
+    if &text[..] == want {
         return judge_buffer(rt, number, input, want, stored);
     }
     differs(rt, number, answer, stored)
