@@ -61,10 +61,8 @@ fn nodes(rt: &impl Print, count: usize) -> io::Result<()>
     requires { count ≤ 1025 }
 {
     let mut formula = table();
-    let mut i = 1;
-    while i < count {
+    for i in 1..count {
         formula[i] = 4;
-        i += 1;
     }
     formula[0] = count as u32;
     let end = 1 + 2 * count;

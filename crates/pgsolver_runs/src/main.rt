@@ -40,10 +40,8 @@ fn wide(byte: u8) -> u32 {
 fn widen(bytes: &[u8], shown: &mut [u32])
     requires { length shown.old ≤ length bytes.now }
 {
-    let mut i = 0;
-    while i < shown.len() {
-        shown[i] = wide(bytes[i]);
-        i += 1;
+    for (word, byte) in shown.iter_mut().zip(bytes) {
+        *word = wide(*byte);
     }
 }
 

@@ -125,15 +125,10 @@ fn judge_short(rt: &impl Print, number: u64, input: &[u8]) -> io::Result<Seen> {
 fn read_front(input: &[u8], buffer: &mut Buffer) -> usize
     ensures { result ≤ 8193 }
 {
-    let mut i = 0;
-    while i < input.len() {
-        if i == READ {
-            return i;
-        }
-        buffer[i] = input[i];
-        i += 1;
-    }
-    i
+    let count = input.len().min(READ);
+    buffer[..count].copy_from_slice(&input[..count]);
+    count
+}
 }
 
 // As `judge`, of the input as the thin program reads it.
