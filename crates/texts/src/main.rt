@@ -5,7 +5,7 @@
 // were. docs/STORED-RUNS.md says how they were made.
 #![tactic(auto)]
 
-ghost use Rattle.std.specs.Prelude.{◌≤◌, length, ◌≡◌};
+ghost use Rattle.std.specs.Prelude.{◌≤◌, length, take, ◌≡◌};
 
 use gate_text::{Buffer, READ};
 use rules::Answer;
@@ -123,12 +123,12 @@ fn judge_short(rt: &impl Print, number: u64, input: &[u8]) -> io::Result<Seen> {
 
 // What the thin program reads of an input: as many bytes as its buffer holds. Answers how many.
 fn read_front(input: &[u8], buffer: &mut Buffer) -> usize
-    ensures { result ≤ 8193 }
+    ensures bound { result ≤ 8193 }
+    ensures front { take result buffer.new ≡ take 8193 input.now }
 {
     let count = input.len().min(READ);
     buffer[..count].copy_from_slice(&input[..count]);
     count
-}
 }
 
 // As `judge`, of the input as the thin program reads it.
