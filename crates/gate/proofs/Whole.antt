@@ -21,8 +21,9 @@ module _ (buffer : List ℕ) (count most : ℕ) (size : length buffer ≡ most) 
   front_whole : (bytes rest : List ℕ) → bytes ≡ front ++ rest → (count < most → rest ≡ []) → take most bytes ≡ front
   front_whole bytes rest split end =
       elim (eq-or-lt_of_le fits) [
-      inl full ↦ ap (take most) split ∙ take-append-le most front rest (omega (arith, long)) ∙ all
-      | inr less ↦ ap (take most) (split ∙ ap (λ l. front ++ l) (end less) ∙ append-nil front) ∙ all ]
+        | inl full ↦ ap (take most) split ∙ take-append-le most front rest (omega (arith, long)) ∙ all
+        | inr less ↦ ap (take most) (split ∙ ap (λ l. front ++ l) (end less) ∙ append-nil front) ∙ all
+      ]
 
   -- of the bytes that a reader had, as many as the buffer can hold are those that it does hold
   pub read_whole : (old new : Option (List ℕ)) → Consumes old new front → (count < length buffer → IsAtEnd new)

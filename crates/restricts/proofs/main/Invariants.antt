@@ -1,5 +1,5 @@
 -- What was read of the games stands before `place`; each turn takes one game.
-use Rattle.std.proofs.Common.{◌≡◌, ◌-◌, ◌+◌, ◌≤◌, length}
+use Rattle.std.proofs.Common.{◌≡◌, ◌-◌, ◌≤◌, length}
 use Rattle.restricts.proofs.main.Given as goal
 
 abbrev pub invariant-loop-place : goal.invariant-loop-place

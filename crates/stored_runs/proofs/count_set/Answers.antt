@@ -10,7 +10,7 @@ loop-i-init c = (refl, omega arith, omega arith)
 
 pub loop-i-preserved : goal.loop-i-preserved
 loop-i-preserved c = (
-    set_more c.args.ws.now c.loop-i.count c.loop-i.i c.set-count.result c.set-count.ensures.0 c.loop-i.invariant.0,
-    omega arith,
-    omega arith,
-  )
+  set_more c.args.ws.now c.loop-i.count c.loop-i.i c.set-count.result c.set-count.ensures.0 c.loop-i.invariant.0,
+  omega arith,
+  omega arith,
+)

@@ -1,5 +1,5 @@
 -- A word is 0 or not.
-use Rattle.std.proofs.Common.{rules, arith}
+use Rattle.std.proofs.Common.{arith}
 use Rattle.stored_runs.proofs.Reading.{one_of_zero, one-of-more}
 use Rattle.stored_runs.proofs.set.Goals as goal
 
