@@ -85,11 +85,12 @@ pub fn formula_shape(
     numbers: &[u32],
     node: usize,
 ) -> Shape
-    ghost x: { Input }
-    requires formula_value { input_of labels.now system.now actions.now formula.now ≡ x }
-    requires good_input { GoodInput x × (node < size x.formula) × (size x.formula ≤ length numbers.now) }
-    requires action_numbers { ActionNumbers x acts.now × EquationNumbers x.formula equations.now }
-    ensures { NodeShown x numbers.now node result }
+    requires good_input { let x = input_of labels.now system.now actions.now formula.now in
+        GoodInput x × (node < size x.formula) × (size x.formula ≤ length numbers.now) }
+    requires action_numbers { let x = input_of labels.now system.now actions.now formula.now in
+        ActionNumbers x acts.now × EquationNumbers x.formula equations.now }
+    ensures { let x = input_of labels.now system.now actions.now formula.now in
+        NodeShown x numbers.now node result }
 {
     let kind = words::kind_at(formula, node) as u32;
     if kind <= 1 {
@@ -202,11 +203,11 @@ pub fn number_formula(
     shapes: &mut Shapes,
     numbers: &mut [u32],
 )
-    ghost x: { Input }
-    requires formula_value { input_of labels.now system.now actions.now formula.now ≡ x }
-    requires good_input { GoodInput x × ActionNumbers x acts.now × EquationNumbers x.formula equations.now }
+    requires good_input { let x = input_of labels.now system.now actions.now formula.now in
+        GoodInput x × ActionNumbers x acts.now × EquationNumbers x.formula equations.now }
     requires shapes_len { (length shapes.old ≡ shape_words) × (most_nodes ≤ length numbers.old) }
-    ensures { FormulaNumbers x numbers.new }
+    ensures { let x = input_of labels.now system.now actions.now formula.now in
+        FormulaNumbers x numbers.new }
 {
     let count = at(formula, 0);
     let mut i = count;

@@ -155,10 +155,11 @@ fn run_input(
     formula: &[u32],
     text: &mut [u8],
 ) -> usize
-    ghost x: { Input }
-    requires formula_value { input_of labels.now system.now actions.now formula.now ≡ x }
-    requires gate_text_length_in_bounds { gate_text_length ≤ length text.old }
-    ensures { Wrote 0 (reported (gate_run x)) text.old text.new result }
+    requires { gate_text_length ≤ length text.old }
+    ensures {
+        let x = input_of labels.now system.now actions.now formula.now in
+        Wrote 0 (reported (gate_run x)) text.old text.new result
+    }
 {
     let mut game = [0u32; 3588];
     let mut work = [0u32; 6144];

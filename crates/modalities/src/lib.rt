@@ -290,14 +290,24 @@ pub fn settle_modality(
     matched: &MatchBytes,
     modality: Modality,
 ) -> Stepped
-    ghost x: { Input }
-    requires actions_value { input_of labels.now system.now actions.now [] ≡ x }
-    requires labelled { Labelled x.labels x.system x.actions (classes_in compiled.now) }
-    requires multiples { Multiples (multiples_in compiled.now) × Samples x.system (samples_in compiled.now)
-        × MatchTable x.labels x.actions matched.now }
-    requires unmarked { Unmarked work.old room counters × Inside x modality }
-    ensures { Answer work.old room.vertices room.edges counters (modality_keys x modality)
-        (modality_counts x modality) work.new result }
+    requires labelled {
+        let x = input_of labels.now system.now actions.now [] in
+        Labelled x.labels x.system x.actions (classes_in compiled.now)
+    }
+    requires multiples {
+        let x = input_of labels.now system.now actions.now [] in
+        Multiples (multiples_in compiled.now) × Samples x.system (samples_in compiled.now)
+        × MatchTable x.labels x.actions matched.now
+    }
+    requires unmarked {
+        let x = input_of labels.now system.now actions.now [] in
+        Unmarked work.old room counters × Inside x modality
+    }
+    ensures {
+        let x = input_of labels.now system.now actions.now [] in
+        Answer work.old room.vertices room.edges counters (modality_keys x modality)
+        (modality_counts x modality) work.new result
+    }
 {
     let answers = match_table::row(labels, actions, matched, modality.action as usize);
     let moves = moves_of(system, compiled, modality.state);

@@ -244,13 +244,17 @@ fn write_targets(
     out: &mut [u32],
     start: usize,
 ) -> usize
-    ghost kept: { List Vertex }
-    requires work_value { kept_vertices game.now (take count work.now) ≡ kept }
     requires chosen { Chosen game.now count work.now }
     requires knows { Knows count mapping.now work.now }
-    requires mapping_len { (length mapping.now ≡ vertex_count game.now)
-        × (start + edge_count kept ≤ length out.old) }
-    ensures { Wrote start (edge_column_of 0 kept) out.old out.new result }
+    requires mapping_len {
+        let kept = kept_vertices game.now (take count work.now) in
+        (length mapping.now ≡ vertex_count game.now)
+        × (start + edge_count kept ≤ length out.old)
+    }
+    ensures {
+        let kept = kept_vertices game.now (take count work.now) in
+        Wrote start (edge_column_of 0 kept) out.old out.new result
+    }
 {
     let mut i = 0;
     let mut next = start;
@@ -273,11 +277,15 @@ fn write_copied(
     out: &mut [u32],
     start: usize,
 ) -> usize
-    ghost kept: { List Vertex }
-    requires work_value { kept_vertices game.now (take count work.now) ≡ kept }
     requires chosen { Chosen game.now count work.now }
-    requires column_nonzero { (0 < column) × (column < length edge_columns) × (start + edge_count kept ≤ length out.old) }
-    ensures { Wrote start (edge_column_of column kept) out.old out.new result }
+    requires column_nonzero {
+        let kept = kept_vertices game.now (take count work.now) in
+        (0 < column) × (column < length edge_columns) × (start + edge_count kept ≤ length out.old)
+    }
+    ensures {
+        let kept = kept_vertices game.now (take count work.now) in
+        Wrote start (edge_column_of column kept) out.old out.new result
+    }
 {
     let mut i = 0;
     let mut next = start;
@@ -299,12 +307,16 @@ fn write_all_copied(
     out: &mut [u32],
     start: usize,
 ) -> usize
-    ghost kept: { List Vertex }
-    requires work_value { kept_vertices game.now (take count work.now) ≡ kept }
     requires chosen { Chosen game.now count work.now }
-    requires kept_in_bounds { start + (length edge_columns - 1) * edge_count kept ≤ length out.old }
-    ensures { Wrote start (columns (drop 1 edge_columns) (all_edges kept))
-        out.old out.new result }
+    requires kept_in_bounds {
+        let kept = kept_vertices game.now (take count work.now) in
+        start + (length edge_columns - 1) * edge_count kept ≤ length out.old
+    }
+    ensures {
+        let kept = kept_vertices game.now (take count work.now) in
+        Wrote start (columns (drop 1 edge_columns) (all_edges kept))
+        out.old out.new result
+    }
 {
     let all = parity_game::edge_columns();
     let mut column: usize = TARGETS + 1;
@@ -318,13 +330,17 @@ fn write_all_copied(
 
 // The game of the vertices reached, and zeros past it. The answer is how many edges it has.
 fn write_game(game: &[u32], mapping: &[u32], work: &[u32], count: usize, out: &mut [u32]) -> usize
-    ghost kept: { List Vertex }
-    requires work_value { kept_vertices game.now (take count work.now) ≡ kept }
     requires chosen { Chosen game.now count work.now }
     requires knows { Knows count mapping.now work.now }
     requires mapping_len { (length mapping.now ≡ vertex_count game.now) × (length out.old ≡ length game.now) }
-    ensures value { result ≡ edge_count kept }
-    ensures out_after { out.new ≡ padded (length out.old) (game_of 0 kept) }
+    ensures value {
+        let kept = kept_vertices game.now (take count work.now) in
+        result ≡ edge_count kept
+    }
+    ensures out_after {
+        let kept = kept_vertices game.now (take count work.now) in
+        out.new ≡ padded (length out.old) (game_of 0 kept)
+    }
 {
     let edges = count_edges(game, work, count);
     let header = parity_game::write_header(count as u32, edges as u32, out);

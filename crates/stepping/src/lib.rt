@@ -125,14 +125,18 @@ fn settle(
     formula: &[u32],
     matched: &MatchBytes,
 ) -> Stepped
-    ghost x: { Input }
-    requires formula_value { input_of labels.now system.now actions.now formula.now ≡ x }
-    requires tables { Tables x compiled.now matched.now × Inside x (popped.pair.state, popped.pair.item) }
+    requires tables {
+        let x = input_of labels.now system.now actions.now formula.now in
+        Tables x compiled.now matched.now × Inside x (popped.pair.state, popped.pair.item)
+    }
     requires unmarked { Unmarked work.old room popped.counters }
-    ensures { Answer work.old room.vertices room.edges popped.counters
+    ensures {
+        let x = input_of labels.now system.now actions.now formula.now in
+        Answer work.old room.vertices room.edges popped.counters
         (map pair_key (targets x (popped.pair.state, popped.pair.item)))
         (map (transitions_behind x (popped.pair.state, popped.pair.item))
-        (targets x (popped.pair.state, popped.pair.item))) work.new result }
+        (targets x (popped.pair.state, popped.pair.item))) work.new result
+    }
 {
     let counters = popped.counters;
     let pair = popped.pair;
@@ -158,13 +162,20 @@ pub fn step(
     formula: &[u32],
     matched: &MatchBytes,
 ) -> Stepped
-    ghost x: { Input }
-    requires formula_value { input_of labels.now system.now actions.now formula.now ≡ x }
-    requires tables { Tables x compiled.now matched.now }
-    requires good { Good (key_targets x) (key_behind x) (root_key x) work.old room.vertices room.edges
-        counters }
-    ensures { StepAnswer (key_targets x) (key_behind x) (root_key x) work.old room.vertices
-        room.edges counters work.new result }
+    requires tables {
+        let x = input_of labels.now system.now actions.now formula.now in
+        Tables x compiled.now matched.now
+    }
+    requires good {
+        let x = input_of labels.now system.now actions.now formula.now in
+        Good (key_targets x) (key_behind x) (root_key x) work.old room.vertices room.edges
+        counters
+    }
+    ensures {
+        let x = input_of labels.now system.now actions.now formula.now in
+        StepAnswer (key_targets x) (key_behind x) (root_key x) work.old room.vertices
+        room.edges counters work.new result
+    }
 {
     if counters.waiting == 0 {
         return Stepped::Fits(counters);
@@ -214,12 +225,16 @@ fn try_step(
     matched: &MatchBytes,
     room: Room,
 ) -> Tried
-    ghost x: { Input }
-    requires formula_value { input_of labels.now system.now actions.now formula.now ≡ x }
-    requires tables { Tables x compiled.now matched.now
-        × Good (key_targets x) (key_behind x) (root_key x) work.old room.vertices room.edges counters }
-    ensures { TriedAnswer (key_targets x) (key_behind x) (root_key x) work.old room.vertices
-        room.edges counters work.new result.counters result.more }
+    requires {
+        let x = input_of labels.now system.now actions.now formula.now in
+        Tables x compiled.now matched.now
+        × Good (key_targets x) (key_behind x) (root_key x) work.old room.vertices room.edges counters
+    }
+    ensures {
+        let x = input_of labels.now system.now actions.now formula.now in
+        TriedAnswer (key_targets x) (key_behind x) (root_key x) work.old room.vertices
+        room.edges counters work.new result.counters result.more
+    }
 {
     if counters.waiting == 0 {
         return Tried {
@@ -245,12 +260,16 @@ pub fn step_in_place(
     matched: &MatchBytes,
     room: Room,
 ) -> bool
-    ghost x: { Input }
-    requires formula_value { input_of labels.now system.now actions.now formula.now ≡ x }
-    requires tables { Tables x compiled.now matched.now
-        × Good (key_targets x) (key_behind x) (root_key x) work.old room.vertices room.edges counters.old }
-    ensures { TriedAnswer (key_targets x) (key_behind x) (root_key x) work.old room.vertices
-        room.edges counters.old work.new counters.new result }
+    requires {
+        let x = input_of labels.now system.now actions.now formula.now in
+        Tables x compiled.now matched.now
+        × Good (key_targets x) (key_behind x) (root_key x) work.old room.vertices room.edges counters.old
+    }
+    ensures {
+        let x = input_of labels.now system.now actions.now formula.now in
+        TriedAnswer (key_targets x) (key_behind x) (root_key x) work.old room.vertices
+        room.edges counters.old work.new counters.new result
+    }
 {
     let tried = try_step(
         *counters, work, labels, system, actions, formula, compiled, matched, room,
@@ -285,13 +304,17 @@ fn run_steps(
     bounds: Bounds,
     begun: Counters,
 ) -> Ran
-    ghost x: { Input }
-    requires formula_value { input_of labels.now system.now actions.now formula.now ≡ x }
-    requires tables { Tables x compiled.now matched.now
+    requires {
+        let x = input_of labels.now system.now actions.now formula.now in
+        Tables x compiled.now matched.now
         × WalkMade (key_targets x) (key_behind x) (root_key x) bounds.room.vertices bounds.room.edges 0 work.old
-        begun }
-    ensures { RanAnswer (key_targets x) (key_behind x) (root_key x) bounds.room.vertices bounds.room.edges
-        bounds.limit work.new result.counters result.steps }
+        begun
+    }
+    ensures {
+        let x = input_of labels.now system.now actions.now formula.now in
+        RanAnswer (key_targets x) (key_behind x) (root_key x) bounds.room.vertices bounds.room.edges
+        bounds.limit work.new result.counters result.steps
+    }
 {
     let room = bounds.room;
     let mut counters = begun;
@@ -327,13 +350,20 @@ pub fn walk(
     formula: &[u32],
     matched: &MatchBytes,
 ) -> Stepped
-    ghost x: { Input }
-    requires formula_value { input_of labels.now system.now actions.now formula.now ≡ x }
-    requires tables { Tables x compiled.now matched.now }
-    requires walk_made { WalkMade (key_targets x) (key_behind x) (root_key x) bounds.room.vertices bounds.room.edges
-        0 work.old counters }
-    ensures { WalkAnswer (key_targets x) (key_behind x) (root_key x) bounds.room.vertices
-        bounds.room.edges bounds.limit work.new result }
+    requires tables {
+        let x = input_of labels.now system.now actions.now formula.now in
+        Tables x compiled.now matched.now
+    }
+    requires walk_made {
+        let x = input_of labels.now system.now actions.now formula.now in
+        WalkMade (key_targets x) (key_behind x) (root_key x) bounds.room.vertices bounds.room.edges
+        0 work.old counters
+    }
+    ensures {
+        let x = input_of labels.now system.now actions.now formula.now in
+        WalkAnswer (key_targets x) (key_behind x) (root_key x) bounds.room.vertices
+        bounds.room.edges bounds.limit work.new result
+    }
 {
     let ran = run_steps(
         work, labels, system, actions, formula, compiled, matched, bounds, counters,
@@ -369,12 +399,16 @@ pub fn begin(
     actions: &[u32],
     formula: &[u32],
 ) -> Stepped
-    ghost x: { Input }
-    requires formula_value { input_of labels.now system.now actions.now formula.now ≡ x }
-    requires multiples { Multiples (multiples_in compiled.now) × GoodInput x }
+    requires multiples {
+        let x = input_of labels.now system.now actions.now formula.now in
+        Multiples (multiples_in compiled.now) × GoodInput x
+    }
     requires sized { Sized work.old room.vertices room.edges }
-    ensures { WalkAnswer (key_targets x) (key_behind x) (root_key x) room.vertices room.edges 0
-        work.new result }
+    ensures {
+        let x = input_of labels.now system.now actions.now formula.now in
+        WalkAnswer (key_targets x) (key_behind x) (root_key x) room.vertices room.edges 0
+        work.new result
+    }
 {
     let vertices = room.vertices;
     pairs::start(work, vertices);

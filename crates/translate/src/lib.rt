@@ -33,12 +33,16 @@ fn explore(
     formula: &[u32],
     matched: &MatchBytes,
 ) -> Stepped
-    ghost x: { Input }
-    requires formula_value { input_of labels.now system.now actions.now formula.now ≡ x }
-    requires tables { Tables x compiled.now matched.now }
+    requires tables {
+        let x = input_of labels.now system.now actions.now formula.now in
+        Tables x compiled.now matched.now
+    }
     requires sized { Sized work.old bounds.room.vertices bounds.room.edges }
-    ensures { WalkAnswer (key_targets x) (key_behind x) (root_key x) bounds.room.vertices bounds.room.edges
-        bounds.limit work.new result }
+    ensures {
+        let x = input_of labels.now system.now actions.now formula.now in
+        WalkAnswer (key_targets x) (key_behind x) (root_key x) bounds.room.vertices bounds.room.edges
+        bounds.limit work.new result
+    }
 {
     let room = bounds.room;
     match stepping::begin(compiled, work, room, labels, system, actions, formula) {
@@ -93,12 +97,19 @@ fn build_game(
     game: &mut [u32],
     work: &mut [u32],
 ) -> Answer
-    ghost x: { Input }
-    requires formula_value { input_of labels.now system.now actions.now formula.now ≡ x }
-    requires prepared { Prepared x compiled.now items }
-    requires work_value { refusal x bounds.room (length game.old) (length work.old) ≡ Passed }
-    ensures { RunByRanks (priorities_in compiled.now) x bounds.room bounds.limit
-        game.old work.old result game.new work.new }
+    requires prepared {
+        let x = input_of labels.now system.now actions.now formula.now in
+        Prepared x compiled.now items
+    }
+    requires work_value {
+        let x = input_of labels.now system.now actions.now formula.now in
+        refusal x bounds.room (length game.old) (length work.old) ≡ Passed
+    }
+    ensures {
+        let x = input_of labels.now system.now actions.now formula.now in
+        RunByRanks (priorities_in compiled.now) x bounds.room bounds.limit
+        game.old work.old result game.new work.new
+    }
 {
     let mut matched = [0u8; MATCHED];
     match_table::make_match_table(labels, actions, compiled, items, &mut matched);
@@ -118,11 +129,15 @@ fn build(
     game: &mut [u32],
     work: &mut [u32],
 ) -> Answer
-    ghost x: { Input }
-    requires formula_value { input_of labels.now system.now actions.now formula.now ≡ x }
-    requires work_value { refusal x bounds.room (length game.old) (length work.old) ≡ Passed }
-    ensures { RunBy by_depth x bounds.room bounds.limit
-        game.old work.old result game.new work.new }
+    requires {
+        let x = input_of labels.now system.now actions.now formula.now in
+        refusal x bounds.room (length game.old) (length work.old) ≡ Passed
+    }
+    ensures {
+        let x = input_of labels.now system.now actions.now formula.now in
+        RunBy by_depth x bounds.room bounds.limit
+        game.old work.old result game.new work.new
+    }
 {
     let mut compiled = [0u32; WORDS];
     model_tables::write_model_tables(labels, system, &mut compiled);

@@ -1,0 +1,12 @@
+use native.Mathlib.Omega.{arith}
+use Rattle.settling.proofs.Buffer.{count_word, count_stored}
+use Rattle.settling.proofs.raise_count.Goals as goal
+
+pub overflow_add-work : goal.overflow_add-work
+overflow_add-work c =
+    let v = c.args.room.vertices in
+    let e = c.args.room.edges in
+    omega (arith, c.requires.place_bound, count_word v e c.args.place c.args.work.now c.requires.vertices_le_most_vertices.2)
+
+pub returns : goal.returns
+returns c = count_stored _ _ _ _ c.requires.vertices_le_most_vertices.2
