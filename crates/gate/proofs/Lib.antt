@@ -1,1 +1,2 @@
 pub mod Fronts
+pub mod Whole

@@ -1,10 +1,33 @@
 // The thin program: reads little-endian words from standard input and prints the game of the run that they describe.
-ghost use Rattle.std.specs.Prelude.{ℕ, ◌≤◌, ◌≡◌, List, length, take};
+#![tactic(auto)]
+
+ghost use Rattle.std.specs.Prelude.{ℕ, ◌≤◌, ◌<◌, ◌≡◌, List, length, take, IfOk, OnOk, IfSome};
+ghost use Rattle.std.specs.Io.{ReadsAtMost};
+ghost use Rattle.std.specs.Io.KnownBytes.{Appends, Consumes, IsAtEnd};
 ghost use Rattle.rules.specs.Program.{printed, gate_text_length};
 
 use gate_text::{Buffer, READ};
-use libc::{STDIN_FILENO, STDOUT_FILENO};
 use rules::Answer;
+use std::io;
+use std::io::{Read, Write};
+
+// Reads until the buffer is full or the input ends. Answers how many bytes it then holds of the input, at its front.
+fn read_full<R: Read>(input: &mut R, buffer: &mut [u8]) -> io::Result<usize>
+    ensures bound { ReadsAtMost result buffer.new }
+    ensures bytes { IfOk result
+        (λ n. Consumes (R.remaining input.old) (R.remaining input.new) (take n buffer.new)) }
+    ensures end { IfOk result (λ n. n < length buffer.new → IsAtEnd (R.remaining input.new)) }
+{
+    let mut count = 0;
+    while count < buffer.len() {
+        let more = input.read(&mut buffer[count..])?;
+        if more == 0 {
+            return Ok(count);
+        }
+        count += more;
+    }
+    Ok(count)
+}
 
 fn size(bytes: u32) -> usize
     ensures { result ≡ bytes }
@@ -26,10 +49,18 @@ fn put_text(buffer: &Buffer, count: usize, text: &mut [u8]) -> usize
     }
 }
 
-fn main() {
+// Writes what is printed of an input, of which it reads as much as `gate_buffer` asks for.
+fn run<R: Read, W: Write>(input: &mut R, output: &mut W) -> io::Result<()>
+    ensures { OnOk result (IfSome (R.remaining input.old)
+        (λ bytes. Appends (W.contents output.old) (W.contents output.new) (printed bytes))) }
+{
     let mut bytes = [0u8; READ];
-    let count = io::read_full(STDIN_FILENO, &mut bytes);
+    let count = read_full(input, &mut bytes)?;
     let mut text = [0u8; 16384];
     let size = put_text(&bytes, count, &mut text);
-    io::write_all(STDOUT_FILENO, &text[..size]);
+    output.write_all(&text[..size])
+}
+
+fn main(rt: HostRuntime) -> io::Result<()> {
+    run(&mut rt.stdin(), &mut rt.stdout())
 }

@@ -3,11 +3,14 @@
 // is. Standard input holds records: two little-endian words, the lengths of an input and of its text in bytes, then the
 // input, then the text. Prints a line for each record that differs and, last, how many records and differences there
 // were. docs/STORED-RUNS.md says how they were made.
-ghost use Rattle.std.specs.Prelude.{◌≤◌, length, ◌≡◌};
+#![tactic(auto)]
+
+ghost use Rattle.std.specs.Prelude.{◌≤◌, length, take, ◌≡◌};
 
 use gate_text::{Buffer, READ};
-use libc::{STDIN_FILENO, STDOUT_FILENO};
 use rules::Answer;
+use std::io;
+use std::io::Read;
 
 // What a record shows; Nothing where none is left.
 #[derive(Clone, Copy)]
@@ -39,35 +42,35 @@ fn long(number: usize) -> u64 {
     number as u64
 }
 
-fn print(number: u64, label: &[u8]) {
-    io::print_decimal(STDOUT_FILENO, number);
-    io::write_all(STDOUT_FILENO, label);
+fn print(rt: &impl Print, number: u64, label: &[u8]) -> io::Result<()> {
+    rt.print(number)?;
+    rt.write_all(label)
 }
 
-fn broken(number: u64) -> Seen {
-    io::write_all(STDOUT_FILENO, b"record ");
-    print(number, b" is broken\n");
-    Seen::Different
+fn broken(rt: &impl Print, number: u64) -> io::Result<Seen> {
+    rt.write_all(b"record ")?;
+    print(rt, number, b" is broken\n")?;
+    Ok(Seen::Different)
 }
 
-fn differs(number: u64, answer: Answer, stored: usize) -> Seen {
-    io::write_all(STDOUT_FILENO, b"record ");
-    print(number, b" differs from ");
-    print(long(stored), b" bytes stored: ");
-    stored_runs::answer_line(answer);
-    Seen::Different
+fn differs(rt: &impl Print, number: u64, answer: Answer, stored: usize) -> io::Result<Seen> {
+    rt.write_all(b"record ")?;
+    print(rt, number, b" differs from ")?;
+    print(rt, long(stored), b" bytes stored: ")?;
+    stored_runs::answer_line(rt, answer)?;
+    Ok(Seen::Different)
 }
 
-fn differs_short(number: u64, answer: Answer) -> Seen {
-    io::write_all(STDOUT_FILENO, b"record ");
-    print(number, b" in a slice that is too short: ");
-    stored_runs::answer_line(answer);
-    Seen::Different
+fn differs_short(rt: &impl Print, number: u64, answer: Answer) -> io::Result<Seen> {
+    rt.write_all(b"record ")?;
+    print(rt, number, b" in a slice that is too short: ")?;
+    stored_runs::answer_line(rt, answer)?;
+    Ok(Seen::Different)
 }
 
-fn last_line(records: u64, differences: u64) {
-    print(records, b" records, ");
-    print(differences, b" differences\n");
+fn last_line(rt: &impl Print, records: u64, differences: u64) -> io::Result<()> {
+    print(rt, records, b" records, ")?;
+    print(rt, differences, b" differences\n")
 }
 
 // Bytes that stand in no text.
@@ -105,74 +108,88 @@ fn refused_length(answer: Answer) -> bool {
 }
 
 // Is a slice that is too short refused, and does it stay as it is?
-fn judge_short(number: u64, input: &[u8]) -> Seen {
+fn judge_short(rt: &impl Print, number: u64, input: &[u8]) -> io::Result<Seen> {
     let held = few_hashes();
     let mut text = few_hashes();
     let answer = gate_text::gate(input, &mut text);
     if !refused_length(answer) {
-        return differs_short(number, answer);
+        return differs_short(rt, number, answer);
     }
-    if check::same(&text, &held) {
-        return Seen::Same;
+    if text == held {
+        return Ok(Seen::Same);
     }
-    differs_short(number, answer)
+    differs_short(rt, number, answer)
 }
 
 // What the thin program reads of an input: as many bytes as its buffer holds. Answers how many.
 fn read_front(input: &[u8], buffer: &mut Buffer) -> usize
-    ensures { result ≤ 8193 }
+    ensures bound { result ≤ 8193 }
+    ensures front { take result buffer.new ≡ take 8193 input.now }
 {
-    let mut i = 0;
-    while i < input.len() {
-        if i == READ {
-            return i;
-        }
-        buffer[i] = input[i];
-        i += 1;
-    }
-    i
+    let count = input.len().min(READ);
+    buffer[..count].copy_from_slice(&input[..count]);
+    count
 }
 
 // As `judge`, of the input as the thin program reads it.
-fn judge_buffer(number: u64, input: &[u8], want: &[u8], stored: usize) -> Seen {
+fn judge_buffer(
+    rt: &impl Print,
+    number: u64,
+    input: &[u8],
+    want: &[u8],
+    stored: usize,
+) -> io::Result<Seen> {
     let mut buffer = [0u8; READ];
     let count = read_front(input, &mut buffer);
     let mut text = hashes();
     let answer = gate_text::gate_buffer(&buffer, count, &mut text);
     if !wrote(answer, stored) {
-        return differs(number, answer, stored);
+        return differs(rt, number, answer, stored);
     }
-    if check::same(&text, want) {
-        return judge_short(number, input);
+    if &text[..] == want {
+        return judge_short(rt, number, input);
     }
-    differs(number, answer, stored)
+    differs(rt, number, answer, stored)
 }
 
 // Are the bytes written those stored, with zeros past them, and does the answer say how many? `want` holds zeros past
 // the text, so that both slices are compared whole.
-fn judge(number: u64, input: &[u8], want: &[u8], stored: usize) -> Seen {
+fn judge(
+    rt: &impl Print,
+    number: u64,
+    input: &[u8],
+    want: &[u8],
+    stored: usize,
+) -> io::Result<Seen> {
     let mut text = hashes();
     let answer = gate_text::gate(input, &mut text);
     if !wrote(answer, stored) {
-        return differs(number, answer, stored);
+        return differs(rt, number, answer, stored);
     }
-    if check::same(&text, want) {
-        return judge_buffer(number, input, want, stored);
+    if &text[..] == want {
+        return judge_buffer(rt, number, input, want, stored);
     }
-    differs(number, answer, stored)
+    differs(rt, number, answer, stored)
 }
 
 // Reads an input and its text of so many bytes, and compares.
-fn read_and_judge(number: u64, input: &mut [u8], want: &mut [u8], stored: usize) -> Seen
+fn read_and_judge<R: Read>(
+    rt: &impl Print,
+    stdin: &mut R,
+    number: u64,
+    input: &mut [u8],
+    want: &mut [u8],
+    stored: usize,
+) -> io::Result<Seen>
     requires { stored ≤ length want.old }
 {
-    if io::read_full(STDIN_FILENO, input) < input.len() {
-        return broken(number);
+    if stored_runs::read_full(stdin, input)? < input.len() {
+        return broken(rt, number);
     }
-    if io::read_full(STDIN_FILENO, &mut want[..stored]) < stored {
-        return broken(number);
+    if stored_runs::read_full(stdin, &mut want[..stored])? < stored {
+        return broken(rt, number);
     }
-    judge(number, input, want, stored)
+    judge(rt, number, input, want, stored)
 }
 
 fn zeros() -> [u8; 16384]
@@ -182,47 +199,53 @@ fn zeros() -> [u8; 16384]
 }
 
 // A record whose input and text have so many bytes.
-fn compare(number: u64, size: usize, stored: usize) -> Seen
+fn compare<R: Read>(
+    rt: &impl Print,
+    stdin: &mut R,
+    number: u64,
+    size: usize,
+    stored: usize,
+) -> io::Result<Seen>
     requires { (size ≤ 16384) × (stored ≤ 16384) }
 {
     let mut input = zeros();
     let mut want = zeros();
-    read_and_judge(number, &mut input[..size], &mut want, stored)
+    read_and_judge(rt, stdin, number, &mut input[..size], &mut want, stored)
 }
 
 // Reads a record and compares. A length that is too large counts as one too many.
-fn next_record(number: u64) -> Seen {
+fn next_record<R: Read>(rt: &impl Print, stdin: &mut R, number: u64) -> io::Result<Seen> {
     let mut head = [0u8; 8];
-    let got = io::read_full(STDIN_FILENO, &mut head);
+    let got = stored_runs::read_full(stdin, &mut head)?;
     if got == 0 {
-        return Seen::Nothing;
+        return Ok(Seen::Nothing);
     }
     let size = stored_runs::length_of(words::word_at(&head, 0), 16385);
     let stored = stored_runs::length_of(words::word_at(&head, 4), 16385);
     if got < 8 {
-        return broken(number);
+        return broken(rt, number);
     }
     if size > 16384 {
-        return broken(number);
+        return broken(rt, number);
     }
     if stored > 16384 {
-        return broken(number);
+        return broken(rt, number);
     }
-    compare(number, size, stored)
+    compare(rt, stdin, number, size, stored)
 }
 
 // At most a million records, so that the program ends whatever it reads.
-fn main() {
+fn main(rt: HostRuntime) -> io::Result<()> {
+    let mut stdin = rt.stdin();
     let mut records = 0u64;
     let mut differences = 0u64;
     while records < 1000000 {
-        let seen = next_record(records);
+        let seen = next_record(&rt, &mut stdin, records)?;
         if ended(seen) {
-            last_line(records, differences);
-            return;
+            break;
         }
         differences += difference(seen);
         records += 1;
     }
-    last_line(records, differences);
+    last_line(&rt, records, differences)
 }
