@@ -4,7 +4,7 @@ run: host
 	$(HOST)/hingrezh build examples/rollout.words --vertices 64 --edges 128
 	@echo "examples/README.md explains the words and the lines, docs/VERDICTS.md who wins."
 
-# It removes target/, as `rt ci` does, and with it what `make host` built.
+# `rt ci` removes the archive that `make host` built; the host's tests build it and the command anew.
 test:
 	.ci/run
 

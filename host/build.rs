@@ -1,8 +1,8 @@
 //! Tells the linker where the proved library stands: HINGREZH_LIB names the archive (a relative path begins in this
-//! folder), otherwise it is target/staticlib/libhingrezh.a at the repository's root.
+//! folder), otherwise it is crates/hingrezh/out/libhingrezh.a at the repository's root.
 use std::path::PathBuf;
 
-const BESIDE: &str = concat!(env!("CARGO_MANIFEST_DIR"), "/../target/staticlib/libhingrezh.a");
+const BESIDE: &str = concat!(env!("CARGO_MANIFEST_DIR"), "/../crates/hingrezh/out/libhingrezh.a");
 
 fn main() {
     println!("cargo::rerun-if-env-changed=HINGREZH_LIB");

@@ -1,6 +1,6 @@
 # Targets for the host program; included by the Makefile at the root.
 #
-#   host      the proved library and the command, in target/
+#   host      the proved library, in crates/hingrezh/out, and the command, in target/
 #   install   command, header, archive, pkg-config file and man page below PREFIX
 #   dist      the same as a tar ball with a checksum, in DIST
 #   compare   library, plain Rust and the oracle on random inputs
@@ -22,9 +22,9 @@ CARGO_BUILD := cargo build --release --offline --manifest-path host/Cargo.toml -
 ifeq ($(HINGREZH_LIB),)
 # The command says with which toolchain its library was proved.
 export HINGREZH_TOOLCHAIN := $(shell rt version 2>/dev/null)
-LIBRARY := target/staticlib/libhingrezh.a
-# What the library is proved from: with the folders, so that a file that is taken away is noticed too.
-SOURCES := $(shell find crates -name must-fail -prune -o -print) crates.txt
+LIBRARY := crates/hingrezh/out/libhingrezh.a
+# What the library is proved from: with the folders inside a crate, so that a file that is taken away is noticed too.
+SOURCES := $(shell find crates -mindepth 2 \( -name must-fail -o -name out \) -prune -o -print) crates.txt
 # Only `make run` shows a game before the proofs.
 FIRST_LOOK := $(if $(filter-out run,$(MAKECMDGOALS)),,host/make/first-look)
 

@@ -1,4 +1,4 @@
-// What the rules say of an item by its kind (translate.rs, `translate_vertex`): the owner of its vertices, and where
+// What the rules say of an item by its kind (translate.rs, translate_vertex): the owner of its vertices, and where
 // their edges lead from a state s. A vertex without a target gets an edge to itself when it is closed.
 //
 //     kind         owner   edges
