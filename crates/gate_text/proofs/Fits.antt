@@ -26,10 +26,12 @@ words_three : (m n p : ℕ) → m < 4_294_967_296 → n < 4_294_967_296 → p < 
 words_three m n p a b c i (inl e) = omega arith
 words_three m n p a b c i (inr (inl e)) = omega arith
 words_three m n p a b c i (inr (inr (inl e))) = omega arith
+words_three m n p a b c i (inr (inr (inr x3))) = elim x3 [ ]
 
 words_two : (m n : ℕ) → m < 4_294_967_296 → n < 4_294_967_296 → (i : ℕ) → In i (m ∷ n ∷ []) → i < 4_294_967_296
 words_two m n a b i (inl e) = omega arith
 words_two m n a b i (inr (inl e)) = omega arith
+words_two m n a b i (inr (inr x'')) = elim x'' [ ]
 
 -- a first line of three words, and a game
 game_fits : (m n p : ℕ) → m < 4_294_967_296 → n < 4_294_967_296 → p < 4_294_967_296

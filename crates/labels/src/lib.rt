@@ -1,5 +1,7 @@
 // Labels as multisets of actions: for each label the lowest one that has the same multiset. Each label gets a mark,
 // which labels of one multiset share: only where marks are equal the actions are counted.
+#![tactic(auto)]
+
 ghost use Rattle.std.specs.Prelude.{◌≡◌, ◌+◌, ◌%◌, ◌^◌, ◌≤◌, ◌<◌, eqb, length};
 ghost use Rattle.rules.specs.Lists.{word, tally};
 ghost use Rattle.rules.specs.Labels.{label_count, action_count, label_at, action_at, same_label, multiset};

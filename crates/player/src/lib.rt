@@ -1,5 +1,7 @@
 // The two players of a parity game, and the two kinds of numbers that a game is made of (player.rs, the index types of
 // parity_game.rs).
+#![tactic(auto)]
+
 ghost use Rattle.std.specs.Prelude.{◌≡◌};
 ghost use Rattle.player.specs.Player.{player_index, other_player};
 

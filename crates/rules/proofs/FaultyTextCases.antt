@@ -3,14 +3,14 @@
 -- is refused is theorem `reading_exact` with the worked cases. Assumes nothing.
 use mathlib.Core.Path.{◌≡◌, refl, sym, subst}
 use mathlib.Core.List.{List, [], ◌∷◌}
-use mathlib.Core.Logic.{◌⊎◌, inl, inr}
+use mathlib.Core.Logic.{inl, inr}
 use mathlib.Core.Option.{none, some}
-use Prim.Native.Nat.{ℕ, ◌≤◌, ◌<◌}
+use Prim.Native.Nat.{ℕ, ◌<◌}
 use native.Mathlib.Omega.{arith}
 use lib.Dec.{lit<, lit≤}
 use borrow.Author.Tests.{eqb-false}
-use Rattle.rules.specs.Lists.{In, Distinct, position}
-use Rattle.rules.specs.Words.{room_of, game_length}
+use Rattle.rules.specs.Lists.{In, position}
+use Rattle.rules.specs.Words.{room_of}
 use Rattle.rules.specs.Faulty.{many_vertices, wrong_game}
 use Rattle.rules.specs.FaultyGame.{owner_too_large}
 use Rattle.rules.specs.Pgsolver.{SolverLine, SolverText, ProperLine, HasForm}

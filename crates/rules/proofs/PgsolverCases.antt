@@ -2,7 +2,7 @@
 -- The entries E1 to E12 of docs/DECISIONS.md each have one. Lent slices hold nines before. Assumes nothing.
 use mathlib.Core.Path.{◌≡◌, refl}
 use Prim.Native.Nat.{ℕ}
-use Prim.Native.String.{String, ◌++◌ as ◌and◌}
+use Prim.Native.String.{String}
 use mathlib.Core.List.{List, [], ◌∷◌, ◌++◌, map}
 use lib.ListN.{replicate}
 use Rattle.rules.specs.declared.Answer.{Answer}

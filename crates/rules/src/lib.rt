@@ -1,5 +1,6 @@
 // Document 01 as definitions: see specs/, in the order of specs/Lib.antt. Here stand the answers that calls give, and
 // the room that a run is lent.
+#![tactic(auto)]
 
 // What a call answers: Done (steps, vertices, edges), Cut (steps, vertices known, edges) or Refused (number, place).
 #[derive(Clone, Copy)]

@@ -1,7 +1,7 @@
 -- `classes_of_marks` meets its contract. The first entries, `left` of them, are marks still, and the others are
 -- written. Assumes nothing.
 use mathlib.Core.Path.{◌≡◌}
-use Prim.Native.Nat.{ℕ, ◌-◌, ◌≤◌, ◌<◌}
+use Prim.Native.Nat.{ℕ, ◌≤◌, ◌<◌}
 use lib.ListN.{length}
 use Rattle.rules.specs.Lists.{word}
 use Rattle.rules.specs.Labels.{label_count, multiset}

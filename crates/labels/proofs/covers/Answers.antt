@@ -1,6 +1,4 @@
 use mathlib.Core.Path.{◌≡◌, sym}
-use mathlib.Core.Bool.{true}
-use Prim.Native.Nat.{◌-◌}
 use native.Mathlib.Omega.{arith}
 use Rattle.labels.proofs.Stretched.{covered_none, covered_more, covered_not}
 use Rattle.labels.proofs.covers.Goals as goal

@@ -1,6 +1,4 @@
 use mathlib.Core.Path.{sym, ◌∙◌}
-use mathlib.Core.Bool.{false}
-use Prim.Native.Nat.{◌-◌}
 use native.Mathlib.Omega.{arith}
 use borrow.Author.Count.{below_more}
 use Rattle.labels.proofs.Tables.{lowest_found, lowest_itself}
@@ -29,12 +27,16 @@ pub same_as-requires : goal.same_as-requires
 same_as-requires c =
     let start = c.before.before.before.before.before.before.before in
     let k = c.loop-lower.lower in
-    let u = c.loop-lower-test.true in record { good_labels = (
+    let u = c.loop-lower-test.true in record {
+      good_labels = (
         start.requires.0,
         omega (arith, u, start.requires.0.few, start.requires.1),
         omega
             (arith, u, start.requires.2),
-      ); mark_of = start.requires.3 k (omega arith); stretch_of = (c.stretch_end-to.ensures, start.requires.3 start.args.label (omega arith)) }
+      );
+      mark_of = start.requires.3 k (omega arith);
+      stretch_of = (c.stretch_end-to.ensures, start.requires.3 start.args.label (omega arith));
+    }
 
 pub returns-then-same_as : goal.returns-then-same_as
 returns-then-same_as c =

@@ -1,5 +1,5 @@
 use mathlib.Core.Path.{◌≡◌, ap}
-use Prim.Native.Nat.{ℕ, ◌-◌, ◌%◌}
+use Prim.Native.Nat.{ℕ, ◌%◌}
 use native.Mathlib.Omega.{arith}
 use Rattle.labels.proofs.Marks.{weights_none, weights_more, weight_below}
 use Rattle.labels.proofs.mark_of.Goals as goal

@@ -1,5 +1,5 @@
 use Rattle.words.proofs.Stretches.{carry-room, carry_put, carry_done}
-use Prim.Native.Nat.{ℕ, ◌+◌, ◌-◌}
+use Prim.Native.Nat.{ℕ, ◌+◌}
 use native.Mathlib.Omega.{arith}
 use mathlib.Core.Path.{ap}
 use Rattle.rules.specs.Lists.{word}

@@ -1,4 +1,3 @@
-use Prim.Native.Nat.{◌-◌}
 use native.Mathlib.Omega.{arith}
 use Rattle.words.proofs.Stretches.{copy_room, copy_put, copy_done}
 use Rattle.words.proofs.copy.Goals as goal

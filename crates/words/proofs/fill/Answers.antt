@@ -1,5 +1,4 @@
 use Rattle.words.proofs.Stretches.{start, fill_more, fill_done}
-use Prim.Native.Nat.{◌-◌}
 use native.Mathlib.Omega.{arith}
 use Rattle.words.proofs.fill.Goals as goal
 

@@ -1,0 +1,67 @@
+-- `put_program` meets its contract: the words run, or the refusal. Assumes nothing.
+use mathlib.Core.Path.{sym}
+use native.Mathlib.Omega.{arith}
+use lib.Seq.{length-take-le}
+use Rattle.text_writer.proofs.Lines.{wrote_as}
+use Rattle.gate_text.proofs.Programs.{read_agrees, read_printed, unreadable_printed, unreadable_room, read_count}
+use borrow.Author.Rules.{rules}
+use Rattle.gate_text.proofs.put_program.Goals as goal
+
+pub slice_bounds-ws-end : goal.slice_bounds-ws-end
+slice_bounds-ws-end c =
+    let n = c.read-1.given in
+    omega (arith, read_count c.decode-read.result n.0.0 n.1 c.decode-read.ensures.1, c.decode-read.auto.words)
+
+pub slice_bounds-run_words-end : goal.slice_bounds-run_words-end
+slice_bounds-run_words-end c =
+    let n = c.read-1.given in
+    let few = read_count c.decode-read.result n.0.0 n.1 c.decode-read.ensures.1 in
+    sym (length-take-le n.0.0 c.decode-read.new.words (omega (arith, few, c.decode-read.auto.words)))
+
+pub run_words-requires : goal.run_words-requires
+run_words-requires c =
+    let b = c.args.bytes.now in
+    let n = c.read-1.given in
+    (read_agrees b c.decode-read.new.words c.decode-read.result c.decode-read.ensures.0 n.0.0 n.1, c.requires)
+
+-- GONE slice-aggregate-put-line : tie.Need-slice-aggregate-put-line
+-- GONE slice-aggregate-put-line c = search rules
+
+-- GONE slice-aggregate-put-line-2 : tie.Need-slice-aggregate-put-line-2
+-- GONE slice-aggregate-put-line-2 c = search rules
+
+pub put_line-requires : goal.put_line-requires
+put_line-requires c =
+    let b = c.args.bytes.now in
+    let u = c.in-Unreadable.is in
+    unreadable_room b c.decode-read.new.words c.decode-read.result c.decode-read.ensures.0 u _ c.requires
+
+pub shape_of-text-in-Read : goal.shape_of-text-in-Read
+shape_of-text-in-Read c = c.run_words.auto.text
+
+pub returns-in-Read : goal.returns-in-Read
+returns-in-Read c =
+    let at_read = c.before.before.before.before.before.before in
+    let start = at_read.before.before.before.before.before.before.before in
+    let s =
+    start
+    in
+    let b = s.args.bytes.now in
+    let n = c.read-1.given in
+    wrote_as
+    (read_printed b c.decode-read.new.words c.decode-read.result c.decode-read.ensures.0 n.0.0 n.1)
+    c.run_words.ensures
+
+pub shape_of-text-in-Unreadable : goal.shape_of-text-in-Unreadable
+shape_of-text-in-Unreadable c = c.put_line.auto.text
+
+pub returns-in-Unreadable : goal.returns-in-Unreadable
+returns-in-Unreadable c =
+    let at-enum-told = c.before.before.before.before.before.before in
+    let start = at-enum-told.before.before.before.before.before.before.before in
+    let s =
+    start
+    in
+    let b = s.args.bytes.now in
+    let u = c.in-Unreadable.is in
+    wrote_as (unreadable_printed b c.decode-read.new.words c.decode-read.result c.decode-read.ensures.0 u) c.put_line.ensures

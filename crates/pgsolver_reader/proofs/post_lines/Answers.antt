@@ -1,0 +1,51 @@
+use Prim.Native.Nat.{◌-◌}
+use mathlib.Core.Path.{refl, ◌∙◌}
+use native.Mathlib.Omega.{arith}
+use Rattle.pgsolver_reader.proofs.Posting.{posting_start, posting_stands, posting_below, posting_later}
+use Rattle.pgsolver_reader.proofs.Posting.{posting_more, posting_done}
+use Rattle.pgsolver_reader.proofs.post_lines.Goals as goal
+
+pub loop-place-init : goal.loop-place-init
+loop-place-init c =
+    (refl, posting_start c.args.game.now c.requires.1 c.requires.2)
+
+pub known_field-number-requires : goal.known_field-number-requires
+known_field-number-requires c =
+    posting_stands c.requires.0 c.requires.1 c.loop-place.invariant.1 c.loop-place-test.true
+
+pub post-requires : goal.post-requires
+post-requires c =
+    let number = c.known_field-number.result in
+ (
+      posting_below c.requires.0 c.requires.1 c.loop-place.invariant.1 c.loop-place-test.true
+          number.value number.next c.known_field-number.ensures,
+      c.requires.0.few,
+      c.loop-place.invariant.1.long,
+    )
+
+pub loop-place-smaller : goal.loop-place-smaller
+loop-place-smaller c =
+    let number = c.known_field-number.result in
+    omega (
+      arith,
+      c.loop-place-test.true,
+      c.past_line-place.ensures,
+      posting_later c.requires.0 c.requires.1 c.loop-place.invariant.1 c.loop-place-test.true
+          number.value number.next c.known_field-number.ensures,
+    )
+
+pub loop-place-preserved : goal.loop-place-preserved
+loop-place-preserved c =
+    let number = c.known_field-number.result in
+ (
+      c.post.auto.game ∙ c.loop-place.invariant.0,
+      posting_more c.requires.0 c.requires.1 c.loop-place.invariant.1 c.loop-place-test.true
+          number.value number.next c.known_field-number.ensures c.post.ensures
+          c.past_line-place.ensures,
+    )
+
+pub shape_of-game : goal.shape_of-game
+shape_of-game c = c.loop-place.invariant.0
+
+pub returns : goal.returns
+returns c = posting_done c.requires.1 c.loop-place.invariant.1 c.loop-place-test.false

@@ -1,0 +1,13 @@
+-- `put_list` meets its contract. Assumes nothing.
+use Prim.Native.Nat.{◌-◌}
+use lib.ListN.{length}
+use Rattle.pgsolver_reader.proofs.Putting.{Putting}
+use Rattle.pgsolver_reader.proofs.put_list.Given as goal
+
+abbrev pub invariant-loop-list : goal.invariant-loop-list
+invariant-loop-list l =
+    Putting l.text l.list l.next l.start l.end l.bits l.game l.initial.game
+
+abbrev pub decreases-loop-list : goal.decreases-loop-list
+decreases-loop-list l =
+    length l.text - l.next

@@ -1,0 +1,17 @@
+-- `write_posted` meets its contract: no byte that is looked at is odd, and every block is written. Assumes nothing.
+use Prim.Native.Nat.{◌-◌}
+use mathlib.Core.Path.{◌≡◌}
+use mathlib.Core.List.{[]}
+use lib.ListN.{length}
+use Rattle.bitmap.specs.Marks.{Holds}
+use Rattle.pgsolver_reader.specs.Parts.{Part, PostedFrom}
+use Rattle.pgsolver_reader.proofs.write_posted.Given as goal
+
+abbrev pub invariant-loop-vertex : goal.invariant-loop-vertex
+invariant-loop-vertex l =
+    (length l.game ≡ length l.initial.game) × Part l.text l.vertices l.vertex l.end l.game × Holds l.bits []
+    × PostedFrom l.text l.vertices l.vertex l.game
+
+abbrev pub decreases-loop-vertex : goal.decreases-loop-vertex
+decreases-loop-vertex l =
+    l.vertices - l.vertex

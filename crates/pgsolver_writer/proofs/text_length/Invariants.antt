@@ -1,0 +1,17 @@
+-- `text_length` meets its contract: the bytes counted and those of the lines that are left are the text's. Assumes
+-- nothing.
+use mathlib.Core.Path.{◌≡◌}
+use mathlib.Core.List.{[]}
+use Prim.Native.Nat.{◌+◌, ◌-◌, ◌≤◌}
+use lib.ListN.{length}
+use Rattle.rules.specs.PgsolverWriting.{game_text}
+use Rattle.bitmap.specs.Marks.{Holds}
+use Rattle.pgsolver_writer.proofs.Texts.{lines_from}
+use Rattle.pgsolver_writer.proofs.text_length.Given as goal
+
+abbrev pub invariant-loop-vertex : goal.invariant-loop-vertex
+invariant-loop-vertex l =
+    (l.vertex ≤ l.vertices) × (l.size + length (lines_from l.game l.vertex) ≡ length (game_text l.game)) × Holds l.bits []
+
+abbrev pub decreases-loop-vertex : goal.decreases-loop-vertex
+decreases-loop-vertex l = l.vertices - l.vertex
