@@ -9,20 +9,17 @@ use Rattle.gate_text.proofs.put_program.Goals as goal
 
 pub slice_bounds-ws-end : goal.slice_bounds-ws-end
 slice_bounds-ws-end c =
-    let n = c.read-1.given in
-    omega (arith, read_count c.decode-read.result n.0.0 n.1 c.decode-read.ensures.1, c.decode-read.auto.words)
+    omega (arith, read_count c.decode-read.result c.in-Read.count c.in-Read.is c.decode-read.ensures.1, c.decode-read.auto.words)
 
 pub slice_bounds-run_words-end : goal.slice_bounds-run_words-end
 slice_bounds-run_words-end c =
-    let n = c.read-1.given in
-    let few = read_count c.decode-read.result n.0.0 n.1 c.decode-read.ensures.1 in
-    sym (length-take-le n.0.0 c.decode-read.new.words (omega (arith, few, c.decode-read.auto.words)))
+    let few = read_count c.decode-read.result c.in-Read.count c.in-Read.is c.decode-read.ensures.1 in
+    sym (length-take-le c.in-Read.count c.decode-read.new.words (omega (arith, few, c.decode-read.auto.words)))
 
 pub run_words-requires : goal.run_words-requires
 run_words-requires c =
     let b = c.args.bytes.now in
-    let n = c.read-1.given in
-    (read_agrees b c.decode-read.new.words c.decode-read.result c.decode-read.ensures.0 n.0.0 n.1, c.requires)
+    (read_agrees b c.decode-read.new.words c.decode-read.result c.decode-read.ensures.0 c.in-Read.count c.in-Read.is, c.requires)
 
 -- GONE slice-aggregate-put-line : tie.Need-slice-aggregate-put-line
 -- GONE slice-aggregate-put-line c = search rules
@@ -41,15 +38,9 @@ shape_of-text-in-Read c = c.run_words.auto.text
 
 pub returns-in-Read : goal.returns-in-Read
 returns-in-Read c =
-    let at_read = c.before.before.before.before.before.before in
-    let start = at_read.before.before.before.before.before.before.before in
-    let s =
-    start
-    in
-    let b = s.args.bytes.now in
-    let n = c.read-1.given in
+    let b = c.args.bytes.now in
     wrote_as
-    (read_printed b c.decode-read.new.words c.decode-read.result c.decode-read.ensures.0 n.0.0 n.1)
+    (read_printed b c.decode-read.new.words c.decode-read.result c.decode-read.ensures.0 c.in-Read.count c.in-Read.is)
     c.run_words.ensures
 
 pub shape_of-text-in-Unreadable : goal.shape_of-text-in-Unreadable
@@ -57,11 +48,6 @@ shape_of-text-in-Unreadable c = c.put_line.auto.text
 
 pub returns-in-Unreadable : goal.returns-in-Unreadable
 returns-in-Unreadable c =
-    let at-enum-told = c.before.before.before.before.before.before in
-    let start = at-enum-told.before.before.before.before.before.before.before in
-    let s =
-    start
-    in
-    let b = s.args.bytes.now in
+    let b = c.args.bytes.now in
     let u = c.in-Unreadable.is in
     wrote_as (unreadable_printed b c.decode-read.new.words c.decode-read.result c.decode-read.ensures.0 u) c.put_line.ensures

@@ -7,7 +7,6 @@ use Rattle.rules.specs.Words.{Input}
 use Rattle.rules.specs.Program.{gate_run, reported}
 use Rattle.text_writer.proofs.Lines.{wrote_as}
 use Rattle.gate_text.proofs.Programs.{four_words, all_words, parts_are}
-use borrow.Author.Rules.{rules}
 use Rattle.gate_text.proofs.run_words.Goals as goal
 
 pub at-labels_end-requires : goal.at-labels_end-requires
@@ -22,32 +21,20 @@ pub at-requires-2 : goal.at-requires-2
 at-requires-2 c =
     omega (arith, four_words c.args.ws.now c.requires.0)
 
--- GONE part-run-input-start : tie.Need-slice-bounds-run-input-start
--- GONE part-run-input-start c = search rules
+pub slice_bounds-run_input-end : goal.slice_bounds-run_input-end
+slice_bounds-run_input-end c = omega (arith, (let it : 4 + c.at-labels_end.result + c.at.result + c.at-2.result ≤ length c.args.ws.now = omega ( arith, all_words c.args.ws.now c.requires.0, c.at-labels_end.ensures.0, c.at.ensures.0, c.at-2.ensures.0, ) in it))
 
--- GONE part-run-input-end : tie.Need-slice-bounds-run-input-end
--- GONE part-run-input-end c = omega (arith, (let it : 4 + c.before.before.at.result + c.before.at2.result + c.at3.result ≤ length c.before.before.before.before.before.args.ws.now = let start = c.before.before.before.before.before in omega ( arith, all_words start.args.ws.now start.requires.0, c.before.before.at.ensures.0, c.before.at2.ensures.0, c.at3.ensures.0, ) in it))
+pub slice_bounds-run_input-end-2 : goal.slice_bounds-run_input-end-2
+slice_bounds-run_input-end-2 c = omega (arith, (let it : 4 + c.at-labels_end.result + c.at.result + c.at-2.result ≤ length c.args.ws.now = omega ( arith, all_words c.args.ws.now c.requires.0, c.at-labels_end.ensures.0, c.at.ensures.0, c.at-2.ensures.0, ) in it))
 
--- GONE part-run-input-start-2 : tie.Need-slice-bounds-run-input-start-2
--- GONE part-run-input-start-2 c = search rules
-
--- GONE part-run-input-end-2 : tie.Need-slice-bounds-run-input-end-2
--- GONE part-run-input-end-2 c = omega (arith, (let it : 4 + c.before.before.before.at.result + c.before.before.at2.result + c.before.at3.result ≤ length c.before.before.before.before.before.before.args.ws.now = let start = c.before.before.before.before.before.before in omega ( arith, all_words start.args.ws.now start.requires.0, c.before.before.before.at.ensures.0, c.before.before.at2.ensures.0, c.before.at3.ensures.0, ) in it))
-
--- GONE part-run-input-start-3 : tie.Need-slice-bounds-run-input-start-3
--- GONE part-run-input-start-3 c = search rules
-
--- GONE part-run-input-end-3 : tie.Need-slice-bounds-run-input-end-3
--- GONE part-run-input-end-3 c = omega (arith, (let it : 4 + c.before.before.before.before.at.result + c.before.before.before.at2.result + c.before.before.at3.result ≤ length c.before.before.before.before.before.before.before.args.ws.now = let start = c.before.before.before.before.before.before.before in omega ( arith, all_words start.args.ws.now start.requires.0, c.before.before.before.before.at.ensures.0, c.before.before.before.at2.ensures.0, c.before.before.at3.ensures.0, ) in it))
+pub slice_bounds-run_input-end-3 : goal.slice_bounds-run_input-end-3
+slice_bounds-run_input-end-3 c = omega (arith, (let it : 4 + c.at-labels_end.result + c.at.result + c.at-2.result ≤ length c.args.ws.now = omega ( arith, all_words c.args.ws.now c.requires.0, c.at-labels_end.ensures.0, c.at.ensures.0, c.at-2.ensures.0, ) in it))
 
 pub slice_bounds-run_input-count-4 : goal.slice_bounds-run_input-count-4
 slice_bounds-run_input-count-4 c = omega (arith, (let it : 4 + c.at-labels_end.result + c.at.result + c.at-2.result ≤ length c.args.ws.now = omega ( arith, all_words c.args.ws.now c.requires.0, c.at-labels_end.ensures.0, c.at.ensures.0, c.at-2.ensures.0, ) in it))
 
--- GONE part-run-input-start-4 : tie.Need-slice-bounds-run-input-start-4
--- GONE part-run-input-start-4 c = omega (arith, (let it : 4 + c.before.before.before.before.before.at.result + c.before.before.before.before.at2.result + c.before.before.before.at3.result ≤ length c.before.before.before.before.before.before.before.before.args.ws.now = let start = c.before.before.before.before.before.before.before.before in omega ( arith, all_words start.args.ws.now start.requires.0, c.before.before.before.before.before.at.ensures.0, c.before.before.before.before.at2.ensures.0, c.before.before.before.at3.ensures.0, ) in it))
-
--- GONE part-run-input-end-4 : tie.Need-slice-bounds-run-input-end-4
--- GONE part-run-input-end-4 c = search rules
+pub slice_bounds-run_input-start-4 : goal.slice_bounds-run_input-start-4
+slice_bounds-run_input-start-4 c = omega (arith, (let it : 4 + c.at-labels_end.result + c.at.result + c.at-2.result ≤ length c.args.ws.now = omega ( arith, all_words c.args.ws.now c.requires.0, c.at-labels_end.ensures.0, c.at.ensures.0, c.at-2.ensures.0, ) in it))
 
 pub returns : goal.returns
 returns c =
