@@ -1,4 +1,6 @@
 // The check of the action formulas: m, m kinds, m operands.
+#![tactic(auto)]
+
 ghost use Rattle.std.specs.Prelude.{◌≡◌, [], ◌∷◌, ◌<◌, length};
 ghost use Rattle.rules.specs.Answers.{first_fault};
 ghost use Rattle.rules.specs.Table.{size, action_children};

@@ -1,6 +1,8 @@
 // Numbers for the nodes of the action formulas and of the formula: nodes with equal trees have one number. The nodes
 // are gone through from the last to the first, so that a node's children have their numbers already and two nodes are
 // compared by three words each.
+#![tactic(auto)]
+
 ghost use Rattle.std.specs.Prelude.{◌≡◌, ◌+◌, ◌-◌, ◌≤◌, ◌<◌, length, set};
 ghost use Rattle.rules.specs.Lists.{seek};
 ghost use Rattle.rules.specs.Words.{most_nodes, Input, input_of};

@@ -1,4 +1,6 @@
 // A set of numbers below 1,048,576, a bit for each: 128 KB.
+#![tactic(auto)]
+
 ghost use Rattle.std.specs.Prelude.{◌≡◌, true, not, [], ◌<◌, length};
 ghost use Rattle.bitmap.specs.Marks.{bitmap_words, bitmap_numbers, bit_of, set_word, marked, Met, Wiped, Holds};
 

@@ -1,5 +1,7 @@
 // What a run compiles before it walks stands in one lent array of words, which has a stretch for each table. Here is
 // said once where each begins, with a reader for each.
+#![tactic(auto)]
+
 ghost use Rattle.std.specs.Prelude.{◌≡◌, ◌-◌, ◌≤◌, ◌<◌};
 ghost use Rattle.rules.specs.Lists.{word};
 ghost use Rattle.compiled.specs.Stretches.{stretch, word_count, kinds_in, lefts_in, rights_in, priorities_in};

@@ -1,4 +1,6 @@
 // A check that two kinds of words share: those of a system and those of a game.
+#![tactic(auto)]
+
 ghost use Rattle.std.specs.Prelude.{◌≡◌, ◌<◌, ◌≤◌, length};
 ghost use Rattle.rules.specs.Refusal.{too_large, fault_from};
 

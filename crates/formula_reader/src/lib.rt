@@ -1,6 +1,8 @@
 // A reader of the formula: it keeps the words, lent, with the node at which it stands. Whoever goes from node to node
 // holds one and moves it (crate `modal_equation_system`); whoever wants one word calls `words::kind_at` and
 // `words::operand_at`, by which a reader reads, too.
+#![tactic(auto)]
+
 ghost use Rattle.std.specs.Prelude.{◌≡◌};
 ghost use Rattle.rules.specs.Table.{kind, operand};
 ghost use Rattle.words.specs.Node.{has_kind, has_operand};

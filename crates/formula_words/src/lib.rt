@@ -1,4 +1,6 @@
 // The check of the formula: n, n kinds, n operands.
+#![tactic(auto)]
+
 ghost use Rattle.std.specs.Prelude.{◌≡◌, [], ◌∷◌, ◌<◌};
 ghost use Rattle.rules.specs.Answers.{first_fault};
 ghost use Rattle.rules.specs.Table.{size, action_children, formula_children, formula_node, reference_of};

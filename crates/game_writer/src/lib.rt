@@ -1,5 +1,7 @@
 // A game's words, written from left to right out of the work words in which a walk stands and the table of items. A
 // function that appends a stretch answers the place past it.
+#![tactic(auto)]
+
 ghost use Rattle.std.specs.Prelude.{◌≡◌, true, List, map, ℕ, suc, ◌+◌, ◌-◌, ◌*◌, ◌≤◌, ◌<◌, length};
 ghost use Rattle.rules.specs.Lists.{word, from};
 ghost use Rattle.rules.specs.Words.{most_vertices, most_edges};

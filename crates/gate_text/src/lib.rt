@@ -1,4 +1,6 @@
 // The thin program's text: the words that its input holds, and the lines that it prints.
+#![tactic(auto)]
+
 ghost use Rattle.std.specs.Prelude.{◌≡◌, List, ◌++◌, false, ℕ, ◌+◌, ◌*◌, ◌%◌, ◌≤◌, ◌<◌, length, take, eqb};
 ghost use Rattle.std.proofs.Math.Option.{some};
 ghost use Rattle.rules.specs.Lists.{sum};
@@ -156,10 +158,8 @@ fn run_input(
     text: &mut [u8],
 ) -> usize
     requires { gate_text_length ≤ length text.old }
-    ensures {
-        let x = input_of labels.now system.now actions.now formula.now in
-        Wrote 0 (reported (gate_run x)) text.old text.new result
-    }
+    ensures { let x = input_of labels.now system.now actions.now formula.now in
+        Wrote 0 (reported (gate_run x)) text.old text.new result }
 {
     let mut game = [0u32; 3588];
     let mut work = [0u32; 6144];

@@ -1,5 +1,7 @@
 // The static library: the calls open to users, for C and Rust hosts. A slice passes as a pointer and a length in words;
 // the answer goes to four words that the host lends: 0 Done, 1 Cut, 2 Refused, then the values, unused ones 0.
+#![tactic(auto)]
+
 ghost use Rattle.std.specs.Prelude.{◌≡◌};
 ghost use Rattle.rules.specs.Words.{input_of, room_of};
 ghost use Rattle.rules.specs.Answers.{said, Says, Accepted};

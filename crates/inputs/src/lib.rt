@@ -1,4 +1,6 @@
 // What is checked before a run begins, in the order of the refusals: the room and the lent slices, then the words.
+#![tactic(auto)]
+
 ghost use Rattle.std.specs.Prelude.{◌≡◌, ◌<◌, length};
 ghost use Rattle.rules.specs.Words.{input_of};
 ghost use Rattle.rules.specs.Answers.{and_then, first_fault};

@@ -1,4 +1,6 @@
 // The formula compiled once into a table of items, which the steps of a run read.
+#![tactic(auto)]
+
 ghost use Rattle.std.specs.Prelude.{◌≡◌, ◌≤◌, ◌<◌, length};
 ghost use Rattle.rules.specs.Lists.{zeros};
 ghost use Rattle.rules.specs.Words.{most_nodes, Input, input_of};
@@ -57,18 +59,12 @@ fn number_items(
     count: usize,
     numbers: &mut [u32],
 ) -> usize
-    requires good_input {
-        let x = input_of labels.now system.now actions.now formula.now in
-        GoodInput x × FormulaNumbers x nodes.now
-    }
-    requires count_value {
-        let x = input_of labels.now system.now actions.now formula.now in
-        (count ≡ equation_count x.formula) × (most_nodes ≤ length numbers.old)
-    }
-    ensures {
-        let x = input_of labels.now system.now actions.now formula.now in
-        (result ≡ length (items x)) × ItemNumbers x numbers.new
-    }
+    requires good_input { let x = input_of labels.now system.now actions.now formula.now in
+        GoodInput x × FormulaNumbers x nodes.now }
+    requires count_value { let x = input_of labels.now system.now actions.now formula.now in
+        (count ≡ equation_count x.formula) × (most_nodes ≤ length numbers.old) }
+    ensures { let x = input_of labels.now system.now actions.now formula.now in
+        (result ≡ length (items x)) × ItemNumbers x numbers.new }
 {
     clear(numbers);
     let size = at(formula, 0);
@@ -94,23 +90,15 @@ fn number_all(
     acts: &mut [u32],
     numbers: &mut [u32],
 ) -> usize
-    requires good_input {
-        let x = input_of labels.now system.now actions.now formula.now in
-        GoodInput x × Classes x.labels (classes_in compiled.now)
-    }
-    requires equation_numbers {
-        let x = input_of labels.now system.now actions.now formula.now in
-        EquationNumbers x.formula equations.now × (count ≡ equation_count x.formula)
-    }
+    requires good_input { let x = input_of labels.now system.now actions.now formula.now in
+        GoodInput x × Classes x.labels (classes_in compiled.now) }
+    requires equation_numbers { let x = input_of labels.now system.now actions.now formula.now in
+        EquationNumbers x.formula equations.now × (count ≡ equation_count x.formula) }
     requires most_nodes_in_bounds { (most_nodes ≤ length acts.old) × (most_nodes ≤ length numbers.old) }
-    ensures value {
-        let x = input_of labels.now system.now actions.now formula.now in
-        (result ≡ length (items x)) × ItemNumbers x numbers.new
-    }
-    ensures action_numbers {
-        let x = input_of labels.now system.now actions.now formula.now in
-        ActionNumbers x acts.new
-    }
+    ensures value { let x = input_of labels.now system.now actions.now formula.now in
+        (result ≡ length (items x)) × ItemNumbers x numbers.new }
+    ensures action_numbers { let x = input_of labels.now system.now actions.now formula.now in
+        ActionNumbers x acts.new }
 {
     let mut shapes = [0u32; SHAPES];
     let mut nodes = [0u32; NODES];
@@ -152,19 +140,13 @@ fn put_equations(
     count: usize,
     compiled: &mut Compiled,
 )
-    requires good_input {
-        let x = input_of labels.now system.now actions.now formula.now in
-        GoodInput x × Listed x.formula table.now × ItemNumbers x numbers.now
-    }
-    requires count_value {
-        let x = input_of labels.now system.now actions.now formula.now in
-        (count ≡ equation_count x.formula) × (length compiled.old ≡ word_count)
-    }
-    ensures {
-        let x = input_of labels.now system.now actions.now formula.now in
+    requires good_input { let x = input_of labels.now system.now actions.now formula.now in
+        GoodInput x × Listed x.formula table.now × ItemNumbers x numbers.now }
+    requires count_value { let x = input_of labels.now system.now actions.now formula.now in
+        (count ≡ equation_count x.formula) × (length compiled.old ≡ word_count) }
+    ensures { let x = input_of labels.now system.now actions.now formula.now in
         ShownIn x count compiled.new
-        × ItemsOnly compiled.old compiled.new
-    }
+        × ItemsOnly compiled.old compiled.new }
 {
     let mut equation: usize = 0;
     while equation < count {
@@ -191,23 +173,15 @@ fn put_subformulas(
     numbers: &[u32],
     compiled: &mut Compiled,
 )
-    requires good_input {
-        let x = input_of labels.now system.now actions.now formula.now in
-        GoodInput x × ActionNumbers x acts.now
-    }
-    requires equation_numbers {
-        let x = input_of labels.now system.now actions.now formula.now in
-        EquationNumbers x.formula equations.now × ItemNumbers x numbers.now
-    }
-    requires compiled_len {
-        let x = input_of labels.now system.now actions.now formula.now in
-        (length compiled.old ≡ word_count) × ShownIn x (equation_count x.formula) compiled.old
-    }
-    ensures {
-        let x = input_of labels.now system.now actions.now formula.now in
+    requires good_input { let x = input_of labels.now system.now actions.now formula.now in
+        GoodInput x × ActionNumbers x acts.now }
+    requires equation_numbers { let x = input_of labels.now system.now actions.now formula.now in
+        EquationNumbers x.formula equations.now × ItemNumbers x numbers.now }
+    requires compiled_len { let x = input_of labels.now system.now actions.now formula.now in
+        (length compiled.old ≡ word_count) × ShownIn x (equation_count x.formula) compiled.old }
+    ensures { let x = input_of labels.now system.now actions.now formula.now in
         ShownIn x (length (items x)) compiled.new
-        × ItemsOnly compiled.old compiled.new
-    }
+        × ItemsOnly compiled.old compiled.new }
 {
     let size = at(formula, 0);
     let mut node = first_body_node(formula);
@@ -234,23 +208,15 @@ fn make_items(
     numbers: &mut [u32],
     out: &mut Compiled,
 ) -> usize
-    requires good_input {
-        let x = input_of labels.now system.now actions.now formula.now in
-        GoodInput x × Classes x.labels (classes_in out.old) × (length out.old ≡ word_count)
-    }
-    requires listed {
-        let x = input_of labels.now system.now actions.now formula.now in
-        Listed x.formula table.now × (count ≡ equation_count x.formula)
-    }
+    requires good_input { let x = input_of labels.now system.now actions.now formula.now in
+        GoodInput x × Classes x.labels (classes_in out.old) × (length out.old ≡ word_count) }
+    requires listed { let x = input_of labels.now system.now actions.now formula.now in
+        Listed x.formula table.now × (count ≡ equation_count x.formula) }
     requires most_nodes_in_bounds { (most_nodes ≤ length acts.old) × (most_nodes ≤ length numbers.old) }
-    ensures value {
-        let x = input_of labels.now system.now actions.now formula.now in
-        result ≡ length (items x)
-    }
-    ensures shown_in {
-        let x = input_of labels.now system.now actions.now formula.now in
-        ShownIn x (length (items x)) out.new
-    }
+    ensures value { let x = input_of labels.now system.now actions.now formula.now in
+        result ≡ length (items x) }
+    ensures shown_in { let x = input_of labels.now system.now actions.now formula.now in
+        ShownIn x (length (items x)) out.new }
     ensures items_only { ItemsOnly out.old out.new }
 {
     let items = number_all(
@@ -282,24 +248,16 @@ pub fn compile(
     formula: &[u32],
     compiled: &mut Compiled,
 ) -> usize
-    requires good_input {
-        let x = input_of labels.now system.now actions.now formula.now in
-        GoodInput x × Classes x.labels (classes_in compiled.old)
-    }
+    requires good_input { let x = input_of labels.now system.now actions.now formula.now in
+        GoodInput x × Classes x.labels (classes_in compiled.old) }
     requires compiled_len { length compiled.old ≡ word_count }
-    ensures value {
-        let x = input_of labels.now system.now actions.now formula.now in
-        result ≡ length (items x)
-    }
-    ensures item_table {
-        let x = input_of labels.now system.now actions.now formula.now in
+    ensures value { let x = input_of labels.now system.now actions.now formula.now in
+        result ≡ length (items x) }
+    ensures item_table { let x = input_of labels.now system.now actions.now formula.now in
         ItemTable x
-        (kinds_in compiled.new) (lefts_in compiled.new) (rights_in compiled.new)
-    }
-    ensures ranks {
-        let x = input_of labels.now system.now actions.now formula.now in
-        Ranks by_depth x (priorities_in compiled.new)
-    }
+        (kinds_in compiled.new) (lefts_in compiled.new) (rights_in compiled.new) }
+    ensures ranks { let x = input_of labels.now system.now actions.now formula.now in
+        Ranks by_depth x (priorities_in compiled.new) }
     ensures items_only { ItemsOnly compiled.old compiled.new }
 {
     let mut table = [0u32; TABLE];

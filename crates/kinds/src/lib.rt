@@ -11,6 +11,8 @@
 //     6 least      Odd     (s, the body)
 //     7 greatest   Even    (s, the body)
 //     8 reference  Odd     (s, its equation)
+#![tactic(auto)]
+
 ghost use Rattle.std.specs.Prelude.{◌≡◌, ◌/◌, ◌≤◌, ◌<◌, eqb};
 ghost use Rattle.item_table.specs.Entries.{kind_owner};
 

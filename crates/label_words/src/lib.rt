@@ -1,4 +1,6 @@
 // The check of the label words: L, A, then A label numbers and A action numbers.
+#![tactic(auto)]
+
 ghost use Rattle.std.specs.Prelude.{◌≡◌, [], ◌∷◌, ◌+◌, ◌*◌, ◌<◌, ◌≤◌, length};
 ghost use Rattle.rules.specs.Words.{most_actions};
 ghost use Rattle.rules.specs.Answers.{first_fault};

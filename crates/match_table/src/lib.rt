@@ -1,5 +1,7 @@
 // The table of matching labels. It is made once before the walk, so that the walk asks one byte for each transition
 // instead of deciding an action formula there.
+#![tactic(auto)]
+
 ghost use Rattle.std.specs.Prelude.{◌≡◌, ◌+◌, ◌≤◌, ◌<◌, length};
 ghost use Rattle.rules.specs.Labels.{label_count};
 ghost use Rattle.rules.specs.Table.{size};

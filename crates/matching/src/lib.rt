@@ -1,4 +1,6 @@
 // Action formulas, decided at labels (translate.rs, `match_action_formula`).
+#![tactic(auto)]
+
 ghost use Rattle.std.specs.Prelude.{◌≡◌, List, ℕ, ◌<◌, length};
 ghost use Rattle.rules.specs.Labels.{label_count};
 ghost use Rattle.rules.specs.Table.{size};

@@ -1,4 +1,6 @@
 // The equations of a formula, their alternation depth and their priorities (modal_equation_system.rs).
+#![tactic(auto)]
+
 ghost use Rattle.std.specs.Prelude.{◌≡◌, not, ◌≤◌, ◌<◌, max, length, eqb};
 ghost use Rattle.rules.specs.Words.{most_nodes};
 ghost use Rattle.rules.specs.Lists.{one};

@@ -1,4 +1,6 @@
 // The step of a box or a diamond: an edge for each transition of the state whose label matches, once per target.
+#![tactic(auto)]
+
 ghost use Rattle.std.specs.Prelude.{◌≡◌, true, List, [], ◌∷◌, ◌++◌, ℕ, ◌≤◌, ◌<◌, eqb, length};
 ghost use Rattle.rules.specs.Lists.{once};
 ghost use Rattle.rules.specs.Words.{most_states, most_vertices, most_edges, Input, input_of};
@@ -290,24 +292,16 @@ pub fn settle_modality(
     matched: &MatchBytes,
     modality: Modality,
 ) -> Stepped
-    requires labelled {
-        let x = input_of labels.now system.now actions.now [] in
-        Labelled x.labels x.system x.actions (classes_in compiled.now)
-    }
-    requires multiples {
-        let x = input_of labels.now system.now actions.now [] in
+    requires labelled { let x = input_of labels.now system.now actions.now [] in
+        Labelled x.labels x.system x.actions (classes_in compiled.now) }
+    requires multiples { let x = input_of labels.now system.now actions.now [] in
         Multiples (multiples_in compiled.now) × Samples x.system (samples_in compiled.now)
-        × MatchTable x.labels x.actions matched.now
-    }
-    requires unmarked {
-        let x = input_of labels.now system.now actions.now [] in
-        Unmarked work.old room counters × Inside x modality
-    }
-    ensures {
-        let x = input_of labels.now system.now actions.now [] in
+        × MatchTable x.labels x.actions matched.now }
+    requires unmarked { let x = input_of labels.now system.now actions.now [] in
+        Unmarked work.old room counters × Inside x modality }
+    ensures { let x = input_of labels.now system.now actions.now [] in
         Answer work.old room.vertices room.edges counters (modality_keys x modality)
-        (modality_counts x modality) work.new result
-    }
+        (modality_counts x modality) work.new result }
 {
     let answers = match_table::row(labels, actions, matched, modality.action as usize);
     let moves = moves_of(system, compiled, modality.state);

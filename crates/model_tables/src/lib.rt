@@ -1,4 +1,6 @@
 // The compiled tables that go by the model alone: the labels' multisets, the first transitions, the byte multiples.
+#![tactic(auto)]
+
 ghost use Rattle.std.specs.Prelude.{◌≡◌, length};
 ghost use Rattle.tables.specs.Good.{GoodLabels};
 ghost use Rattle.compiled.specs.Stretches.{word_count, classes_in, samples_in, multiples_in};

@@ -1,4 +1,6 @@
 // The table of known pairs in the lent work slice: looking a pair up, and numbering it.
+#![tactic(auto)]
+
 ghost use Rattle.std.specs.Prelude.{◌≡◌, ◌+◌, ◌*◌, ◌%◌, ◌^◌, ◌<◌, ◌≤◌, length};
 ghost use Rattle.rules.specs.Words.{most_states, most_vertices};
 ghost use Rattle.rules.specs.Lists.{word};

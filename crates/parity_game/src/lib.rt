@@ -1,5 +1,7 @@
 // The words of a parity game: where they stand, the check of a game that is handed over, and the first words of a game
 // that is written.
+#![tactic(auto)]
+
 ghost use Rattle.std.specs.Prelude.{◌≡◌, [], ◌∷◌, ◌+◌, ◌*◌, ◌<◌, ◌≤◌, length};
 ghost use Rattle.rules.specs.Game.{vertex_columns, edge_columns, game_words, vertex_count, game_end, vertex_word};
 ghost use Rattle.rules.specs.Game.{edges_from};

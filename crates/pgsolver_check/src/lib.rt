@@ -1,5 +1,7 @@
 // PGSolver text that is to be read as a game (#101), looked at before anything is written: whether it has the form,
 // whether each vertex is given once, and whether there is room for its game.
+#![tactic(auto)]
+
 ghost use Rattle.std.specs.Prelude.{◌≡◌, true, false, not, ◌&&◌, [], map, ◌+◌, ◌-◌, ◌<◌, ◌≤◌, min, max, length, eqb, ltb};
 ghost use Rattle.rules.specs.declared.Check.TheVariants.{Passed};
 ghost use Rattle.rules.specs.Lists.{one, once, Distinct};

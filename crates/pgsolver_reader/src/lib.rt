@@ -2,6 +2,8 @@
 // written in the order of their numbers, each from its line. The check found every number in its place, and small
 // enough: none is asked about again. Where the lines are in another order, the place of each line is posted before, in
 // the two words that will hold its vertex's owner and priority: no further memory is lent.
+#![tactic(auto)]
+
 ghost use Rattle.std.specs.Prelude.{◌≡◌, false, [], ◌∷◌, ℕ, ◌+◌, ◌-◌, ◌*◌, ◌/◌, ◌%◌, ◌<◌, ◌≤◌, length, set, eqb};
 ghost use Rattle.std.proofs.Math.Seq.{slice};
 ghost use Rattle.rules.specs.declared.Check.TheVariants.{Passed};

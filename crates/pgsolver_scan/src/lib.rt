@@ -1,5 +1,7 @@
 // Reading PGSolver text from left to right (#101): each function reads what stands at a place of the text and answers
 // the place past it. A number beyond the bound of specs/Told is handed on as that bound.
+#![tactic(auto)]
+
 ghost use Rattle.std.specs.Prelude.{◌≡◌, true, false, cond, [], ◌∷◌, ◌+◌, ◌*◌, ◌-◌, ◌<◌, ◌≤◌, max, length};
 ghost use Rattle.std.proofs.Math.Option.{none, some};
 ghost use Rattle.rules.specs.Pgsolver.{parity_word};

@@ -1,5 +1,7 @@
 // Parity games written as PGSolver text (#101), which does not show the counts of a game's edges (#102).
 // `write_pgsolver` is the one function for users; the others are its parts.
+#![tactic(auto)]
+
 ghost use Rattle.std.specs.Prelude.{◌≡◌, [], ◌∷◌, ◌+◌, ◌-◌, ◌*◌, ◌<◌, ◌≤◌, length};
 ghost use Rattle.std.proofs.Math.Seq.{slice};
 ghost use Rattle.rules.specs.declared.Check.TheVariants.{Passed};

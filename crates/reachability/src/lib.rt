@@ -1,5 +1,7 @@
 // The part of a parity game that its initial vertex reaches. While it is made, the work slice holds the vertices met,
 // each at its new number, and the map the new number of each vertex, UNREACHED for one that is not met.
+#![tactic(auto)]
+
 ghost use Rattle.std.specs.Prelude.{◌≡◌, List, map, ℕ, ◌+◌, ◌-◌, ◌*◌, ◌<◌, ◌≤◌, length, take, drop, eqb};
 ghost use Rattle.std.proofs.Math.Seq.{slice};
 ghost use Rattle.rules.specs.declared.Check.TheVariants.{Passed};
@@ -246,15 +248,11 @@ fn write_targets(
 ) -> usize
     requires chosen { Chosen game.now count work.now }
     requires knows { Knows count mapping.now work.now }
-    requires mapping_len {
-        let kept = kept_vertices game.now (take count work.now) in
+    requires mapping_len { let kept = kept_vertices game.now (take count work.now) in
         (length mapping.now ≡ vertex_count game.now)
-        × (start + edge_count kept ≤ length out.old)
-    }
-    ensures {
-        let kept = kept_vertices game.now (take count work.now) in
-        Wrote start (edge_column_of 0 kept) out.old out.new result
-    }
+        × (start + edge_count kept ≤ length out.old) }
+    ensures { let kept = kept_vertices game.now (take count work.now) in
+        Wrote start (edge_column_of 0 kept) out.old out.new result }
 {
     let mut i = 0;
     let mut next = start;
@@ -278,14 +276,10 @@ fn write_copied(
     start: usize,
 ) -> usize
     requires chosen { Chosen game.now count work.now }
-    requires column_nonzero {
-        let kept = kept_vertices game.now (take count work.now) in
-        (0 < column) × (column < length edge_columns) × (start + edge_count kept ≤ length out.old)
-    }
-    ensures {
-        let kept = kept_vertices game.now (take count work.now) in
-        Wrote start (edge_column_of column kept) out.old out.new result
-    }
+    requires column_nonzero { let kept = kept_vertices game.now (take count work.now) in
+        (0 < column) × (column < length edge_columns) × (start + edge_count kept ≤ length out.old) }
+    ensures { let kept = kept_vertices game.now (take count work.now) in
+        Wrote start (edge_column_of column kept) out.old out.new result }
 {
     let mut i = 0;
     let mut next = start;
@@ -308,15 +302,11 @@ fn write_all_copied(
     start: usize,
 ) -> usize
     requires chosen { Chosen game.now count work.now }
-    requires kept_in_bounds {
-        let kept = kept_vertices game.now (take count work.now) in
-        start + (length edge_columns - 1) * edge_count kept ≤ length out.old
-    }
-    ensures {
-        let kept = kept_vertices game.now (take count work.now) in
+    requires kept_in_bounds { let kept = kept_vertices game.now (take count work.now) in
+        start + (length edge_columns - 1) * edge_count kept ≤ length out.old }
+    ensures { let kept = kept_vertices game.now (take count work.now) in
         Wrote start (columns (drop 1 edge_columns) (all_edges kept))
-        out.old out.new result
-    }
+        out.old out.new result }
 {
     let all = parity_game::edge_columns();
     let mut column: usize = TARGETS + 1;
@@ -333,14 +323,10 @@ fn write_game(game: &[u32], mapping: &[u32], work: &[u32], count: usize, out: &m
     requires chosen { Chosen game.now count work.now }
     requires knows { Knows count mapping.now work.now }
     requires mapping_len { (length mapping.now ≡ vertex_count game.now) × (length out.old ≡ length game.now) }
-    ensures value {
-        let kept = kept_vertices game.now (take count work.now) in
-        result ≡ edge_count kept
-    }
-    ensures out_after {
-        let kept = kept_vertices game.now (take count work.now) in
-        out.new ≡ padded (length out.old) (game_of 0 kept)
-    }
+    ensures value { let kept = kept_vertices game.now (take count work.now) in
+        result ≡ edge_count kept }
+    ensures out_after { let kept = kept_vertices game.now (take count work.now) in
+        out.new ≡ padded (length out.old) (game_of 0 kept) }
 {
     let edges = count_edges(game, work, count);
     let header = parity_game::write_header(count as u32, edges as u32, out);

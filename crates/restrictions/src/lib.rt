@@ -1,1 +1,2 @@
 // What users of the restriction rely on: see proofs/. There is no code here.
+#![tactic(auto)]

@@ -1,5 +1,7 @@
 // The parts of a step that are the same whatever a pair's targets come from: a target is numbered, pushed if it is new,
 // and given an edge in the lent work slice.
+#![tactic(auto)]
+
 ghost use Rattle.std.specs.Prelude.{◌≡◌, true, cond, List, [], ◌∷◌, ◌++◌, ℕ, ◌+◌, ◌*◌, ◌≤◌, ◌<◌, length, take};
 ghost use Rattle.rules.specs.Words.{most_vertices, most_edges};
 ghost use Rattle.rules.specs.Lists.{word};

@@ -1,6 +1,8 @@
 // One step of the walk over the pairs of an input, and the walk of at most k steps, in the lent work slice. The
 // functions that are `pub` are parts of a run and are called by it alone: what holds of a whole run is said where the
 // run is.
+#![tactic(auto)]
+
 ghost use Rattle.std.specs.Prelude.{◌≡◌, map, ◌*◌, ◌≤◌, ◌<◌, length};
 ghost use Rattle.rules.specs.Words.{most_vertices, Input, input_of};
 ghost use Rattle.rules.specs.Lists.{zeros};
@@ -125,18 +127,14 @@ fn settle(
     formula: &[u32],
     matched: &MatchBytes,
 ) -> Stepped
-    requires tables {
-        let x = input_of labels.now system.now actions.now formula.now in
-        Tables x compiled.now matched.now × Inside x (popped.pair.state, popped.pair.item)
-    }
+    requires tables { let x = input_of labels.now system.now actions.now formula.now in
+        Tables x compiled.now matched.now × Inside x (popped.pair.state, popped.pair.item) }
     requires unmarked { Unmarked work.old room popped.counters }
-    ensures {
-        let x = input_of labels.now system.now actions.now formula.now in
+    ensures { let x = input_of labels.now system.now actions.now formula.now in
         Answer work.old room.vertices room.edges popped.counters
         (map pair_key (targets x (popped.pair.state, popped.pair.item)))
         (map (transitions_behind x (popped.pair.state, popped.pair.item))
-        (targets x (popped.pair.state, popped.pair.item))) work.new result
-    }
+        (targets x (popped.pair.state, popped.pair.item))) work.new result }
 {
     let counters = popped.counters;
     let pair = popped.pair;
@@ -162,20 +160,14 @@ pub fn step(
     formula: &[u32],
     matched: &MatchBytes,
 ) -> Stepped
-    requires tables {
-        let x = input_of labels.now system.now actions.now formula.now in
-        Tables x compiled.now matched.now
-    }
-    requires good {
-        let x = input_of labels.now system.now actions.now formula.now in
+    requires tables { let x = input_of labels.now system.now actions.now formula.now in
+        Tables x compiled.now matched.now }
+    requires good { let x = input_of labels.now system.now actions.now formula.now in
         Good (key_targets x) (key_behind x) (root_key x) work.old room.vertices room.edges
-        counters
-    }
-    ensures {
-        let x = input_of labels.now system.now actions.now formula.now in
+        counters }
+    ensures { let x = input_of labels.now system.now actions.now formula.now in
         StepAnswer (key_targets x) (key_behind x) (root_key x) work.old room.vertices
-        room.edges counters work.new result
-    }
+        room.edges counters work.new result }
 {
     if counters.waiting == 0 {
         return Stepped::Fits(counters);
@@ -225,16 +217,12 @@ fn try_step(
     matched: &MatchBytes,
     room: Room,
 ) -> Tried
-    requires {
-        let x = input_of labels.now system.now actions.now formula.now in
+    requires { let x = input_of labels.now system.now actions.now formula.now in
         Tables x compiled.now matched.now
-        × Good (key_targets x) (key_behind x) (root_key x) work.old room.vertices room.edges counters
-    }
-    ensures {
-        let x = input_of labels.now system.now actions.now formula.now in
+        × Good (key_targets x) (key_behind x) (root_key x) work.old room.vertices room.edges counters }
+    ensures { let x = input_of labels.now system.now actions.now formula.now in
         TriedAnswer (key_targets x) (key_behind x) (root_key x) work.old room.vertices
-        room.edges counters work.new result.counters result.more
-    }
+        room.edges counters work.new result.counters result.more }
 {
     if counters.waiting == 0 {
         return Tried {
@@ -260,16 +248,12 @@ pub fn step_in_place(
     matched: &MatchBytes,
     room: Room,
 ) -> bool
-    requires {
-        let x = input_of labels.now system.now actions.now formula.now in
+    requires { let x = input_of labels.now system.now actions.now formula.now in
         Tables x compiled.now matched.now
-        × Good (key_targets x) (key_behind x) (root_key x) work.old room.vertices room.edges counters.old
-    }
-    ensures {
-        let x = input_of labels.now system.now actions.now formula.now in
+        × Good (key_targets x) (key_behind x) (root_key x) work.old room.vertices room.edges counters.old }
+    ensures { let x = input_of labels.now system.now actions.now formula.now in
         TriedAnswer (key_targets x) (key_behind x) (root_key x) work.old room.vertices
-        room.edges counters.old work.new counters.new result
-    }
+        room.edges counters.old work.new counters.new result }
 {
     let tried = try_step(
         *counters, work, labels, system, actions, formula, compiled, matched, room,
@@ -304,17 +288,13 @@ fn run_steps(
     bounds: Bounds,
     begun: Counters,
 ) -> Ran
-    requires {
-        let x = input_of labels.now system.now actions.now formula.now in
+    requires { let x = input_of labels.now system.now actions.now formula.now in
         Tables x compiled.now matched.now
         × WalkMade (key_targets x) (key_behind x) (root_key x) bounds.room.vertices bounds.room.edges 0 work.old
-        begun
-    }
-    ensures {
-        let x = input_of labels.now system.now actions.now formula.now in
+        begun }
+    ensures { let x = input_of labels.now system.now actions.now formula.now in
         RanAnswer (key_targets x) (key_behind x) (root_key x) bounds.room.vertices bounds.room.edges
-        bounds.limit work.new result.counters result.steps
-    }
+        bounds.limit work.new result.counters result.steps }
 {
     let room = bounds.room;
     let mut counters = begun;
@@ -350,20 +330,14 @@ pub fn walk(
     formula: &[u32],
     matched: &MatchBytes,
 ) -> Stepped
-    requires tables {
-        let x = input_of labels.now system.now actions.now formula.now in
-        Tables x compiled.now matched.now
-    }
-    requires walk_made {
-        let x = input_of labels.now system.now actions.now formula.now in
+    requires tables { let x = input_of labels.now system.now actions.now formula.now in
+        Tables x compiled.now matched.now }
+    requires walk_made { let x = input_of labels.now system.now actions.now formula.now in
         WalkMade (key_targets x) (key_behind x) (root_key x) bounds.room.vertices bounds.room.edges
-        0 work.old counters
-    }
-    ensures {
-        let x = input_of labels.now system.now actions.now formula.now in
+        0 work.old counters }
+    ensures { let x = input_of labels.now system.now actions.now formula.now in
         WalkAnswer (key_targets x) (key_behind x) (root_key x) bounds.room.vertices
-        bounds.room.edges bounds.limit work.new result
-    }
+        bounds.room.edges bounds.limit work.new result }
 {
     let ran = run_steps(
         work, labels, system, actions, formula, compiled, matched, bounds, counters,
@@ -399,16 +373,12 @@ pub fn begin(
     actions: &[u32],
     formula: &[u32],
 ) -> Stepped
-    requires multiples {
-        let x = input_of labels.now system.now actions.now formula.now in
-        Multiples (multiples_in compiled.now) × GoodInput x
-    }
+    requires multiples { let x = input_of labels.now system.now actions.now formula.now in
+        Multiples (multiples_in compiled.now) × GoodInput x }
     requires sized { Sized work.old room.vertices room.edges }
-    ensures {
-        let x = input_of labels.now system.now actions.now formula.now in
+    ensures { let x = input_of labels.now system.now actions.now formula.now in
         WalkAnswer (key_targets x) (key_behind x) (root_key x) room.vertices room.edges 0
-        work.new result
-    }
+        work.new result }
 {
     let vertices = room.vertices;
     pairs::start(work, vertices);

@@ -1,4 +1,6 @@
 // The check of the system words: S, T, the initial state, S out-degrees, then T labels and T targets.
+#![tactic(auto)]
+
 ghost use Rattle.std.specs.Prelude.{◌≡◌, [], ◌∷◌, ◌+◌, ◌*◌, ◌<◌, ◌≤◌, length};
 ghost use Rattle.rules.specs.Words.{most_states, most_transitions};
 ghost use Rattle.rules.specs.Lists.{sum_words};

@@ -1,4 +1,6 @@
 // Tables of trees as words: m, m kinds, m operands. All tables of a run are read here.
+#![tactic(auto)]
+
 ghost use Rattle.std.specs.Prelude.{◌≡◌, Bool, false, ℕ, ◌+◌, ◌<◌, ◌≤◌, length, get_or, ltb};
 ghost use Rattle.rules.specs.Table.{size, kind, operand, tree_end, is_not_end};
 ghost use Rattle.rules.specs.Answers.{first_fault};

@@ -1,5 +1,7 @@
 // Texts in a lent slice of bytes, written from left to right: each function appends and answers the place past what it
 // wrote. `finish` ends a call that writes a text.
+#![tactic(auto)]
+
 ghost use Rattle.std.specs.Prelude.{◌≡◌, [], ◌∷◌, ◌+◌, ◌≤◌, ◌<◌, length, take};
 ghost use Rattle.std.proofs.Math.Seq.{slice};
 ghost use Rattle.rules.specs.declared.Answer.TheVariants.{Done};

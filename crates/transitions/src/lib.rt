@@ -1,5 +1,7 @@
 // The first transition of a state: a sum of out-degrees, of which every sixteenth is kept, so that no state's is a long
 // sum.
+#![tactic(auto)]
+
 ghost use Rattle.std.specs.Prelude.{◌≡◌, ◌≤◌, ◌<◌, length};
 ghost use Rattle.rules.specs.System.{state_count, first_transition};
 ghost use Rattle.transitions.specs.Samples.{System, Samples, sample_count};

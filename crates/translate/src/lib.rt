@@ -1,5 +1,7 @@
 // The run: from a model and a formula to a parity game (translate.rs, Translation::translate and from_edges with
 // make_total). `translate` is the one function for users; the others are its parts.
+#![tactic(auto)]
+
 ghost use Rattle.std.specs.Prelude.{◌≡◌, length};
 ghost use Rattle.rules.specs.declared.Check.TheVariants.{Passed};
 ghost use Rattle.rules.specs.Words.{Input, input_of, room_of};
@@ -33,16 +35,12 @@ fn explore(
     formula: &[u32],
     matched: &MatchBytes,
 ) -> Stepped
-    requires tables {
-        let x = input_of labels.now system.now actions.now formula.now in
-        Tables x compiled.now matched.now
-    }
+    requires tables { let x = input_of labels.now system.now actions.now formula.now in
+        Tables x compiled.now matched.now }
     requires sized { Sized work.old bounds.room.vertices bounds.room.edges }
-    ensures {
-        let x = input_of labels.now system.now actions.now formula.now in
+    ensures { let x = input_of labels.now system.now actions.now formula.now in
         WalkAnswer (key_targets x) (key_behind x) (root_key x) bounds.room.vertices bounds.room.edges
-        bounds.limit work.new result
-    }
+        bounds.limit work.new result }
 {
     let room = bounds.room;
     match stepping::begin(compiled, work, room, labels, system, actions, formula) {
@@ -97,19 +95,13 @@ fn build_game(
     game: &mut [u32],
     work: &mut [u32],
 ) -> Answer
-    requires prepared {
-        let x = input_of labels.now system.now actions.now formula.now in
-        Prepared x compiled.now items
-    }
-    requires work_value {
-        let x = input_of labels.now system.now actions.now formula.now in
-        refusal x bounds.room (length game.old) (length work.old) ≡ Passed
-    }
-    ensures {
-        let x = input_of labels.now system.now actions.now formula.now in
+    requires prepared { let x = input_of labels.now system.now actions.now formula.now in
+        Prepared x compiled.now items }
+    requires work_value { let x = input_of labels.now system.now actions.now formula.now in
+        refusal x bounds.room (length game.old) (length work.old) ≡ Passed }
+    ensures { let x = input_of labels.now system.now actions.now formula.now in
         RunByRanks (priorities_in compiled.now) x bounds.room bounds.limit
-        game.old work.old result game.new work.new
-    }
+        game.old work.old result game.new work.new }
 {
     let mut matched = [0u8; MATCHED];
     match_table::make_match_table(labels, actions, compiled, items, &mut matched);
@@ -129,15 +121,11 @@ fn build(
     game: &mut [u32],
     work: &mut [u32],
 ) -> Answer
-    requires {
-        let x = input_of labels.now system.now actions.now formula.now in
-        refusal x bounds.room (length game.old) (length work.old) ≡ Passed
-    }
-    ensures {
-        let x = input_of labels.now system.now actions.now formula.now in
+    requires { let x = input_of labels.now system.now actions.now formula.now in
+        refusal x bounds.room (length game.old) (length work.old) ≡ Passed }
+    ensures { let x = input_of labels.now system.now actions.now formula.now in
         RunBy by_depth x bounds.room bounds.limit
-        game.old work.old result game.new work.new
-    }
+        game.old work.old result game.new work.new }
 {
     let mut compiled = [0u32; WORDS];
     model_tables::write_model_tables(labels, system, &mut compiled);

@@ -54,10 +54,10 @@ returns-then-kind-eq5 c =
     c.kind_at-kind.result c.kind_at-kind.ensures c.if-kind-eq5.true)
 
 pub offset_bounds-numbers-operand : goal.offset_bounds-numbers-operand
-offset_bounds-numbers-operand c = omega (arith, c.requires.good_actions.0.few, (let it : c.operand_at-operand.result < size c.args.actions.now = (right_below c.args.labels.now c.args.actions.now c.requires.good_actions.0 c.args.node c.requires.node_bound c.kind_at-kind.result c.operand_at-operand.result c.kind_at-kind.ensures ((let it : (3 ≤ c.kind_at-kind.result) × (c.kind_at-kind.result ≤ 4) = let known = (c.requires.good_actions.0.nodes c.args.node c.requires.node_bound).known in ( omega (arith, c.if-kind-le1.false, c.if-kind-eq2.false), omega (arith, c.kind_at-kind.ensures, c.if-kind-eq5.false, known), ) in it)).0 ((let it : (3 ≤ c.kind_at-kind.result) × (c.kind_at-kind.result ≤ 4) = let known = (c.requires.good_actions.0.nodes c.args.node c.requires.node_bound).known in ( omega (arith, c.if-kind-le1.false, c.if-kind-eq2.false), omega (arith, c.kind_at-kind.ensures, c.if-kind-eq5.false, known), ) in it)).1 c.operand_at-operand.ensures).1 in it))
+offset_bounds-numbers-operand c = omega (arith, c.requires.good_actions.0.few, (let it : c.operand_at-operand.result < size c.args.actions.now = (right_below c.args.labels.now c.args.actions.now c.requires.good_actions.0 c.args.node c.requires.node_bound c.kind_at-kind.result c.operand_at-operand.result c.kind_at-kind.ensures ((let it : (3 ≤ c.kind_at-kind.result) × (c.kind_at-kind.result ≤ 4) = let known = (c.requires.good_actions.0.nodes c.args.node c.requires.node_bound).known in (omega (arith, c.if-kind-le1.false, c.if-kind-eq2.false), omega (arith, c.kind_at-kind.ensures, c.if-kind-eq5.false, known)) in it)).0 ((let it : (3 ≤ c.kind_at-kind.result) × (c.kind_at-kind.result ≤ 4) = let known = (c.requires.good_actions.0.nodes c.args.node c.requires.node_bound).known in (omega (arith, c.if-kind-le1.false, c.if-kind-eq2.false), omega (arith, c.kind_at-kind.ensures, c.if-kind-eq5.false, known)) in it)).1 c.operand_at-operand.ensures).1 in it))
 
 pub bounds-numbers-operand : goal.bounds-numbers-operand
-bounds-numbers-operand c = omega (arith, c.requires.numbered.room, (let it : c.operand_at-operand.result < size c.args.actions.now = (right_below c.args.labels.now c.args.actions.now c.requires.good_actions.0 c.args.node c.requires.node_bound c.kind_at-kind.result c.operand_at-operand.result c.kind_at-kind.ensures ((let it : (3 ≤ c.kind_at-kind.result) × (c.kind_at-kind.result ≤ 4) = let known = (c.requires.good_actions.0.nodes c.args.node c.requires.node_bound).known in ( omega (arith, c.if-kind-le1.false, c.if-kind-eq2.false), omega (arith, c.kind_at-kind.ensures, c.if-kind-eq5.false, known), ) in it)).0 ((let it : (3 ≤ c.kind_at-kind.result) × (c.kind_at-kind.result ≤ 4) = let known = (c.requires.good_actions.0.nodes c.args.node c.requires.node_bound).known in ( omega (arith, c.if-kind-le1.false, c.if-kind-eq2.false), omega (arith, c.kind_at-kind.ensures, c.if-kind-eq5.false, known), ) in it)).1 c.operand_at-operand.ensures).1 in it))
+bounds-numbers-operand c = omega (arith, c.requires.numbered.room, (let it : c.operand_at-operand.result < size c.args.actions.now = (right_below c.args.labels.now c.args.actions.now c.requires.good_actions.0 c.args.node c.requires.node_bound c.kind_at-kind.result c.operand_at-operand.result c.kind_at-kind.ensures ((let it : (3 ≤ c.kind_at-kind.result) × (c.kind_at-kind.result ≤ 4) = let known = (c.requires.good_actions.0.nodes c.args.node c.requires.node_bound).known in (omega (arith, c.if-kind-le1.false, c.if-kind-eq2.false), omega (arith, c.kind_at-kind.ensures, c.if-kind-eq5.false, known)) in it)).0 ((let it : (3 ≤ c.kind_at-kind.result) × (c.kind_at-kind.result ≤ 4) = let known = (c.requires.good_actions.0.nodes c.args.node c.requires.node_bound).known in (omega (arith, c.if-kind-le1.false, c.if-kind-eq2.false), omega (arith, c.kind_at-kind.ensures, c.if-kind-eq5.false, known)) in it)).1 c.operand_at-operand.ensures).1 in it))
 
 pub returns : goal.returns
 returns c =
@@ -65,4 +65,4 @@ returns c =
     (sym c.shaped-2.ensures) (shape_two c.args.labels.now c.args.actions.now
     c.requires.good_actions.0 c.args.node c.requires.node_bound c.args.numbers.now c.requires.numbered
     c.kind_at-kind.result c.operand_at-operand.result c.kind_at-kind.ensures
-    ((let it : (3 ≤ c.kind_at-kind.result) × (c.kind_at-kind.result ≤ 4) = let known = (c.requires.good_actions.0.nodes c.args.node c.requires.node_bound).known in ( omega (arith, c.if-kind-le1.false, c.if-kind-eq2.false), omega (arith, c.kind_at-kind.ensures, c.if-kind-eq5.false, known), ) in it)).0 ((let it : (3 ≤ c.kind_at-kind.result) × (c.kind_at-kind.result ≤ 4) = let known = (c.requires.good_actions.0.nodes c.args.node c.requires.node_bound).known in ( omega (arith, c.if-kind-le1.false, c.if-kind-eq2.false), omega (arith, c.kind_at-kind.ensures, c.if-kind-eq5.false, known), ) in it)).1 c.operand_at-operand.ensures)
+    ((let it : (3 ≤ c.kind_at-kind.result) × (c.kind_at-kind.result ≤ 4) = let known = (c.requires.good_actions.0.nodes c.args.node c.requires.node_bound).known in (omega (arith, c.if-kind-le1.false, c.if-kind-eq2.false), omega (arith, c.kind_at-kind.ensures, c.if-kind-eq5.false, known)) in it)).0 ((let it : (3 ≤ c.kind_at-kind.result) × (c.kind_at-kind.result ≤ 4) = let known = (c.requires.good_actions.0.nodes c.args.node c.requires.node_bound).known in (omega (arith, c.if-kind-le1.false, c.if-kind-eq2.false), omega (arith, c.kind_at-kind.ensures, c.if-kind-eq5.false, known)) in it)).1 c.operand_at-operand.ensures)

@@ -15,7 +15,7 @@ loop-i-init c =
 pub formula_shape-shape-requires : goal.formula_shape-shape-requires
 formula_shape-shape-requires c =
     let done = c.loop-i.invariant in
- record { good_input = (c.requires.good_input.0, node_below done c.loop-i-test.true, done.placed.numbered.room); action_numbers = (c.requires.good_input.1, c.requires.good_input.2) }
+    record { good_input = (c.requires.good_input.0, node_below done c.loop-i-test.true, done.placed.numbered.room); action_numbers = (c.requires.good_input.1, c.requires.good_input.2) }
 
 pub place_node-requires : goal.place_node-requires
 place_node-requires c =

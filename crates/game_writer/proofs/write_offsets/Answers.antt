@@ -42,15 +42,14 @@ pub loop-vertex-smaller : goal.loop-vertex-smaller
 loop-vertex-smaller c = omega arith
 
 pub loop-vertex-preserved : goal.loop-vertex-preserved
-loop-vertex-preserved c =
- (
-      omega arith,
-      below_more c.args.work.now c.args.room.vertices c.loop-vertex.vertex c.loop-vertex.edges _ c.loop-vertex.invariant.1
-          c.degree_of-degree.ensures,
-      λ ks ps. offsets_put ks ps c.args.work.now c.args.room.vertices c.args.room.edges
-          c.args.known c.loop-vertex.edges c.loop-vertex.vertex _ c.degree_of-degree.ensures c.loop-vertex-test.true
-          ((let it : c.loop-vertex.place < length c.loop-vertex.game = offsets_room [] [] c.args.work.now c.args.room.vertices c.args.room.edges c.args.known c.loop-vertex.edges c.loop-vertex.vertex c.loop-vertex.invariant.0 c.requires.known_bound.1 (c.loop-vertex.invariant.2 [] []) in it)) (c.loop-vertex.invariant.2 ks ps),
-    )
+loop-vertex-preserved c = (
+  omega arith,
+  below_more c.args.work.now c.args.room.vertices c.loop-vertex.vertex c.loop-vertex.edges _ c.loop-vertex.invariant.1
+      c.degree_of-degree.ensures,
+  λ ks ps. offsets_put ks ps c.args.work.now c.args.room.vertices c.args.room.edges
+      c.args.known c.loop-vertex.edges c.loop-vertex.vertex _ c.degree_of-degree.ensures c.loop-vertex-test.true
+      ((let it : c.loop-vertex.place < length c.loop-vertex.game = offsets_room [] [] c.args.work.now c.args.room.vertices c.args.room.edges c.args.known c.loop-vertex.edges c.loop-vertex.vertex c.loop-vertex.invariant.0 c.requires.known_bound.1 (c.loop-vertex.invariant.2 [] []) in it)) (c.loop-vertex.invariant.2 ks ps),
+)
 
 pub offset_bounds-game-place-2 : goal.offset_bounds-game-place-2
 offset_bounds-game-place-2 c = omega (arith, (let it : c.loop-vertex.place < length c.loop-vertex.game = offsets_room [] [] c.args.work.now c.args.room.vertices c.args.room.edges c.args.known c.loop-vertex.edges c.loop-vertex.vertex c.loop-vertex.invariant.0 c.requires.known_bound.1 (c.loop-vertex.invariant.2 [] []) in it), (c.loop-vertex.invariant.2 [] []).long)

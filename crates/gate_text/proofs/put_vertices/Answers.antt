@@ -14,8 +14,12 @@ pub put_vertex-place-requires : goal.put_vertex-place-requires
 put_vertex-place-requires c =
     let h : c.loop-vertex.vertex < vertex_count c.args.game.now = omega
     (arith, c.at-count.ensures.0, c.loop-vertex-test.true)
-    in record { shown = c.requires.shown; vertex_bound = h; vertex_in_bounds = lines_room c.args.game.now c.loop-vertex.vertex h c.requires.game_in_bounds
-            c.loop-vertex.invariant.1 }
+    in record {
+      shown = c.requires.shown;
+      vertex_bound = h;
+      vertex_in_bounds = lines_room c.args.game.now c.loop-vertex.vertex h c.requires.game_in_bounds
+          c.loop-vertex.invariant.1;
+    }
 
 pub overflow_add-vertex : goal.overflow_add-vertex
 overflow_add-vertex c = omega arith

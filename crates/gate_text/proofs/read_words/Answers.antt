@@ -30,24 +30,22 @@ pub loop-i-smaller : goal.loop-i-smaller
 loop-i-smaller c = omega arith
 
 pub loop-i-preserved : goal.loop-i-preserved
-loop-i-preserved c =
- (
-      omega arith,
-      simp length-set c.loop-i.invariant.1,
-      read_more
-          c.args.bytes.now c.loop-i.words c.loop-i.i _ _
-          c.word_at.ensures (omega arith) (omega arith) c.loop-i.invariant.2,
-    )
+loop-i-preserved c = (
+  omega arith,
+  simp length-set c.loop-i.invariant.1,
+  read_more
+      c.args.bytes.now c.loop-i.words c.loop-i.i _ _
+      c.word_at.ensures (omega arith) (omega arith) c.loop-i.invariant.2,
+)
 
 pub shape_of-words : goal.shape_of-words
 shape_of-words c = c.loop-i.invariant.1
 
 pub returns : goal.returns
-returns c =
- (
-      omega arith,
-      read_done c.args.bytes.now c.loop-i.words (length c.args.bytes.now / 4) _
-          (omega arith) (subst (λ (m : ℕ). words_of c.args.bytes.now ≡ followed (take m c.loop-i.words)
-          (words_of (drop (4 * m) c.args.bytes.now))) (le_antisymm c.loop-i.invariant.0 c.loop-i-test.false)
-          c.loop-i.invariant.2),
-    )
+returns c = (
+  omega arith,
+  read_done c.args.bytes.now c.loop-i.words (length c.args.bytes.now / 4) _
+      (omega arith) (subst (λ (m : ℕ). words_of c.args.bytes.now ≡ followed (take m c.loop-i.words)
+      (words_of (drop (4 * m) c.args.bytes.now))) (le_antisymm c.loop-i.invariant.0 c.loop-i-test.false)
+      c.loop-i.invariant.2),
+)

@@ -16,10 +16,14 @@ pub put_subformulas-requires : goal.put_subformulas-requires
 put_subformulas-requires c =
     let good = c.requires.good_input.0 in
     let (listed, counted) = c.requires.listed in
- record { good_input = (good, c.number_all-items.ensures.action_numbers); equation_numbers = (listed_numbers (input_of c.args.labels.now c.args.system.now c.args.actions.now c.args.formula.now) good c.args.table.now listed, c.number_all-items.ensures.value.1); compiled_len = (
-          c.put_equations.ensures.1.sized ∙ c.requires.good_input.2,
-          subst (λ (n : ℕ). ShownIn (input_of c.args.labels.now c.args.system.now c.args.actions.now c.args.formula.now) n c.put_equations.new.compiled) counted c.put_equations.ensures.0,
-        ) }
+    record {
+      good_input = (good, c.number_all-items.ensures.action_numbers);
+      equation_numbers = (listed_numbers (input_of c.args.labels.now c.args.system.now c.args.actions.now c.args.formula.now) good c.args.table.now listed, c.number_all-items.ensures.value.1);
+      compiled_len = (
+        c.put_equations.ensures.1.sized ∙ c.requires.good_input.2,
+        subst (λ (n : ℕ). ShownIn (input_of c.args.labels.now c.args.system.now c.args.actions.now c.args.formula.now) n c.put_equations.new.compiled) counted c.put_equations.ensures.0,
+      );
+    }
 
 pub returns : goal.returns
 returns c =

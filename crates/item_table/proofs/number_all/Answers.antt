@@ -12,7 +12,7 @@ number_actions-requires c =
 
 pub number_formula-requires : goal.number_formula-requires
 number_formula-requires c =
- record { good_input = (c.requires.good_input.0, c.number_actions.ensures.numbered, c.requires.equation_numbers.0); shapes_len = (c.number_actions.ensures.shapes_len_2, search rules) }
+    record { good_input = (c.requires.good_input.0, c.number_actions.ensures.numbered, c.requires.equation_numbers.0); shapes_len = (c.number_actions.ensures.shapes_len_2, search rules) }
 
 pub number_items-requires : goal.number_items-requires
 number_items-requires c =

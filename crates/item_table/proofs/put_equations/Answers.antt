@@ -13,18 +13,17 @@ use Rattle.item_table.proofs.Parts.{only_none, only_more, columns_room}
 use Rattle.item_table.proofs.put_equations.Goals as goal
 
 pub loop-equation-init : goal.loop-equation-init
-loop-equation-init c =
- (
-      omega arith,
-      first-none (input_of c.args.labels.now c.args.system.now c.args.actions.now c.args.formula.now) c.requires.good_input.0 _ _ _,
-      only_none _,
-    )
+loop-equation-init c = (
+  omega arith,
+  first-none (input_of c.args.labels.now c.args.system.now c.args.actions.now c.args.formula.now) c.requires.good_input.0 _ _ _,
+  only_none _,
+)
 
 pub body_of-body-requires : goal.body_of-body-requires
-body_of-body-requires c = (let it : c.loop-equation.equation < 1025 = omega ( arith, count_limit (size c.args.actions.now) c.args.formula.now c.requires.good_input.0.formula, (let it : c.loop-equation.equation < equation_count c.args.formula.now = omega (arith, c.requires.count_value.0, c.loop-equation-test.true) in it), ) in it)
+body_of-body-requires c = (let it : c.loop-equation.equation < 1025 = omega (arith, count_limit (size c.args.actions.now) c.args.formula.now c.requires.good_input.0.formula, (let it : c.loop-equation.equation < equation_count c.args.formula.now = omega (arith, c.requires.count_value.0, c.loop-equation-test.true) in it)) in it)
 
 pub operator_of-operator-requires : goal.operator_of-operator-requires
-operator_of-operator-requires c = (let it : c.loop-equation.equation < 1025 = omega ( arith, count_limit (size c.args.actions.now) c.args.formula.now c.requires.good_input.0.formula, (let it : c.loop-equation.equation < equation_count c.args.formula.now = omega (arith, c.requires.count_value.0, c.loop-equation-test.true) in it), ) in it)
+operator_of-operator-requires c = (let it : c.loop-equation.equation < 1025 = omega (arith, count_limit (size c.args.actions.now) c.args.formula.now c.requires.good_input.0.formula, (let it : c.loop-equation.equation < equation_count c.args.formula.now = omega (arith, c.requires.count_value.0, c.loop-equation-test.true) in it)) in it)
 
 pub overflow_sub-shape : goal.overflow_sub-shape
 overflow_sub-shape c =
@@ -45,7 +44,7 @@ offset_bounds-numbers-body c =
           c.args.numbers.now c.requires.good_input.1 c.requires.good_input.2 c.loop-equation.equation
           ((let it : c.loop-equation.equation < equation_count c.args.formula.now = omega (arith, c.requires.count_value.0, c.loop-equation-test.true) in it)) c.body_of-body.result
           c.body_of-body.ensures,
-      (let it : c.loop-equation.equation < 1025 = omega ( arith, count_limit (size c.args.actions.now) c.args.formula.now c.requires.good_input.0.formula, (let it : c.loop-equation.equation < equation_count c.args.formula.now = omega (arith, c.requires.count_value.0, c.loop-equation-test.true) in it), ) in it),
+      (let it : c.loop-equation.equation < 1025 = omega (arith, count_limit (size c.args.actions.now) c.args.formula.now c.requires.good_input.0.formula, (let it : c.loop-equation.equation < equation_count c.args.formula.now = omega (arith, c.requires.count_value.0, c.loop-equation-test.true) in it)) in it),
     )
 
 pub bounds-numbers-body : goal.bounds-numbers-body
@@ -64,10 +63,10 @@ bounds-numbers-body c =
     )
 
 pub put_entry-requires : goal.put_entry-requires
-put_entry-requires c = omega (arith, (let it : c.loop-equation.equation < 1025 = omega ( arith, count_limit (size c.args.actions.now) c.args.formula.now c.requires.good_input.0.formula, (let it : c.loop-equation.equation < equation_count c.args.formula.now = omega (arith, c.requires.count_value.0, c.loop-equation-test.true) in it), ) in it))
+put_entry-requires c = omega (arith, (let it : c.loop-equation.equation < 1025 = omega (arith, count_limit (size c.args.actions.now) c.args.formula.now c.requires.good_input.0.formula, (let it : c.loop-equation.equation < equation_count c.args.formula.now = omega (arith, c.requires.count_value.0, c.loop-equation-test.true) in it)) in it))
 
 pub overflow_add-equation : goal.overflow_add-equation
-overflow_add-equation c = omega (arith, (let it : c.loop-equation.equation < 1025 = omega ( arith, count_limit (size c.args.actions.now) c.args.formula.now c.requires.good_input.0.formula, (let it : c.loop-equation.equation < equation_count c.args.formula.now = omega (arith, c.requires.count_value.0, c.loop-equation-test.true) in it), ) in it))
+overflow_add-equation c = omega (arith, (let it : c.loop-equation.equation < 1025 = omega (arith, count_limit (size c.args.actions.now) c.args.formula.now c.requires.good_input.0.formula, (let it : c.loop-equation.equation < equation_count c.args.formula.now = omega (arith, c.requires.count_value.0, c.loop-equation-test.true) in it)) in it))
 
 pub loop-equation-smaller : goal.loop-equation-smaller
 loop-equation-smaller c =
@@ -78,7 +77,7 @@ loop-equation-preserved c =
     let p = c.put_entry.ensures in
     let below = (let it : c.loop-equation.equation < equation_count c.args.formula.now = omega (arith, c.requires.count_value.0, c.loop-equation-test.true) in it) in
     let whole : length c.loop-equation.compiled ≡ word_count = c.loop-equation.invariant.2.sized ∙ c.requires.count_value.1 in
-    let room = columns_room c.loop-equation.compiled whole c.loop-equation.equation (omega (arith, (let it : c.loop-equation.equation < 1025 = omega ( arith, count_limit (size c.args.actions.now) c.args.formula.now c.requires.good_input.0.formula, (let it : c.loop-equation.equation < equation_count c.args.formula.now = omega (arith, c.requires.count_value.0, c.loop-equation-test.true) in it), ) in it))) in (
+    let room = columns_room c.loop-equation.compiled whole c.loop-equation.equation (omega (arith, (let it : c.loop-equation.equation < 1025 = omega (arith, count_limit (size c.args.actions.now) c.args.formula.now c.requires.good_input.0.formula, (let it : c.loop-equation.equation < equation_count c.args.formula.now = omega (arith, c.requires.count_value.0, c.loop-equation-test.true) in it)) in it))) in (
       omega (arith, c.loop-equation-test.true),
       first_next
           (input_of c.args.labels.now c.args.system.now c.args.actions.now c.args.formula.now) c.requires.good_input.0 c.args.table.now c.args.numbers.now

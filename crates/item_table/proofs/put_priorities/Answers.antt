@@ -24,7 +24,9 @@ use Rattle.item_table.proofs.put_priorities.Goals as goal
 
 pub list_priorities-requires : goal.list_priorities-requires
 list_priorities-requires c =
-    let ys-sized = c.clear.auto.ws ∙ priorities_length c.args.compiled.now (omega (arith, c.requires.compiled_len)) in record { listed = c.requires.listed.0; count_value = (
+    let ys-sized = c.clear.auto.ws ∙ priorities_length c.args.compiled.now (omega (arith, c.requires.compiled_len)) in record {
+      listed = c.requires.listed.0;
+      count_value = (
         c.requires.listed.1,
         omega (
           arith,
@@ -35,7 +37,8 @@ list_priorities-requires c =
               c.requires.listed.0.good.formula,
           c.requires.listed.1,
         ),
-      ) }
+      );
+    }
 
 pub returns : goal.returns
 unfolding stretch
@@ -45,5 +48,8 @@ returns c =
     let zs = c.list_priorities.new.priorities in
     let ys-sized = c.clear.auto.ws ∙ priorities_length t (omega (arith, c.requires.compiled_len)) in
     let part = once_part t ys (omega (arith, c.requires.compiled_len)) ys-sized in
-    let zs-sized = c.list_priorities.auto.priorities ∙ ap length part ∙ ys-sized in record { ranked_by = ranked_between by_depth c.args.formula.now c.args.count _ _ zs _ (part ∙ c.clear.ensures)
-          (twice_part t ys (omega (arith, c.requires.compiled_len)) ys-sized zs zs-sized) c.list_priorities.ensures; priorities_only = twice_only t ys (omega (arith, c.requires.compiled_len)) ys-sized zs zs-sized }
+    let zs-sized = c.list_priorities.auto.priorities ∙ ap length part ∙ ys-sized in record {
+      ranked_by = ranked_between by_depth c.args.formula.now c.args.count _ _ zs _ (part ∙ c.clear.ensures)
+          (twice_part t ys (omega (arith, c.requires.compiled_len)) ys-sized zs zs-sized) c.list_priorities.ensures;
+      priorities_only = twice_only t ys (omega (arith, c.requires.compiled_len)) ys-sized zs zs-sized;
+    }

@@ -22,8 +22,8 @@ loop-label-preserved c =
     (arith, c.requires.count_value.0, c.requires.count_value.1) in
     filling_more _ _ _ _ _ _ _ l.invariant (omega arith) room c.requires.matched_len _ _
     (elim c.if-match_action_formula.branch [
-      then-match_action_formula w ↦ told_true _ _ w.if-match_action_formula.true w.byte-is
-    | else-match_action_formula w ↦ told_false _ _ w.if-match_action_formula.false w.byte-is
+      | then-match_action_formula w ↦ told_true _ _ w.if-match_action_formula.true w.byte-is
+      | else-match_action_formula w ↦ told_false _ _ w.if-match_action_formula.false w.byte-is
     ]) q
 
 pub returns : goal.returns

@@ -12,8 +12,8 @@ pub slice_bounds-result-count : goal.slice_bounds-result-count
 slice_bounds-result-count c =
     part_forward _ _ _ _ _ _ _ c.row_of-start.ensures c.at-count.ensures.0
     (elim c.if-start-gt0.branch [
-      then-start-gt0 w ↦ inl (w.if-start-gt0.true, w.end-is)
-    | else-start-gt0 w ↦ inr (omega (arith, w.if-start-gt0.false), w.end-is)
+      | then-start-gt0 w ↦ inl (w.if-start-gt0.true, w.end-is)
+      | else-start-gt0 w ↦ inr (omega (arith, w.if-start-gt0.false), w.end-is)
     ])
 
 -- GONE part-result-start : tie.Need-slice-bounds-result-start
@@ -32,6 +32,6 @@ pub returns : goal.returns
 returns c =
     part_row _ _ _ _ _ _ _ c.row_of-start.ensures c.at-count.ensures.0
     (elim c.if-start-gt0.branch [
-      then-start-gt0 w ↦ inl (w.if-start-gt0.true, w.end-is)
-    | else-start-gt0 w ↦ inr (omega (arith, w.if-start-gt0.false), w.end-is)
+      | then-start-gt0 w ↦ inl (w.if-start-gt0.true, w.end-is)
+      | else-start-gt0 w ↦ inr (omega (arith, w.if-start-gt0.false), w.end-is)
     ]) (omega arith)

@@ -11,5 +11,5 @@ list_nodes-requires c =
 pub returns : goal.returns
 returns c =
     let it =
-        listing_last c.args.formula.now _ _ c.requires.good c.list_nodes.ensures in
+    listing_last c.args.formula.now _ _ c.requires.good c.list_nodes.ensures in
     record { value = it.0; listed = it.1 }

@@ -12,12 +12,11 @@ loop-t-init c =
     deciding_start _ _ _ _ _ c.requires.within.2
 
 pub label_of-label-requires : goal.label_of-label-requires
-label_of-label-requires c =
- (
-      (label_count c.args.labels.now, c.requires.labelled.system),
-      c.requires.within.0,
-      omega (arith, c.requires.within.0.inside, c.loop-t-test.true),
-    )
+label_of-label-requires c = (
+  (label_count c.args.labels.now, c.requires.labelled.system),
+  c.requires.within.0,
+  omega (arith, c.requires.within.0.inside, c.loop-t-test.true),
+)
 
 pub at-multiset-requires : goal.at-multiset-requires
 at-multiset-requires c =
@@ -58,10 +57,10 @@ loop-t-preserved c =
     c.at-multiset.ensures.0 _ _ (c.match_action_formula.ensures _ c.requires.labelled.table c.requires.labelled.actions) in
     deciding_more _ _ _ _ _ _ _ c.loop-t.invariant e (omega (arith, below, e, c.requires.labelled.labels.few)) _ _
     (elim c.if-match_action_formula.branch [
-      then-match_action_formula w ↦ told_true _ _ w.if-match_action_formula.true w.byte-is
-    | else-match_action_formula w ↦ told_false _ _ w.if-match_action_formula.false w.byte-is
+      | then-match_action_formula w ↦ told_true _ _ w.if-match_action_formula.true w.byte-is
+      | else-match_action_formula w ↦ told_false _ _ w.if-match_action_formula.false w.byte-is
     ]) q
 
 pub returns : goal.returns
 returns c =
- record { answers_len = c.loop-t.invariant.sized; answered = λ t p q. c.loop-t.invariant.answered t p (omega (arith, c.loop-t-test.false)) }
+    record { answers_len = c.loop-t.invariant.sized; answered = λ t p q. c.loop-t.invariant.answered t p (omega (arith, c.loop-t-test.false)) }

@@ -8,11 +8,15 @@ pub target_once-requires : goal.target_once-requires
 target_once-requires c =
     let good = c.requires.scaled.1.1 in
     let p = c.requires.transition_bound in
-    let fits = good.targets c.args.transition p.0 in record { scaled = c.requires.scaled.0; ready = (
-          c.requires.ready.0,
-          record { state_fits = omega (arith, fits, good.states, p.3); item_fits = p.1 },
-          c.requires.ready.1,
-        ); state_lt_marks = λ z. omega (arith, fits, c.requires.system_bound z, p.3) }
+    let fits = good.targets c.args.transition p.0 in record {
+      scaled = c.requires.scaled.0;
+      ready = (
+        c.requires.ready.0,
+        record { state_fits = omega (arith, fits, good.states, p.3); item_fits = p.1 },
+        c.requires.ready.1,
+      );
+      state_lt_marks = λ z. omega (arith, fits, c.requires.system_bound z, p.3);
+    }
 
 pub returns-then-answers-label-eq1 : goal.returns-then-answers-label-eq1
 returns-then-answers-label-eq1 c =

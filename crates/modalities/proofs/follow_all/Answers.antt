@@ -21,9 +21,9 @@ loop-t-init c =
       following_start _ _ _ _ _ _ _ _ c.requires.scaled.2.rises begun.0 begun.2,
       λ h.
           elim c.if-t-moves.branch [
-      then-t-moves w ↦ w.ahead-is ∙ w.target_of-ahead.ensures
-    | else-t-moves w ↦ absurd (omega (arith, w.if-t-moves.false))
-    ],
+            | then-t-moves w ↦ w.ahead-is ∙ w.target_of-ahead.ensures
+            | else-t-moves w ↦ absurd (omega (arith, w.if-t-moves.false))
+          ],
     )
 
 pub overflow_add-t : goal.overflow_add-t
@@ -46,16 +46,21 @@ follow-requires c =
     let p = c.requires.scaled in
     let good = p.1.1 in
     let begun = c.requires.ready in
-    let few : c.args.moves.end ≤ most_transitions = omega (arith, p.2.inside, good.moves) in record { scaled = (p.0, p.1, p.2); ready = (
-          c.loop-t.invariant.0.gathering.made.ready,
-          following_raisable _ _ _ _ _ _ _ _ _ _ _ c.loop-t.invariant.0 few
-              (λ i h. good.targets i (omega (arith, p.2.inside))) begun.1 begun.2,
-        ); system_bound = begun.2.states; transition_bound = (
-            omega (arith, p.2.inside, c.loop-t-test.true),
-            p.3,
-            c.requires.have_bytes _ c.loop-t.invariant.0.since c.loop-t-test.true,
-            c.loop-t.invariant.1 c.loop-t-test.true,
-          ) }
+    let few : c.args.moves.end ≤ most_transitions = omega (arith, p.2.inside, good.moves) in record {
+      scaled = (p.0, p.1, p.2);
+      ready = (
+        c.loop-t.invariant.0.gathering.made.ready,
+        following_raisable _ _ _ _ _ _ _ _ _ _ _ c.loop-t.invariant.0 few
+            (λ i h. good.targets i (omega (arith, p.2.inside))) begun.1 begun.2,
+      );
+      system_bound = begun.2.states;
+      transition_bound = (
+        omega (arith, p.2.inside, c.loop-t-test.true),
+        p.3,
+        c.requires.have_bytes _ c.loop-t.invariant.0.since c.loop-t-test.true,
+        c.loop-t.invariant.1 c.loop-t-test.true,
+      );
+    }
 
 pub shape_of-work-in_default : goal.shape_of-work-in_default
 shape_of-work-in_default c =
@@ -83,9 +88,9 @@ loop-t-preserved c =
           (c.follow.ensures _ _ _ begun.1 c.loop-t.invariant.0.gathering)),
       λ h.
           elim c.if-t-moves-2.branch [
-      then-t-moves-2 w ↦ w.ahead-is ∙ w.target_of-ahead-then-t-moves-2.ensures
-    | else-t-moves-2 w ↦ absurd (omega (arith, w.if-t-moves-2.false))
-    ],
+            | then-t-moves-2 w ↦ w.ahead-is ∙ w.target_of-ahead-then-t-moves-2.ensures
+            | else-t-moves-2 w ↦ absurd (omega (arith, w.if-t-moves-2.false))
+          ],
     )
 
 pub shape_of-work : goal.shape_of-work

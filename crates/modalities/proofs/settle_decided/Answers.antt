@@ -26,12 +26,15 @@ settle_matched-requires c =
     let p = c.requires.within in
     let bytes = decided_bytes c.args.labels.now _
     c.decide_labels.new.answers _ _ good.labels.few good.system
-    p.0.inside c.decide_labels.ensures.answers_len in record { multiples = (
+    p.0.inside c.decide_labels.ensures.answers_len in record {
+      multiples = (
         c.requires.multiples,
         (label_count c.args.labels.now, good.system),
         p.0,
         p.2,
-      ); unmarked = (c.requires.unmarked, bytes) }
+      );
+      unmarked = (c.requires.unmarked, bytes);
+    }
 
 pub returns : goal.returns
 returns c =

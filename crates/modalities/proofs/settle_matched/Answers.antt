@@ -20,7 +20,8 @@ follow_all-requires c =
     let p = c.requires.multiples in
     let unmarked = c.requires.unmarked.0 in
     let count = c.mark_count-marks.ensures in
-    let cleared = c.clear_marks.ensures in record { scaled = (
+    let cleared = c.clear_marks.ensures in record {
+      scaled = (
         record {
           multiples = subst Multiples (sym c.multiples-multiples.ensures) p.0;
           product = c.product.ensures;
@@ -28,11 +29,14 @@ follow_all-requires c =
         p.1,
         p.2,
         p.3,
-      ); ready = (
-          cleared_ready _ _ _ _ _ _ count _ unmarked cleared,
-          refl,
-          cleared_spacious _ _ _ _ _ _ count _ unmarked cleared c.args.system.now refl _ _,
-        ); have_bytes = c.requires.unmarked.1 }
+      );
+      ready = (
+        cleared_ready _ _ _ _ _ _ count _ unmarked cleared,
+        refl,
+        cleared_spacious _ _ _ _ _ _ count _ unmarked cleared c.args.system.now refl _ _,
+      );
+      have_bytes = c.requires.unmarked.1;
+    }
 
 pub returns : goal.returns
 returns c =

@@ -29,13 +29,12 @@ known_field-owner-requires c =
     c.known_field-number.ensures c.known_field-priority.ensures
 
 pub count_list-counted-requires : goal.count_list-counted-requires
-count_list-counted-requires c =
- (
-      (successors_stand c.requires.0 c.loop-place.invariant.walk c.loop-place-test.true
-          c.known_field-number.ensures c.known_field-priority.ensures
-          c.known_field-owner.ensures).1,
-      c.loop-place.invariant.holds,
-    )
+count_list-counted-requires c = (
+  (successors_stand c.requires.0 c.loop-place.invariant.walk c.loop-place-test.true
+      c.known_field-number.ensures c.known_field-priority.ensures
+      c.known_field-owner.ensures).1,
+  c.loop-place.invariant.holds,
+)
 
 pub overflow_sub-room : goal.overflow_sub-room
 overflow_sub-room c = c.loop-place.invariant.fits
@@ -44,9 +43,12 @@ pub returns-then-room-edges : goal.returns-then-room-edges
 returns-then-room-edges c =
     let listed = successors_stand c.requires.0 c.loop-place.invariant.walk c.loop-place-test.true
     c.known_field-number.ensures c.known_field-priority.ensures
-    c.known_field-owner.ensures in record { value = edging_beyond c.requires.0.readable c.loop-place.invariant c.loop-place-test.true
+    c.known_field-owner.ensures in record {
+      value = edging_beyond c.requires.0.readable c.loop-place.invariant c.loop-place-test.true
           c.known_field-owner.result.next listed.0 c.count_list-counted.ensures.count_value
-          c.if-room-edges.true; bits_len = c.count_list-counted.ensures.holds.long }
+          c.if-room-edges.true;
+      bits_len = c.count_list-counted.ensures.holds.long;
+    }
 
 pub overflow_add-edges : goal.overflow_add-edges
 overflow_add-edges c =
@@ -85,4 +87,4 @@ loop-place-preserved c =
 
 pub returns : goal.returns
 returns c =
- record { value = edging_done c.loop-place.invariant c.loop-place-test.false; bits_len = c.loop-place.invariant.holds.long }
+    record { value = edging_done c.loop-place.invariant c.loop-place-test.false; bits_len = c.loop-place.invariant.holds.long }

@@ -14,13 +14,12 @@ pub known_number-number-requires : goal.known_number-number-requires
 known_number-number-requires c = list_stands c.loop-place.invariant.here
 
 pub count_new-count-requires : goal.count_new-count-requires
-count_new-count-requires c =
- (
-      list_small c.loop-place.invariant.here c.known_number-number.result.value
-          c.known_number-number.result.next refl c.known_number-number.ensures.told,
-      c.loop-place.invariant.holds.long,
-      omega (arith, c.loop-place.invariant.few, list_there c.loop-place.invariant.here),
-    )
+count_new-count-requires c = (
+  list_small c.loop-place.invariant.here c.known_number-number.result.value
+      c.known_number-number.result.next refl c.known_number-number.ensures.told,
+  c.loop-place.invariant.holds.long,
+  omega (arith, c.loop-place.invariant.few, list_there c.loop-place.invariant.here),
+)
 
 pub bounds-text-past : goal.bounds-text-past
 bounds-text-past c = c.known_number-number.ensures.next_in_bounds
@@ -72,8 +71,12 @@ pub returns-else-text-past-eq44 : goal.returns-else-text-past-eq44
 returns-else-text-past-eq44 c =
     let here = c.loop-place.invariant.here in
     let value = c.known_number-number.result.value in
-    let past = c.known_number-number.result.next in record { count_value = counting_done value c.count_new-count.result c.loop-place.invariant
+    let past = c.known_number-number.result.next in record {
+      count_value = counting_done value c.count_new-count.result c.loop-place.invariant
           c.count_new-count.ensures.value c.count_new-count.ensures.met
           (known_last here value past c.known_number-number.ensures.told
-          c.known_number-number.ensures.next_in_bounds c.if-text-past-eq44.false); list_value = c.loop-place.invariant.line ∙ known_line here value past c.known_number-number.ensures.told
-            c.known_number-number.ensures.next_in_bounds; holds = c.empty_list.ensures }
+          c.known_number-number.ensures.next_in_bounds c.if-text-past-eq44.false);
+      list_value = c.loop-place.invariant.line ∙ known_line here value past c.known_number-number.ensures.told
+          c.known_number-number.ensures.next_in_bounds;
+      holds = c.empty_list.ensures;
+    }

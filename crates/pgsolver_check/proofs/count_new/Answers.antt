@@ -13,10 +13,16 @@ overflow_add-result c = omega (arith, c.requires.2)
 
 pub returns-then-new : goal.returns-then-new
 returns-then-new c =
- record { value = count_as c.args.count (marked c.args.bits.now c.args.value) _
-          c.meet-new.ensures.0 c.if-new.true; met = c.meet-new.ensures.1 }
+    record {
+      value = count_as c.args.count (marked c.args.bits.now c.args.value) _
+          c.meet-new.ensures.0 c.if-new.true;
+      met = c.meet-new.ensures.1;
+    }
 
 pub returns : goal.returns
 returns c =
- record { value = count_same c.args.count (marked c.args.bits.now c.args.value) _
-          c.meet-new.ensures.0 c.if-new.false; met = c.meet-new.ensures.1 }
+    record {
+      value = count_same c.args.count (marked c.args.bits.now c.args.value) _
+          c.meet-new.ensures.0 c.if-new.false;
+      met = c.meet-new.ensures.1;
+    }

@@ -7,7 +7,7 @@ use Rattle.pgsolver_check.proofs.survey_text.Goals as goal
 
 pub returns-in_default : goal.returns-in_default
 returns-in_default c =
- record { told_survey = surveyed_not c.args.text.now c.in_default.is c.read_header-header.ensures; bits_len = c.requires }
+    record { told_survey = surveyed_not c.args.text.now c.in_default.is c.read_header-header.ensures; bits_len = c.requires }
 
 pub clear-requires : goal.clear-requires
 clear-requires c = c.requires
@@ -23,20 +23,22 @@ read_line-line-requires c = c.loop-place.invariant.within
 
 pub returns-in_default-line : goal.returns-in_default-line
 returns-in_default-line c =
- record { told_survey = surveyed_broken c.args.text.now c.in-At.highest
+    record {
+      told_survey = surveyed_broken c.args.text.now c.in-At.highest
           c.in-At.first c.in-At.is c.read_header-header.ensures
           (surveying_broken c.loop-place.invariant c.loop-place-test.true
-          c.in_default-line.is c.read_line-line.ensures); bits_len = c.loop-place.invariant.long }
+          c.in_default-line.is c.read_line-line.ensures);
+      bits_len = c.loop-place.invariant.long;
+    }
 
 pub with_line-found-requires : goal.with_line-found-requires
-with_line-found-requires c =
- (
-      surveying_room c.loop-place.invariant c.loop-place-test.true c.in-Given.row
-          c.in-Given.is c.read_line-line.ensures
-          (surveyed_low c.args.text.now c.in-At.highest
-          c.in-At.first c.in-At.is c.read_header-header.ensures),
-      c.loop-place.invariant.long,
-    )
+with_line-found-requires c = (
+  surveying_room c.loop-place.invariant c.loop-place-test.true c.in-Given.row
+      c.in-Given.is c.read_line-line.ensures
+      (surveyed_low c.args.text.now c.in-At.highest
+      c.in-At.first c.in-At.is c.read_header-header.ensures),
+  c.loop-place.invariant.long,
+)
 
 pub loop-place-smaller : goal.loop-place-smaller
 loop-place-smaller c =
@@ -54,6 +56,9 @@ loop-place-preserved c =
 
 pub returns : goal.returns
 returns c =
- record { told_survey = surveyed c.args.text.now c.in-At.highest c.in-At.first
+    record {
+      told_survey = surveyed c.args.text.now c.in-At.highest c.in-At.first
           c.in-At.is c.read_header-header.ensures c.loop-place-test.false
-          c.loop-place.invariant; bits_len = c.loop-place.invariant.long }
+          c.loop-place.invariant;
+      bits_len = c.loop-place.invariant.long;
+    }

@@ -26,12 +26,16 @@ seen_before-again-requires c =
 
 pub returns-then-again : goal.returns-then-again
 returns-then-again c =
- record { apart = λ e. absurd (false≢true e); not_distinct = λ e. window_twice c.requires.0 c.loop-place.invariant
-            c.loop-place-test.true c.in-At.number
-            (walk_number c.requires.0 c.loop-place.invariant.walk c.loop-place-test.true
-            c.read_field-field.ensures c.in-At.number c.in-At.next
-            c.in-At.is).0
-            (c.seen_before-again.ensures.again c.if-again.true); bits_len = c.seen_before-again.ensures.bits_len }
+    record {
+      apart = λ e. absurd (false≢true e);
+      not_distinct = λ e. window_twice c.requires.0 c.loop-place.invariant
+          c.loop-place-test.true c.in-At.number
+          (walk_number c.requires.0 c.loop-place.invariant.walk c.loop-place-test.true
+          c.read_field-field.ensures c.in-At.number c.in-At.next
+          c.in-At.is).0
+          (c.seen_before-again.ensures.again c.if-again.true);
+      bits_len = c.seen_before-again.ensures.bits_len;
+    }
 
 pub loop-place-smaller : goal.loop-place-smaller
 loop-place-smaller c =
@@ -53,4 +57,4 @@ loop-place-preserved c =
 
 pub returns : goal.returns
 returns c =
- record { apart = λ e. window_done c.loop-place.invariant c.loop-place-test.false; not_distinct = λ e. absurd (true≢false e); bits_len = c.loop-place.invariant.noted.long }
+    record { apart = λ e. window_done c.loop-place.invariant c.loop-place-test.false; not_distinct = λ e. absurd (true≢false e); bits_len = c.loop-place.invariant.noted.long }

@@ -12,12 +12,11 @@ pub known_number-number-requires : goal.known_number-number-requires
 known_number-number-requires c = list_stands c.loop-place.invariant.0
 
 pub wipe-requires : goal.wipe-requires
-wipe-requires c =
- (
-      list_small c.loop-place.invariant.0 c.known_number-number.result.value
-          c.known_number-number.result.next refl c.known_number-number.ensures.told,
-      c.loop-place.invariant.1.long,
-    )
+wipe-requires c = (
+  list_small c.loop-place.invariant.0 c.known_number-number.result.value
+      c.known_number-number.result.next refl c.known_number-number.ensures.told,
+  c.loop-place.invariant.1.long,
+)
 
 pub bounds-text-past : goal.bounds-text-past
 bounds-text-past c = c.known_number-number.ensures.next_in_bounds

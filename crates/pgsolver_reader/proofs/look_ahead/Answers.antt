@@ -30,9 +30,9 @@ loop-vertex-preserved c =
     (omega (arith, c.loop-vertex-test.true, c.requires.posted_from.1)) c.posted_at-place.ensures).1 in (
       omega (arith, c.loop-vertex.invariant.0),
       elim c.if-text-place-lt48.branch [
-      then-text-place-lt48 w ↦ absurd (omega (arith, w.if-text-place-lt48.true, digit))
-    | else-text-place-lt48 w ↦ w.odd-is ∙ c.loop-vertex.invariant.1
-    ],
+        | then-text-place-lt48 w ↦ absurd (omega (arith, w.if-text-place-lt48.true, digit))
+        | else-text-place-lt48 w ↦ w.odd-is ∙ c.loop-vertex.invariant.1
+      ],
     )
 
 pub returns : goal.returns

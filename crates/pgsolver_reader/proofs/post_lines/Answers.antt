@@ -15,8 +15,7 @@ known_field-number-requires c =
 
 pub post-requires : goal.post-requires
 post-requires c =
-    let number = c.known_field-number.result in
- (
+    let number = c.known_field-number.result in (
       posting_below c.requires.0 c.requires.1 c.loop-place.invariant.1 c.loop-place-test.true
           number.value number.next c.known_field-number.ensures,
       c.requires.0.few,
@@ -36,8 +35,7 @@ loop-place-smaller c =
 
 pub loop-place-preserved : goal.loop-place-preserved
 loop-place-preserved c =
-    let number = c.known_field-number.result in
- (
+    let number = c.known_field-number.result in (
       c.post.auto.game ∙ c.loop-place.invariant.0,
       posting_more c.requires.0 c.requires.1 c.loop-place.invariant.1 c.loop-place-test.true
           number.value number.next c.known_field-number.ensures c.post.ensures

@@ -22,10 +22,13 @@ pub put_new-end-requires : goal.put_new-end-requires
 put_new-end-requires c =
     let number = c.known_number-number.result in
     let told = c.known_number-number.ensures.told in
-    let head = list_head c.loop-list.invariant.here number.value number.next refl told in record { value_lt_bitmap_numbers = (
+    let head = list_head c.loop-list.invariant.here number.value number.next refl told in record {
+      value_lt_bitmap_numbers = (
         list_small c.loop-list.invariant.here number.value number.next refl told,
         c.loop-list.invariant.holds.long,
-      ); value_in_bounds = putting_room number.value c.loop-list.invariant head.0 head.1 c.requires.list_in_bounds }
+      );
+      value_in_bounds = putting_room number.value c.loop-list.invariant head.0 head.1 c.requires.list_in_bounds;
+    }
 
 pub bounds-text-past : goal.bounds-text-past
 bounds-text-past c = c.known_number-number.ensures.next_in_bounds
@@ -41,11 +44,15 @@ returns-then-text-past-ne44 c =
     let text = c.args.text.now in
     let other = byte_here text number.next 44 false c.known_number-number.ensures.next_in_bounds
     (ne_eqb (word text number.next) 44 c.if-text-past-ne44.true) in
-    let last = list_last c.loop-list.invariant.here number.value number.next refl told other refl in record { wrote = putting_done number.value c.loop-list.invariant c.put_new-end.auto.game
-          c.put_new-end.ensures.wrote c.put_new-end.ensures.met last; holds = putting_holds number.value c.loop-list.invariant c.put_new-end.auto.game
-            c.put_new-end.ensures.wrote c.put_new-end.ensures.met last; list_value = c.loop-list.invariant.line
-            ∙ read_line_on text c.loop-list.next number.value number.next c.loop-list.invariant.here.within
-            told }
+    let last = list_last c.loop-list.invariant.here number.value number.next refl told other refl in record {
+      wrote = putting_done number.value c.loop-list.invariant c.put_new-end.auto.game
+          c.put_new-end.ensures.wrote c.put_new-end.ensures.met last;
+      holds = putting_holds number.value c.loop-list.invariant c.put_new-end.auto.game
+          c.put_new-end.ensures.wrote c.put_new-end.ensures.met last;
+      list_value = c.loop-list.invariant.line
+          ∙ read_line_on text c.loop-list.next number.value number.next c.loop-list.invariant.here.within
+          told;
+    }
 
 pub overflow_add-next : goal.overflow_add-next
 overflow_add-next c = omega (arith, c.known_number-number.ensures.next_in_bounds)

@@ -44,5 +44,8 @@ returns-then-new c =
 
 pub returns : goal.returns
 returns c =
- record { wrote = wrote_none (unless_old (marked c.args.bits.now c.args.value) _ (c.args.value ∷ [])
-          c.meet-new.ensures.0 c.if-new.false); met = c.meet-new.ensures.1 }
+    record {
+      wrote = wrote_none (unless_old (marked c.args.bits.now c.args.value) _ (c.args.value ∷ [])
+          c.meet-new.ensures.0 c.if-new.false);
+      met = c.meet-new.ensures.1;
+    }

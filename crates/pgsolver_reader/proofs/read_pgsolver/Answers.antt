@@ -11,10 +11,10 @@ read_text-requires c = sym c.check_lent-checked.ensures ∙ c.in-Passed.is
 pub returns-in-Fault : goal.returns-in-Fault
 returns-in-Fault c =
     let it =
-        whole_reading _ _ _ _ _ (read-refused c.args.text.now c.args.game.now
-        (room_of c.args.vertices c.args.edges) c.in-Fault.number
-        c.in-Fault.place
-        (sym c.in-Fault.is ∙ c.check_lent-checked.ensures)) in
+    whole_reading _ _ _ _ _ (read-refused c.args.text.now c.args.game.now
+    (room_of c.args.vertices c.args.edges) c.in-Fault.number
+    c.in-Fault.place
+    (sym c.in-Fault.is ∙ c.check_lent-checked.ensures)) in
     record { equals = it.0; coded = it.1.0; demand = it.1.1 }
 
 pub shape_of-game : goal.shape_of-game
@@ -23,5 +23,5 @@ shape_of-game c = c.read_text.auto.game
 pub returns-in-Passed : goal.returns-in-Passed
 returns-in-Passed c =
     let it =
-        whole_reading _ _ _ _ _ c.read_text.ensures in
+    whole_reading _ _ _ _ _ c.read_text.ensures in
     record { equals = it.0; coded = it.1.0; demand = it.1.1 }

@@ -9,12 +9,11 @@ use Rattle.pgsolver_reader.proofs.Assembling.{read_done, read_bad}
 use Rattle.pgsolver_reader.proofs.read_text.Goals as goal
 
 pub check_text-plan-requires : goal.check_text-plan-requires
-check_text-plan-requires c =
- (
-      (room_sizes c.args.room.vertices c.args.room.edges (length c.args.game.now)
-          c.requires).0,
-      all-zeros.long,
-    )
+check_text-plan-requires c = (
+  (room_sizes c.args.room.vertices c.args.room.edges (length c.args.game.now)
+      c.requires).0,
+  all-zeros.long,
+)
 
 pub overflow_add-vertices : goal.overflow_add-vertices
 overflow_add-vertices c =
@@ -29,7 +28,8 @@ overflow_add-vertices c =
 
 pub write_game-edges-requires : goal.write_game-edges-requires
 write_game-edges-requires c =
- record { whole = (
+    record {
+      whole = (
         plan_whole (plan-at c.args.room.vertices c.args.room.edges c.args.text.now
             c.in-Good.highest c.in-Good.first c.in-Good.ordered
             c.in-Good.is c.check_text-plan.ensures.told_plan)
@@ -44,7 +44,9 @@ write_game-edges-requires c =
             (length c.args.game.now) c.requires).1
             (room_sizes c.args.room.vertices c.args.room.edges (length c.args.game.now)
             c.requires).2,
-      ); bits_len = c.check_text-plan.ensures.bits_len }
+      );
+      bits_len = c.check_text-plan.ensures.bits_len;
+    }
 
 pub overflow_cast-result : goal.overflow_cast-result
 overflow_cast-result c =

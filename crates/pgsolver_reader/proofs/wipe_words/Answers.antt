@@ -11,16 +11,15 @@ pub at-value-requires : goal.at-value-requires
 at-value-requires c = omega (arith, c.requires.end_in_bounds.0, c.loop-place-test.true)
 
 pub wipe-requires : goal.wipe-requires
-wipe-requires c =
- (
-      omega (
-        arith,
-        c.at-value.ensures.0,
-        wiping_small c.loop-place.invariant.1
-            c.loop-place-test.true c.requires.end_in_bounds.0,
-      ),
-      c.loop-place.invariant.1.only.long,
-    )
+wipe-requires c = (
+  omega (
+    arith,
+    c.at-value.ensures.0,
+    wiping_small c.loop-place.invariant.1
+        c.loop-place-test.true c.requires.end_in_bounds.0,
+  ),
+  c.loop-place.invariant.1.only.long,
+)
 
 pub overflow_add-place : goal.overflow_add-place
 overflow_add-place c =
@@ -30,12 +29,11 @@ pub loop-place-smaller : goal.loop-place-smaller
 loop-place-smaller c = omega (arith, c.loop-place-test.true)
 
 pub loop-place-preserved : goal.loop-place-preserved
-loop-place-preserved c =
- (
-      omega (arith, c.loop-place-test.true),
-      wiping_next c.loop-place.invariant.1
-          c.loop-place-test.true c.requires.end_in_bounds.0 c.at-value.ensures.0 c.wipe.ensures,
-    )
+loop-place-preserved c = (
+  omega (arith, c.loop-place-test.true),
+  wiping_next c.loop-place.invariant.1
+      c.loop-place-test.true c.requires.end_in_bounds.0 c.at-value.ensures.0 c.wipe.ensures,
+)
 
 pub returns : goal.returns
 returns c = wiping_end c.loop-place.invariant.1 c.loop-place-test.false

@@ -21,18 +21,17 @@ overflow_sub-edges c =
     omega (arith, c.game_words.ensures, (assembled_place c.write_vertices-end.ensures).0)
 
 pub write_counts-requires : goal.write_counts-requires
-write_counts-requires c =
- (
-      c.requires.whole.0.few,
-      omega (
-        arith,
-        (assembled_place c.write_vertices-end.ensures).1,
-        c.write_vertices-end.auto.game,
-        c.requires.whole.1.short,
-      ),
-      omega
-          (arith, c.write_vertices-end.ensures.room),
-    )
+write_counts-requires c = (
+  c.requires.whole.0.few,
+  omega (
+    arith,
+    (assembled_place c.write_vertices-end.ensures).1,
+    c.write_vertices-end.auto.game,
+    c.requires.whole.1.short,
+  ),
+  omega
+      (arith, c.write_vertices-end.ensures.room),
+)
 
 pub fill-requires : goal.fill-requires
 fill-requires c =
@@ -49,7 +48,10 @@ shape_of-game c =
 
 pub returns : goal.returns
 returns c =
-    let size = ap (λ (k : ℕ). c.write_vertices-end.result - k) c.game_words.ensures in record { value = assembled_count c.write_vertices-end.ensures size; game_after = assembled
+    let size = ap (λ (k : ℕ). c.write_vertices-end.result - k) c.game_words.ensures in record {
+      value = assembled_count c.write_vertices-end.ensures size;
+      game_after = assembled
           c.write_vertices-end.ensures size c.args.game.now _
           c.write_vertices-end.auto.game c.write_counts.ensures
-          c.fill.ensures }
+          c.fill.ensures;
+    }

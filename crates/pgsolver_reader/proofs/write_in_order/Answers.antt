@@ -11,15 +11,14 @@ pub game_words-end-requires : goal.game_words-end-requires
 game_words-end-requires c = (omega (arith, c.requires.whole.0.few), omega arith)
 
 pub loop-vertex-init : goal.loop-vertex-init
-loop-vertex-init c =
- (
-      refl,
-      part_at c.game_words-end.ensures c.requires.part.0,
-      c.requires.part.1,
-      ordering_start
-          c.requires.whole.1 c.requires.text_value,
-      bound_start,
-    )
+loop-vertex-init c = (
+  refl,
+  part_at c.game_words-end.ensures c.requires.part.0,
+  c.requires.part.1,
+  ordering_start
+      c.requires.whole.1 c.requires.text_value,
+  bound_start,
+)
 
 pub digits_of-digits-requires : goal.digits_of-digits-requires
 digits_of-digits-requires c =
@@ -36,12 +35,16 @@ overflow_add-place c = omega (arith, overflow_add-place-in-loop-vertex c)
 
 pub write_line-written-requires : goal.write_line-written-requires
 write_line-written-requires c =
- record { whole = (
+    record {
+      whole = (
         c.requires.whole.0,
         ordering_turn c.requires.whole.1 c.loop-vertex.invariant.3 c.loop-vertex-test.true
             c.digits_of-digits.result.count c.digits_of-digits.ensures.1,
         c.loop-vertex-test.true,
-      ); part = (c.loop-vertex.invariant.1, omega (arith, c.loop-vertex.invariant.0, c.requires.whole.2)); holds = c.loop-vertex.invariant.2 }
+      );
+      part = (c.loop-vertex.invariant.1, omega (arith, c.loop-vertex.invariant.0, c.requires.whole.2));
+      holds = c.loop-vertex.invariant.2;
+    }
 
 pub overflow_add-vertex : goal.overflow_add-vertex
 overflow_add-vertex c =
@@ -51,16 +54,15 @@ pub loop-vertex-smaller : goal.loop-vertex-smaller
 loop-vertex-smaller c = omega (arith, c.loop-vertex-test.true)
 
 pub loop-vertex-preserved : goal.loop-vertex-preserved
-loop-vertex-preserved c =
- (
-      c.write_line-written.auto.game ∙ c.loop-vertex.invariant.0,
-      c.write_line-written.ensures.part_2,
-      c.write_line-written.ensures.holds_2,
-      ordering_more c.requires.whole.1 c.loop-vertex.invariant.3 c.loop-vertex-test.true
-          c.digits_of-digits.result.count c.digits_of-digits.ensures.1
-          c.write_line-written.result.next c.write_line-written.ensures.place_value c.past_line-line.ensures,
-      c.digits_of-digits.ensures.0,
-    )
+loop-vertex-preserved c = (
+  c.write_line-written.auto.game ∙ c.loop-vertex.invariant.0,
+  c.write_line-written.ensures.part_2,
+  c.write_line-written.ensures.holds_2,
+  ordering_more c.requires.whole.1 c.loop-vertex.invariant.3 c.loop-vertex-test.true
+      c.digits_of-digits.result.count c.digits_of-digits.ensures.1
+      c.write_line-written.result.next c.write_line-written.ensures.place_value c.past_line-line.ensures,
+  c.digits_of-digits.ensures.0,
+)
 
 pub shape_of-game : goal.shape_of-game
 shape_of-game c = c.loop-vertex.invariant.0

@@ -26,7 +26,9 @@ pub put_vertex-requires : goal.put_vertex-requires
 put_vertex-requires c =
     let owner = c.known_field-owner.result in
     let priority = c.known_field-priority.result in
- record { vertex_lt_vertices = (c.requires.whole.2, c.requires.whole.0.few, omega (arith, c.requires.part.0.room)); owner_bound = (
+    record {
+      vertex_lt_vertices = (c.requires.whole.2, c.requires.whole.0.few, omega (arith, c.requires.part.0.room));
+      owner_bound = (
         (turn_owner c.requires.whole.0 c.requires.whole.1 c.requires.whole.2 c.requires.part.0
             priority.value priority.next c.known_field-priority.ensures owner.value owner.next
             c.known_field-owner.ensures).1,
@@ -38,24 +40,28 @@ put_vertex-requires c =
           part_place c.requires.whole.0 c.requires.whole.1 c.requires.whole.2 c.requires.part.0,
           c.requires.part.1,
         ),
-      ) }
+      );
+    }
 
 pub put_list-written-requires : goal.put_list-written-requires
 put_list-written-requires c =
     let owner = c.known_field-owner.result in
     let priority = c.known_field-priority.result in
- record { listed = (
+    record {
+      listed = (
         turn_listed c.requires.whole.0 c.requires.whole.1 c.requires.whole.2 c.requires.part.0
             priority.value priority.next c.known_field-priority.ensures owner.value owner.next
             c.known_field-owner.ensures,
         c.requires.holds,
-      ); list_in_bounds = omega (
+      );
+      list_in_bounds = omega (
         arith,
         turn_room c.requires.whole.0 c.requires.whole.1 c.requires.whole.2 c.requires.part.0
             priority.value priority.next c.known_field-priority.ensures owner.value owner.next
             c.known_field-owner.ensures,
         c.put_vertex.auto.game,
-      ) }
+      );
+    }
 
 pub wipe_words-requires : goal.wipe_words-requires
 wipe_words-requires c =
@@ -80,14 +86,19 @@ pub returns : goal.returns
 returns c =
     let owner = c.known_field-owner.result in
     let priority = c.known_field-priority.result in
- record { part_2 = turn_part c.requires.whole.0 c.requires.whole.1 c.requires.whole.2 c.requires.part.0
+    record {
+      part_2 = turn_part c.requires.whole.0 c.requires.whole.1 c.requires.whole.2 c.requires.part.0
           priority.value priority.next c.known_field-priority.ensures owner.value owner.next
           c.known_field-owner.ensures c.game_words.ensures
           c.put_vertex.ensures c.put_list-written.ensures.wrote
-          c.put_list-written.auto.game; place_value = turn_line c.requires.whole.0 c.requires.whole.1 c.requires.whole.2 c.requires.part.0
-            priority.value priority.next c.known_field-priority.ensures owner.value owner.next
-            c.known_field-owner.ensures ∙ c.put_list-written.ensures.list_value; posts_kept = turn_posts c.requires.whole.0 c.requires.whole.1 c.requires.whole.2 c.requires.part.0
-              priority.value priority.next c.known_field-priority.ensures owner.value owner.next
-              c.known_field-owner.ensures c.game_words.ensures
-              c.put_vertex.ensures c.put_list-written.ensures.wrote
-              c.put_list-written.auto.game; holds_2 = c.wipe_words.ensures }
+          c.put_list-written.auto.game;
+      place_value = turn_line c.requires.whole.0 c.requires.whole.1 c.requires.whole.2 c.requires.part.0
+          priority.value priority.next c.known_field-priority.ensures owner.value owner.next
+          c.known_field-owner.ensures ∙ c.put_list-written.ensures.list_value;
+      posts_kept = turn_posts c.requires.whole.0 c.requires.whole.1 c.requires.whole.2 c.requires.part.0
+          priority.value priority.next c.known_field-priority.ensures owner.value owner.next
+          c.known_field-owner.ensures c.game_words.ensures
+          c.put_vertex.ensures c.put_list-written.ensures.wrote
+          c.put_list-written.auto.game;
+      holds_2 = c.wipe_words.ensures;
+    }

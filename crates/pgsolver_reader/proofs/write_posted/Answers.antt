@@ -17,7 +17,7 @@ block_end-last-requires c = c.loop-vertex-test.true
 
 pub look_ahead-odd-requires : goal.look_ahead-odd-requires
 look_ahead-odd-requires c =
- record { posted_from = (c.loop-vertex.invariant.3, c.block_end-last.ensures.1); vertices_le_most_vertices = (c.requires.whole.0.few, omega (arith, c.loop-vertex.invariant.1.room)) }
+    record { posted_from = (c.loop-vertex.invariant.3, c.block_end-last.ensures.1); vertices_le_most_vertices = (c.requires.whole.0.few, omega (arith, c.loop-vertex.invariant.1.room)) }
 
 pub shape_of-game-then-odd : goal.shape_of-game-then-odd
 shape_of-game-then-odd c = c.loop-vertex.invariant.0
@@ -27,25 +27,28 @@ returns-then-odd c = absurd (true≢false (sym c.if-odd.true ∙ c.look_ahead-od
 
 pub write_block-end-requires : goal.write_block-end-requires
 write_block-end-requires c =
- record { whole = (
+    record {
+      whole = (
         c.requires.whole.0,
         omega (arith, c.loop-vertex.invariant.0, c.requires.whole.1),
         omega (arith, c.block_end-last.ensures.0),
         c.block_end-last.ensures.1,
-      ); posted_from = c.loop-vertex.invariant.3; part = (c.loop-vertex.invariant.1, c.loop-vertex.invariant.2) }
+      );
+      posted_from = c.loop-vertex.invariant.3;
+      part = (c.loop-vertex.invariant.1, c.loop-vertex.invariant.2);
+    }
 
 pub loop-vertex-smaller : goal.loop-vertex-smaller
 loop-vertex-smaller c =
     omega (arith, c.loop-vertex-test.true, c.block_end-last.ensures.0)
 
 pub loop-vertex-preserved : goal.loop-vertex-preserved
-loop-vertex-preserved c =
- (
-      c.write_block-end.auto.game ∙ c.loop-vertex.invariant.0,
-      c.write_block-end.ensures.part_2,
-      c.write_block-end.ensures.holds,
-      c.write_block-end.ensures.posted_from_2,
-    )
+loop-vertex-preserved c = (
+  c.write_block-end.auto.game ∙ c.loop-vertex.invariant.0,
+  c.write_block-end.ensures.part_2,
+  c.write_block-end.ensures.holds,
+  c.write_block-end.ensures.posted_from_2,
+)
 
 pub shape_of-game : goal.shape_of-game
 shape_of-game c = c.loop-vertex.invariant.0

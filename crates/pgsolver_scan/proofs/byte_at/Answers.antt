@@ -7,9 +7,12 @@ use Rattle.pgsolver_scan.proofs.byte_at.Goals as goal
 
 pub returns-then-text-place : goal.returns-then-text-place
 returns-then-text-place c =
- record { place_value = byte_end c.args.text.now c.args.place c.args.byte c.if-text-place.true; place_in_bounds = λ e. absurd (false≢true e) }
+    record { place_value = byte_end c.args.text.now c.args.place c.args.byte c.if-text-place.true; place_in_bounds = λ e. absurd (false≢true e) }
 
 pub returns : goal.returns
 returns c =
- record { place_value = byte_here c.args.text.now c.args.place c.args.byte _
-          (omega (arith, c.if-text-place.false)) refl; place_in_bounds = λ e. omega (arith, c.if-text-place.false) }
+    record {
+      place_value = byte_here c.args.text.now c.args.place c.args.byte _
+          (omega (arith, c.if-text-place.false)) refl;
+      place_in_bounds = λ e. omega (arith, c.if-text-place.false);
+    }

@@ -19,12 +19,11 @@ pub returns-then-digit-eq10 : goal.returns-then-digit-eq10
 returns-then-digit-eq10 c = c.number_from.ensures
 
 pub pushed-value-requires : goal.pushed-value-requires
-pushed-value-requires c =
- (
-      scan-digit c.args.text.now c.loop-next.next c.digit_of-digit.result
-          c.digit_of-digit.ensures c.if-digit-eq10.false,
-      c.loop-next.invariant.small,
-    )
+pushed-value-requires c = (
+  scan-digit c.args.text.now c.loop-next.next c.digit_of-digit.result
+      c.digit_of-digit.ensures c.if-digit-eq10.false,
+  c.loop-next.invariant.small,
+)
 
 pub overflow_add-next : goal.overflow_add-next
 overflow_add-next c = omega arith

@@ -17,7 +17,7 @@ meet-new-requires c = c.requires.target_lt_bitmap_numbers
 
 pub put_parted-requires : goal.put_parted-requires
 put_parted-requires c =
-    omega (arith, c.requires.target_in_bounds, ap length (( unless_new (marked c.args.bits.now c.args.target) _ ((separator c.args.start c.args.place ∷ decimal c.args.target)) c.meet-new.ensures.0 c.if-new.true)))
+    omega (arith, c.requires.target_in_bounds, ap length ((unless_new (marked c.args.bits.now c.args.target) _ ((separator c.args.start c.args.place ∷ decimal c.args.target)) c.meet-new.ensures.0 c.if-new.true)))
 
 pub shape_of-text-then-new : goal.shape_of-text-then-new
 shape_of-text-then-new c = c.put_parted.auto.text

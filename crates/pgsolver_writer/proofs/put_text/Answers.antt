@@ -35,8 +35,12 @@ put_line-past-requires c =
     let highest : c.at-vertices.result - 1 ≡ vertex_count game - 1 = omega (arith, c.at-vertices.ensures.0) in
     let size = text_size game (c.at-vertices.result - 1) highest in
     let next = turn (lines_more game c.loop-vertex.vertex below) c.loop-vertex.invariant.1 in
- record { writable = (c.requires.writable.0, below); holds = c.loop-vertex.invariant.2; vertex_in_bounds = first_fits (line_text (line_in game c.loop-vertex.vertex)) _
-            (omega (arith, c.put_header-past.ensures.past, c.put_header-past.auto.text, c.requires.writable.1, size)) next }
+    record {
+      writable = (c.requires.writable.0, below);
+      holds = c.loop-vertex.invariant.2;
+      vertex_in_bounds = first_fits (line_text (line_in game c.loop-vertex.vertex)) _
+          (omega (arith, c.put_header-past.ensures.past, c.put_header-past.auto.text, c.requires.writable.1, size)) next;
+    }
 
 pub overflow_add-vertex : goal.overflow_add-vertex
 overflow_add-vertex c =

@@ -22,7 +22,7 @@ loop-vertex-init c =
 
 pub line_length-size-requires : goal.line_length-size-requires
 line_length-size-requires c =
- record { writable = (c.requires.writable, omega (arith, c.at-vertices.ensures.0, c.loop-vertex-test.true)); holds = c.loop-vertex.invariant.2 }
+    record { writable = (c.requires.writable, omega (arith, c.at-vertices.ensures.0, c.loop-vertex-test.true)); holds = c.loop-vertex.invariant.2 }
 
 pub overflow_add-size-in-loop-vertex : goal.overflow_add-size-in-loop-vertex
 overflow_add-size-in-loop-vertex c =

@@ -24,8 +24,7 @@ loop-place-smaller c = omega arith
 pub loop-place-preserved : goal.loop-place-preserved
 loop-place-preserved c =
     let below = c.loop-place-test.true in
-    let inv = c.loop-place.invariant in
- (
+    let inv = c.loop-place.invariant in (
       omega (arith, inv.0),
       omega arith,
       only_more c.args.game.now c.loop-place.place c.args.end c.at-target.result below

@@ -11,7 +11,7 @@ pub returns-in-Fault : goal.returns-in-Fault
 returns-in-Fault c =
     let fault = sym c.check_writing-checked.ensures ∙ c.in-Fault.is in
     let it =
-        whole_writing _ _ _ _ (refused _ _ _ _ fault) in
+    whole_writing _ _ _ _ (refused _ _ _ _ fault) in
     record { equals = it.0; coded = it.1.0; demand = it.1.1 }
 
 pub shape_of-text : goal.shape_of-text
@@ -19,5 +19,5 @@ shape_of-text c = c.write_checked.auto.text
 
 pub returns-in-Passed : goal.returns-in-Passed
 returns-in-Passed c = let it =
-        whole_writing _ _ _ _ c.write_checked.ensures in
+    whole_writing _ _ _ _ c.write_checked.ensures in
     record { equals = it.0; coded = it.1.0; demand = it.1.1 }

@@ -8,12 +8,12 @@ restrict-requires c =
 
 pub returns-in-Fault : goal.returns-in-Fault
 returns-in-Fault c = let it =
-        refused _ _ _ _ _ _ (sym c.check_lent-checked.ensures ∙ c.in-Fault.is) in
+    refused _ _ _ _ _ _ (sym c.check_lent-checked.ensures ∙ c.in-Fault.is) in
     record { equals = it.0; coded = it.1.0; restricts = it.1.1.0; demand1 = it.1.1.1 }
 
 pub returns-in-Passed : goal.returns-in-Passed
 returns-in-Passed c =
     let it =
-        restricted _ _ c.args.map.now _ _
-        (sym c.check_lent-checked.ensures ∙ c.in-Passed.is) c.restrict.ensures in
+    restricted _ _ c.args.map.now _ _
+    (sym c.check_lent-checked.ensures ∙ c.in-Passed.is) c.restrict.ensures in
     record { equals = it.0; coded = it.1.0; restricts = it.1.1.0; demand1 = it.1.1.1 }

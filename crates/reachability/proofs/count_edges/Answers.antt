@@ -17,13 +17,13 @@ vertex_at-vertex-requires c =
 pub edges_from-from-requires : goal.edges_from-from-requires
 edges_from-from-requires c =
     let it =
-        met_vertex 0 _ _ (omega arith) c.requires c.loop-i-test.true c.vertex_at-vertex.ensures in
+    met_vertex 0 _ _ (omega arith) c.requires c.loop-i-test.true c.vertex_at-vertex.ensures in
     record { good_game = it.0; column_in_bounds = it.1 }
 
 pub edges_end-end-requires : goal.edges_end-end-requires
 edges_end-end-requires c =
     let it =
-        met_vertex 0 _ _ (omega arith) c.requires c.loop-i-test.true c.vertex_at-vertex.ensures in
+    met_vertex 0 _ _ (omega arith) c.requires c.loop-i-test.true c.vertex_at-vertex.ensures in
     record { good_game = it.0; column_in_bounds = it.1 }
 
 pub overflow_sub-edges : goal.overflow_sub-edges

@@ -13,13 +13,16 @@ vertex_at-target-requires c = omega arith
 
 pub discover-count-requires : goal.discover-count-requires
 discover-count-requires c =
- record { knows = c.loop-place.invariant.1; vertex_in_bounds = omega (
+    record {
+      knows = c.loop-place.invariant.1;
+      vertex_in_bounds = omega (
         arith,
         c.requires.by_index c.loop-place.place c.loop-place.invariant.0
             c.loop-place-test.true,
         c.vertex_at-target.ensures,
         c.loop-place.invariant.2,
-      ) }
+      );
+    }
 
 pub overflow_add-place : goal.overflow_add-place
 overflow_add-place c = omega arith
@@ -28,16 +31,15 @@ pub loop-place-smaller : goal.loop-place-smaller
 loop-place-smaller c = omega arith
 
 pub loop-place-preserved : goal.loop-place-preserved
-loop-place-preserved c =
- (
-      omega arith,
-      c.discover-count.ensures.knows_2,
-      c.discover-count.auto.mapping ∙ c.loop-place.invariant.2,
-      meet_step
-          _ _ _ _ _ _ _ c.loop-place-test.true c.requires.end_in_bounds
-          c.vertex_at-target.ensures c.discover-count.ensures.work_after
-          c.loop-place.invariant.3,
-    )
+loop-place-preserved c = (
+  omega arith,
+  c.discover-count.ensures.knows_2,
+  c.discover-count.auto.mapping ∙ c.loop-place.invariant.2,
+  meet_step
+      _ _ _ _ _ _ _ c.loop-place-test.true c.requires.end_in_bounds
+      c.vertex_at-target.ensures c.discover-count.ensures.work_after
+      c.loop-place.invariant.3,
+)
 
 pub shape_of-mapping : goal.shape_of-mapping
 shape_of-mapping c = c.loop-place.invariant.2

@@ -17,19 +17,21 @@ vertex_at-initial-requires c =
 
 pub discover-count-requires : goal.discover-count-requires
 discover-count-requires c =
- record { knows = none_known _ _ (omega (arith, c.fill.auto.ws, c.requires.mapping_len))
+    record {
+      knows = none_known _ _ (omega (arith, c.fill.auto.ws, c.requires.mapping_len))
           (omega (arith, c.fill.auto.ws, c.requires.mapping_len, c.requires.good_game.few))
-          (filled 4_294_967_295 c.args.mapping.now _ c.fill.ensures); vertex_in_bounds = omega (arith, c.fill.auto.ws, c.requires.mapping_len, c.requires.good_game.initial, c.vertex_at-initial.ensures) }
+          (filled 4_294_967_295 c.args.mapping.now _ c.fill.ensures);
+      vertex_in_bounds = omega (arith, c.fill.auto.ws, c.requires.mapping_len, c.requires.good_game.initial, c.vertex_at-initial.ensures);
+    }
 
 pub loop-i-init : goal.loop-i-init
-loop-i-init c =
- (
-      c.discover-count.ensures.knows_2,
-      omega
-          (arith, c.discover-count.auto.mapping, c.fill.auto.ws, c.requires.mapping_len),
-      search-start _ _ _
-          c.vertex_at-initial.ensures c.discover-count.ensures.work_after,
-    )
+loop-i-init c = (
+  c.discover-count.ensures.knows_2,
+  omega
+      (arith, c.discover-count.auto.mapping, c.fill.auto.ws, c.requires.mapping_len),
+  search-start _ _ _
+      c.vertex_at-initial.ensures c.discover-count.ensures.work_after,
+)
 
 pub vertex_at-vertex-requires : goal.vertex_at-vertex-requires
 vertex_at-vertex-requires c =
@@ -37,7 +39,9 @@ vertex_at-vertex-requires c =
 
 pub edges_from-from-requires : goal.edges_from-from-requires
 edges_from-from-requires c =
- record { good_game = c.requires.good_game; column_in_bounds = (
+    record {
+      good_game = c.requires.good_game;
+      column_in_bounds = (
         omega arith,
         omega (
           arith,
@@ -46,11 +50,14 @@ edges_from-from-requires c =
               c.loop-i-test.true,
           c.loop-i.invariant.1,
         ),
-      ) }
+      );
+    }
 
 pub edges_end-end-requires : goal.edges_end-end-requires
 edges_end-end-requires c =
- record { good_game = c.requires.good_game; column_in_bounds = (
+    record {
+      good_game = c.requires.good_game;
+      column_in_bounds = (
         omega arith,
         omega (
           arith,
@@ -59,7 +66,8 @@ edges_end-end-requires c =
               c.loop-i-test.true,
           c.loop-i.invariant.1,
         ),
-      ) }
+      );
+    }
 
 pub discover_all-count-requires : goal.discover_all-count-requires
 discover_all-count-requires c =
@@ -72,11 +80,15 @@ discover_all-count-requires c =
       c.loop-i.invariant.1,
     ) in
     let first = edges_past c.args.game.now v _ c.edges_from-from.ensures in
-    let last = targets_end _ c.requires.good_game v _ i c.edges_end-end.ensures in record { knows = c.loop-i.invariant.0; end_in_bounds = edges_end _ c.requires.good_game 0 v _ (omega arith) i c.edges_end-end.ensures; by_index = λ p l h. omega (
-          arith,
-          leads_at _ c.requires.good_game p (omega (arith, first)) (omega (arith, last)),
-          c.loop-i.invariant.1,
-        ) }
+    let last = targets_end _ c.requires.good_game v _ i c.edges_end-end.ensures in record {
+      knows = c.loop-i.invariant.0;
+      end_in_bounds = edges_end _ c.requires.good_game 0 v _ (omega arith) i c.edges_end-end.ensures;
+      by_index = λ p l h. omega (
+        arith,
+        leads_at _ c.requires.good_game p (omega (arith, first)) (omega (arith, last)),
+        c.loop-i.invariant.1,
+      );
+    }
 
 pub overflow_add-i : goal.overflow_add-i
 overflow_add-i c =

@@ -21,11 +21,14 @@ pub write_copied-next-requires : goal.write_copied-next-requires
 write_copied-next-requires c =
     let h = copied_room c.loop-column.column ((kept_vertices c.args.game.now (take c.args.count c.args.work.now)))
     (omega (arith, c.loop-column-test.true, c.edge_columns-all.ensures)) c.requires.kept_in_bounds
-    c.loop-column.invariant.1 in record { chosen = c.requires.chosen; column_nonzero = (
+    c.loop-column.invariant.1 in record {
+      chosen = c.requires.chosen;
+      column_nonzero = (
         omega (arith, c.loop-column.invariant.0),
         omega (arith, c.loop-column-test.true, c.edge_columns-all.ensures),
         h,
-      ) }
+      );
+    }
 
 pub overflow_add-column-in-loop-column : goal.overflow_add-column-in-loop-column
 overflow_add-column-in-loop-column c = omega arith
@@ -34,13 +37,12 @@ pub loop-column-smaller : goal.loop-column-smaller
 loop-column-smaller c = omega arith
 
 pub loop-column-preserved : goal.loop-column-preserved
-loop-column-preserved c =
- (
-      omega (arith, c.loop-column.invariant.0),
-      columns_put edge_columns (all_edges ((kept_vertices c.args.game.now (take c.args.count c.args.work.now)))) c.loop-column.column
-          (omega (arith, c.loop-column-test.true, c.edge_columns-all.ensures)) refl
-          c.write_copied-next.auto.out c.write_copied-next.ensures c.loop-column.invariant.1,
-    )
+loop-column-preserved c = (
+  omega (arith, c.loop-column.invariant.0),
+  columns_put edge_columns (all_edges ((kept_vertices c.args.game.now (take c.args.count c.args.work.now)))) c.loop-column.column
+      (omega (arith, c.loop-column-test.true, c.edge_columns-all.ensures)) refl
+      c.write_copied-next.auto.out c.write_copied-next.ensures c.loop-column.invariant.1,
+)
 
 pub shape_of-out : goal.shape_of-out
 shape_of-out c = c.loop-column.invariant.1.long

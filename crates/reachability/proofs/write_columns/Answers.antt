@@ -27,14 +27,17 @@ vertex_column_at-base-requires c = (
 
 pub carry-next-requires : goal.carry-next-requires
 carry-next-requires c =
- record { count_in_bounds = (
+    record {
+      count_in_bounds = (
         c.requires.chosen.within,
         column_room _ _ _ c.requires.chosen c.loop-column.column
             (omega (arith, c.loop-column-test.true, c.vertex_columns-all.ensures)) c.requires.count_in_bounds
             c.loop-column.invariant,
-      ); by_index = λ i l. column-inside _ _ _ c.requires.chosen c.loop-column.column _ _
+      );
+      by_index = λ i l. column-inside _ _ _ c.requires.chosen c.loop-column.column _ _
           c.at-vertices.ensures.0 c.vertex_column_at-base.ensures
-          (omega (arith, c.loop-column-test.true, c.vertex_columns-all.ensures)) i l }
+          (omega (arith, c.loop-column-test.true, c.vertex_columns-all.ensures)) i l;
+    }
 
 pub overflow_add-column : goal.overflow_add-column
 overflow_add-column c = omega arith

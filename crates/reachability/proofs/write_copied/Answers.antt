@@ -11,13 +11,12 @@ use Rattle.reachability.proofs.Stretches.{all_some, rises_read, count-more, copi
 use Rattle.reachability.proofs.write_copied.Goals as goal
 
 pub loop-i-init : goal.loop-i-init
-loop-i-init c =
- (
-      omega arith,
-      turn (ap (edge_column_of c.args.column)
-          (all_some c.args.game.now c.args.work.now c.args.count))
-          Rattle.words.proofs.Stretches.start,
-    )
+loop-i-init c = (
+  omega arith,
+  turn (ap (edge_column_of c.args.column)
+      (all_some c.args.game.now c.args.work.now c.args.count))
+      Rattle.words.proofs.Stretches.start,
+)
 
 pub vertex_at-vertex-requires : goal.vertex_at-vertex-requires
 vertex_at-vertex-requires c =
@@ -26,14 +25,14 @@ vertex_at-vertex-requires c =
 pub edges_from-from-requires : goal.edges_from-from-requires
 edges_from-from-requires c =
     let it =
-        met_vertex _ _ _ c.requires.column_nonzero.1 c.requires.chosen c.loop-i-test.true c.vertex_at-vertex.ensures in
+    met_vertex _ _ _ c.requires.column_nonzero.1 c.requires.chosen c.loop-i-test.true c.vertex_at-vertex.ensures in
     record { good_game = it.0; column_in_bounds = it.1 }
 
 pub edges_end-end-requires : goal.edges_end-end-requires
 edges_end-end-requires c =
     let it =
-        met_vertex _ _ _ c.requires.column_nonzero.1 c.requires.chosen c.loop-i-test.true
-        c.vertex_at-vertex.ensures in
+    met_vertex _ _ _ c.requires.column_nonzero.1 c.requires.chosen c.loop-i-test.true
+    c.vertex_at-vertex.ensures in
     record { good_game = it.0; column_in_bounds = it.1 }
 
 pub copy-next-requires : goal.copy-next-requires

@@ -13,13 +13,12 @@ use Rattle.reachability.proofs.Stretches.{all_some, rises_read, count-more, targ
 use Rattle.reachability.proofs.write_targets.Goals as goal
 
 pub loop-i-init : goal.loop-i-init
-loop-i-init c =
- (
-      omega arith,
-      turn (ap (edge_column_of 0)
-          (all_some c.args.game.now c.args.work.now c.args.count))
-          Rattle.words.proofs.Stretches.start,
-    )
+loop-i-init c = (
+  omega arith,
+  turn (ap (edge_column_of 0)
+      (all_some c.args.game.now c.args.work.now c.args.count))
+      Rattle.words.proofs.Stretches.start,
+)
 
 pub vertex_at-vertex-requires : goal.vertex_at-vertex-requires
 vertex_at-vertex-requires c =
@@ -28,13 +27,13 @@ vertex_at-vertex-requires c =
 pub edges_from-from-requires : goal.edges_from-from-requires
 edges_from-from-requires c =
     let it =
-        met_vertex 0 _ _ (omega arith) c.requires.chosen c.loop-i-test.true c.vertex_at-vertex.ensures in
+    met_vertex 0 _ _ (omega arith) c.requires.chosen c.loop-i-test.true c.vertex_at-vertex.ensures in
     record { good_game = it.0; column_in_bounds = it.1 }
 
 pub edges_end-end-requires : goal.edges_end-end-requires
 edges_end-end-requires c =
     let it =
-        met_vertex 0 _ _ (omega arith) c.requires.chosen c.loop-i-test.true c.vertex_at-vertex.ensures in
+    met_vertex 0 _ _ (omega arith) c.requires.chosen c.loop-i-test.true c.vertex_at-vertex.ensures in
     record { good_game = it.0; column_in_bounds = it.1 }
 
 pub write_numbers-next-requires : goal.write_numbers-next-requires
@@ -48,15 +47,18 @@ write_numbers-next-requires c =
     let m = count-more 0 (omega arith) _ _ _ _ _ _ _ c.requires.chosen t c.vertex_at-vertex.ensures
     c.edges_from-from.ensures c.edges_end-end.ensures in
     let first = edges_past c.args.game.now v _ c.edges_from-from.ensures in
-    let last = targets_end _ c.requires.chosen.good v _ i c.edges_end-end.ensures in record { from_le_end = (
+    let last = targets_end _ c.requires.chosen.good v _ i c.edges_end-end.ensures in record {
+      from_le_end = (
         rise,
         edges_end _ c.requires.chosen.good 0 v _ (omega arith) i c.edges_end-end.ensures,
         omega (arith, m, edges_room 0 _ _ _ _ c.requires.mapping_len.1 c.loop-i.invariant.1),
-      ); by_index = λ p l k. omega (
+      );
+      by_index = λ p l k. omega (
         arith,
         leads_at _ c.requires.chosen.good p (omega (arith, first)) (omega (arith, last)),
         c.requires.mapping_len.0,
-      ) }
+      );
+    }
 
 pub overflow_add-i : goal.overflow_add-i
 overflow_add-i c =

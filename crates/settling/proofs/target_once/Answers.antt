@@ -16,8 +16,8 @@ overflow_sub-mark c = omega (arith, c.if-operand-mark.true)
 pub raise_count-requires : goal.raise_count-requires
 raise_count-requires c =
     let it =
-        mark_raises _ _ _ _ _ _ _ c.requires.ready.0 c.requires.ready.2 refl refl
-        (c.requires.state_lt_marks c.if-operand.true) _ c.mark_word-mark.ensures c.if-operand-mark.true in
+    mark_raises _ _ _ _ _ _ _ c.requires.ready.0 c.requires.ready.2 refl refl
+    (c.requires.state_lt_marks c.if-operand.true) _ c.mark_word-mark.ensures c.if-operand-mark.true in
     record { vertices_le_most_vertices = it.0; place_bound = it.1 }
 
 pub returns-then-operand-mark : goal.returns-then-operand-mark
@@ -49,9 +49,9 @@ raise_count-requires-then-operand-mark-2 c =
     let p = subst (MeetAnswer _ _ _ _ _ _) c.in-Meets.is c.meet.ensures in
     let mark = mark_of _ c.args.operand.item _ _ _ _ c.mark_index-index.ensures c.requires.state_lt_marks in
     let it =
-        mark_raises _ _ _ _ _ _ _ c.requires.ready.0 c.requires.ready.2 p.rest c.meet.auto.work
-        (met_below_mark _ _ _ _ _ _ _ _ _ c.requires.ready.0 p c.meet.auto.work _
-        c.requires.ready.2.apart.0 _ _ _ _ mark) _ c.mark_word-mark-2.ensures c.if-operand-mark-2.true in
+    mark_raises _ _ _ _ _ _ _ c.requires.ready.0 c.requires.ready.2 p.rest c.meet.auto.work
+    (met_below_mark _ _ _ _ _ _ _ _ _ c.requires.ready.0 p c.meet.auto.work _
+    c.requires.ready.2.apart.0 _ _ _ _ mark) _ c.mark_word-mark-2.ensures c.if-operand-mark-2.true in
     record { vertices_le_most_vertices = it.0; place_bound = it.1 }
 
 pub returns-then-operand-mark-2 : goal.returns-then-operand-mark-2

@@ -16,10 +16,13 @@ product-scaled-requires c =
 pub meet-requires : goal.meet-requires
 meet-requires c =
     let same = c.clear_region-2.auto.work ∙ c.clear_region.auto.work ∙ c.start.auto.work in
-    let system = c.requires.multiples.1.system in record { scaled = record { multiples = subst Multiples (sym c.multiples-multiples.ensures) c.requires.multiples.0; product = c.product-scaled.ensures }; ready = (
+    let system = c.requires.multiples.1.system in record {
+      scaled = record { multiples = subst Multiples (sym c.multiples-multiples.ensures) c.requires.multiples.0; product = c.product-scaled.ensures };
+      ready = (
         empty_ready _ _ _ _ _ _ c.requires.sized c.start.ensures c.clear_region.ensures c.clear_region-2.ensures same,
         record { state_fits = omega (arith, system.initial, system.states); item_fits = omega arith },
-      ) }
+      );
+    }
 
 pub returns-in-Meets : goal.returns-in-Meets
 returns-in-Meets c =

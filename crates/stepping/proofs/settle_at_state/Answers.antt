@@ -17,11 +17,15 @@ pub settle_operands-requires : goal.settle_operands-requires
 settle_operands-requires c =
     let o = c.operand_count-count.ensures in
     let fit = c.requires.all_fit in
-    let some = c.if-kind-lt2.false in record { multiples = subst Multiples (sym c.multiples-multiples.ensures) c.requires.multiples.0; ready = (
-          c.requires.ready,
-          first_fits _ _ _ _ fit _ _ c.left_of-left.ensures c.right_of-right.ensures _ o.0 o.1 (omega (arith, some)),
-          few _ _ _ _ fit _ _ c.left_of-left.ensures c.right_of-right.ensures _ o.0 o.1 (omega (arith, some)),
-        ); fitting = second_fits _ _ _ _ fit _ _ c.left_of-left.ensures c.right_of-right.ensures _ o.0 o.1 (omega (arith, some)) }
+    let some = c.if-kind-lt2.false in record {
+      multiples = subst Multiples (sym c.multiples-multiples.ensures) c.requires.multiples.0;
+      ready = (
+        c.requires.ready,
+        first_fits _ _ _ _ fit _ _ c.left_of-left.ensures c.right_of-right.ensures _ o.0 o.1 (omega (arith, some)),
+        few _ _ _ _ fit _ _ c.left_of-left.ensures c.right_of-right.ensures _ o.0 o.1 (omega (arith, some)),
+      );
+      fitting = second_fits _ _ _ _ fit _ _ c.left_of-left.ensures c.right_of-right.ensures _ o.0 o.1 (omega (arith, some));
+    }
 
 pub returns : goal.returns
 returns c =

@@ -7,13 +7,12 @@ use Rattle.table_words.proofs.Row.{firsts_start, firsts_more, firsts_all}
 use Rattle.table_words.proofs.first_nodes.Goals as goal
 
 pub loop-node-init : goal.loop-node-init
-loop-node-init c =
- (
-      omega arith,
-      c.requires.sized.1,
-      λ children known. firsts_start children (size c.args.ws.now)
-          c.args.firsts.now c.requires.by_index,
-    )
+loop-node-init c = (
+  omega arith,
+  c.requires.sized.1,
+  λ children known. firsts_start children (size c.args.ws.now)
+      c.args.firsts.now c.requires.by_index,
+)
 
 pub loop-node-smaller : goal.loop-node-smaller
 loop-node-smaller c =

@@ -21,9 +21,12 @@ pub put_numbers-past_numbers-requires : goal.put_numbers-past_numbers-requires
 put_numbers-past_numbers-requires c =
     let n = c.args.name.now in
     let m = c.args.numbers.now
-    in record { from_le_end = (omega arith, omega arith); ws_in_bounds = first_fits (spaced (slice 0 (length m) m)) (10 ∷ []) c.requires
+    in record {
+      from_le_end = (omega arith, omega arith);
+      ws_in_bounds = first_fits (spaced (slice 0 (length m) m)) (10 ∷ []) c.requires
           (called c.put_bytes-past_name.auto.text c.put_bytes-past_name.ensures
-          (line_start n m c.args.text.now c.args.start)) }
+          (line_start n m c.args.text.now c.args.start));
+    }
 
 pub put_byte-requires : goal.put_byte-requires
 put_byte-requires c =

@@ -22,13 +22,12 @@ pub loop-i-smaller : goal.loop-i-smaller
 loop-i-smaller c = omega arith
 
 pub loop-i-preserved : goal.loop-i-preserved
-loop-i-preserved c =
- (
-      omega arith,
-      numbers_more c.args.ws.now c.loop-i.i c.args.end c.at.result
-          c.at.ensures.0 c.loop-i-test.true c.requires.from_le_end.1
-          c.put_number-place.auto.text c.put_number-place.ensures c.loop-i.invariant.1,
-    )
+loop-i-preserved c = (
+  omega arith,
+  numbers_more c.args.ws.now c.loop-i.i c.args.end c.at.result
+      c.at.ensures.0 c.loop-i-test.true c.requires.from_le_end.1
+      c.put_number-place.auto.text c.put_number-place.ensures c.loop-i.invariant.1,
+)
 
 pub shape_of-text : goal.shape_of-text
 shape_of-text c = c.loop-i.invariant.1.long

@@ -36,20 +36,20 @@ loop-s-preserved c =
     let more : l.sum + c.at-sum.result ≡ first_transition ss (l.s + 1) = omega
     (arith, first_more ss l.s, l.invariant.3, c.at-sum.ensures.0) in
     elim c.if-s-eq0.branch [
-      then-s-eq0 w ↦ (
-      omega arith,
-      l.invariant.1,
-      ap length w.samples-is ∙ length-set l.samples (l.s / stride) l.sum ∙ l.invariant.2,
-      more,
-      subst (λ (z : List ℕ). (i : ℕ) → i * stride < l.s + 1 → word z i ≡ first_transition ss (i * stride)) (sym w.samples-is) (sample_more ss l.samples l.s l.sum (omega (arith, l.invariant.2, l.invariant.0, l.invariant.1, c.requires.system.1.states, c.requires.sample_count_in_bounds)) w.if-s-eq0.true l.invariant.3 l.invariant.4),
-    )
-    | else-s-eq0 w ↦ (
-      omega arith,
-      l.invariant.1,
-      ap length w.samples-is ∙ l.invariant.2,
-      more,
-      subst (λ (z : List ℕ). (i : ℕ) → i * stride < l.s + 1 → word z i ≡ first_transition ss (i * stride)) (sym w.samples-is) (sample_between ss l.samples l.s w.if-s-eq0.false l.invariant.4),
-    )
+      | then-s-eq0 w ↦ (
+        omega arith,
+        l.invariant.1,
+        ap length w.samples-is ∙ length-set l.samples (l.s / stride) l.sum ∙ l.invariant.2,
+        more,
+        subst (λ (z : List ℕ). (i : ℕ) → i * stride < l.s + 1 → word z i ≡ first_transition ss (i * stride)) (sym w.samples-is) (sample_more ss l.samples l.s l.sum (omega (arith, l.invariant.2, l.invariant.0, l.invariant.1, c.requires.system.1.states, c.requires.sample_count_in_bounds)) w.if-s-eq0.true l.invariant.3 l.invariant.4),
+      )
+      | else-s-eq0 w ↦ (
+        omega arith,
+        l.invariant.1,
+        ap length w.samples-is ∙ l.invariant.2,
+        more,
+        subst (λ (z : List ℕ). (i : ℕ) → i * stride < l.s + 1 → word z i ≡ first_transition ss (i * stride)) (sym w.samples-is) (sample_between ss l.samples l.s w.if-s-eq0.false l.invariant.4),
+      )
     ]
 
 pub returns : goal.returns

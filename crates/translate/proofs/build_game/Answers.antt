@@ -12,7 +12,7 @@ make_match_table-requires c =
 
 pub explore-walked-requires : goal.explore-walked-requires
 explore-walked-requires c =
- record { tables = c.requires.prepared.tables _ c.make_match_table.ensures; sized = sized _ _ _ 0 c.args.game.now _ c.requires.work_value }
+    record { tables = c.requires.prepared.tables _ c.make_match_table.ensures; sized = sized _ _ _ 0 c.args.game.now _ c.requires.work_value }
 
 pub write_out-requires : goal.write_out-requires
 write_out-requires c =

@@ -14,15 +14,15 @@ pub returns-in-Fault : goal.returns-in-Fault
 returns-in-Fault c =
     let x = input_of c.args.labels.now c.args.system.now c.args.actions.now c.args.formula.now in
     let it =
-        whole_run x (room_of c.args.vertices c.args.edges) c.args.limit c.args.game.now c.args.work.now
-        (Refused c.in-Fault.number c.in-Fault.place) c.args.game.now c.args.work.now
-        (refused_run by_depth _ _ _ _ _ _ _ (sym c.check.ensures ∙ c.in-Fault.is)) in
+    whole_run x (room_of c.args.vertices c.args.edges) c.args.limit c.args.game.now c.args.work.now
+    (Refused c.in-Fault.number c.in-Fault.place) c.args.game.now c.args.work.now
+    (refused_run by_depth _ _ _ _ _ _ _ (sym c.check.ensures ∙ c.in-Fault.is)) in
     record { equals = it.0; coded = it.1.0; demand1 = it.1.1.0; demand3 = it.1.1.1.0; no_false_pass = it.1.1.1.1 }
 
 pub returns-in-Passed : goal.returns-in-Passed
 returns-in-Passed c =
     let x = input_of c.args.labels.now c.args.system.now c.args.actions.now c.args.formula.now in
     let it =
-        whole_run x (room_of c.args.vertices c.args.edges) c.args.limit c.args.game.now c.args.work.now
-        c.build.result c.build.new.game c.build.new.work c.build.ensures in
+    whole_run x (room_of c.args.vertices c.args.edges) c.args.limit c.args.game.now c.args.work.now
+    c.build.result c.build.new.game c.build.new.work c.build.ensures in
     record { equals = it.0; coded = it.1.0; demand1 = it.1.1.0; demand3 = it.1.1.1.0; no_false_pass = it.1.1.1.1 }
