@@ -1,6 +1,6 @@
 /* Hingrezh: parity games from a labelled transition system and a modal formula, by a proved library.
  *
- * Link with libhingrezh.a, which `rt staticlib hingrezh` makes; `make install` puts it beside a pkg-config file. The
+ * Link with libhingrezh.a, which `make host` makes; `make install` puts it beside a pkg-config file. The
  * archive has no variables, and of the C library it needs memset (a later one may need memcpy, memmove or memcmp too).
  *
  * How a game is won: the largest priority that is seen for ever decides; if it is even, Even wins. If Even wins vertex

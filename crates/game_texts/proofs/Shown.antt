@@ -7,7 +7,7 @@ use mathlib.Core.List.{List, ◌∷◌}
 use lib.ListN.{length, take, drop, replicate, length-append, length-replicate, get_or-eq_default}
 use lib.Seq.{slice, length-take-le, take-take, take-append-le, get_or-take}
 use Rattle.rules.specs.Lists.{word, zeros}
-use Rattle.rules.specs.Game.{vertex_columns, edge_columns, vertex_count, edges_in, initial_in, vertex_column_at, offsets_at}
+use Rattle.rules.specs.Game.{vertex_columns, vertex_count, edges_in, initial_in, vertex_column_at, offsets_at}
 use Rattle.rules.specs.Game.{edge_column_at, vertex_word, offset_in, edges_from, edge_words_in, targets_in, counts_in}
 use Rattle.games.proofs.Columns.{each_edge_column, left_at, slice_right, rise}
 use Rattle.games.proofs.Rewriting.{Whole, words_alike}

@@ -14,7 +14,6 @@ use Rattle.rules.specs.Words.{Input, input_of}
 use Rattle.rules.specs.System.{transition_target}
 use Rattle.rules.specs.Table.{size}
 use Rattle.rules.specs.Actions.{action_tree}
-use Rattle.rules.specs.Items.{items}
 use Rattle.rules.specs.Pairs.{Pair, targets, matching_transitions, successors, transitions_behind}
 use Rattle.arena.specs.Arena.{Inside}
 use Rattle.arena.proofs.ItemNumbers.{items_few}

@@ -17,7 +17,7 @@ use Rattle.rules.specs.Answers.{Accepted}
 use Rattle.rules.specs.Depth.{Ranking}
 use Rattle.rules.specs.Pairs.{Pair, same_pair, initial_pair, owner, priority, targets, transitions_behind}
 use Rattle.rules.specs.Walk.{Stand}
-use Rattle.rules.specs.Game.{Vertex, edge_count, vertices}
+use Rattle.rules.specs.Game.{Vertex, edge_count}
 use Rattle.rules.specs.Faulty.{FirstFaulty, Faultless}
 use Rattle.rules.specs.Refusal.{refusal}
 use Rattle.rules.specs.Run.{Outcome, walk_of, vertices_of, exceeds, built_answer, built_outcome, out_of_room, walk_outcome, refused_or, run}

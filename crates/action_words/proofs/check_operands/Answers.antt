@@ -1,5 +1,4 @@
 use Rattle.action_words.proofs.Actions.{row_whole, row_broken}
-use Prim.Native.Nat.{◌-◌}
 use native.Mathlib.Omega.{arith}
 use mathlib.Core.Path.{sym, ◌∙◌}
 use Rattle.tables.proofs.Faults.{from_stop, from_next, from_done, then_fault, then_passed, then_same}

@@ -1,6 +1,4 @@
 use mathlib.Core.Path.{sym, ◌∙◌}
-use mathlib.Core.Bool.{false}
-use Prim.Native.Nat.{◌-◌}
 use native.Mathlib.Omega.{arith}
 use Rattle.alike_nodes.specs.Nodes.{shown_in}
 use Rattle.alike_nodes.proofs.Placing.{found_first, found_none, none_more}

@@ -1,6 +1,5 @@
 use mathlib.Core.Path.{refl}
 use Rattle.compiled.specs.Stretches.{stretch}
-use borrow.Author.Rules.{rules}
 use Rattle.compiled.proofs.part.Goals as goal
 
 -- GONE part-result-start : tie.Need-slice-bounds-result-start

@@ -1,5 +1,5 @@
 use Rattle.compiled.specs.Stretches.{kinds_in, priorities_in}
-use Prim.Native.Nat.{◌-◌, ◌<◌}
+use Prim.Native.Nat.{◌<◌}
 use native.Mathlib.Omega.{arith}
 use lib.ListN.{length}
 use Rattle.game_writer.specs.Shown.{shown_word}

@@ -1,5 +1,4 @@
 use Rattle.compiled.specs.Stretches.{kinds_in, priorities_in}
-use Prim.Native.Nat.{◌-◌}
 use native.Mathlib.Omega.{arith}
 use Rattle.rules.specs.Game.{vertex_columns}
 use Rattle.parity_game.proofs.Stretches.{columns_put, columns_done}

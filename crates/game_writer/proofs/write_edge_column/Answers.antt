@@ -1,4 +1,3 @@
-use Prim.Native.Nat.{◌-◌}
 use native.Mathlib.Omega.{arith}
 use mathlib.Core.List.{[]}
 use Rattle.game_writer.proofs.Edges.{edges_start, edges_room, edges_put, edges_done}

@@ -2,7 +2,6 @@
 use native.Mathlib.Omega.{arith}
 use Rattle.text_writer.proofs.Lines.{wrote_as}
 use Rattle.gate_text.proofs.Reports.{report_done, report_cut, report_refused, done_printed, cut_printed, room}
-use borrow.Author.Rules.{rules}
 use Rattle.gate_text.proofs.print.Goals as goal
 
 pub put_game-requires : goal.put_game-requires

@@ -4,7 +4,6 @@ use native.Mathlib.Omega.{arith}
 use lib.Seq.{length-take-le}
 use Rattle.text_writer.proofs.Lines.{wrote_as}
 use Rattle.gate_text.proofs.Programs.{read_agrees, read_printed, unreadable_printed, unreadable_room, read_count}
-use borrow.Author.Rules.{rules}
 use Rattle.gate_text.proofs.put_program.Goals as goal
 
 pub slice_bounds-ws-end : goal.slice_bounds-ws-end

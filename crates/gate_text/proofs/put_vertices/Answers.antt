@@ -1,4 +1,4 @@
-use Prim.Native.Nat.{◌-◌, ◌≤◌, ◌<◌}
+use Prim.Native.Nat.{◌≤◌, ◌<◌}
 use native.Mathlib.Omega.{arith}
 use Rattle.rules.specs.Game.{vertex_count}
 use Rattle.gate_text.proofs.Lines.{lines_start, lines_room, lines_put, lines_done}

@@ -7,7 +7,6 @@ use Rattle.compiled.specs.Stretches.{stretch}
 use Rattle.trees.proofs.Equations.{count_limit}
 use Rattle.item_table.proofs.Filling.{ranked_between}
 use Rattle.item_table.proofs.Parts.{priorities_length, once_part, twice_part, twice_only}
-use borrow.Author.Rules.{rules}
 use Rattle.item_table.proofs.put_priorities.Goals as goal
 
 -- GONE part-clear-start : tie.Need-slice-bounds-clear-start

@@ -1,5 +1,5 @@
 use Rattle.matching.proofs.Nodes.{for_more_labels}
-use Prim.Native.Nat.{◌+◌, ◌-◌, ◌≤◌}
+use Prim.Native.Nat.{◌+◌, ◌≤◌}
 use native.Mathlib.Omega.{arith}
 use Rattle.rules.specs.Labels.{label_count}
 use Rattle.match_table.proofs.Filled.{told_true, told_false, class_matches, filling_start, filling_more, filling_end}

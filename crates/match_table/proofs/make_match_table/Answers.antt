@@ -1,4 +1,3 @@
-use Prim.Native.Nat.{◌-◌}
 use native.Mathlib.Omega.{arith}
 use Rattle.match_table.proofs.Filled.{rows_none}
 use Rattle.match_table.proofs.make_match_table.Goals as goal

@@ -1,7 +1,7 @@
 -- `row` meets its contract: the part of the table that begins at the row's start. Assumes nothing.
-use mathlib.Core.Logic.{inl, inr, ⊎_elim}
+use mathlib.Core.Logic.{inl, inr}
 use native.Mathlib.Omega.{arith}
-use Rattle.match_table.proofs.Filled.{part_forward, part-within, part_row}
+use Rattle.match_table.proofs.Filled.{part_forward, part_row}
 use Rattle.match_table.proofs.row.Goals as goal
 use Rattle.match_table.proofs.row.Goals.{then-start-gt0, else-start-gt0}
 

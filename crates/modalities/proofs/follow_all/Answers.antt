@@ -1,8 +1,7 @@
-use mathlib.Core.Path.{◌≡◌, subst, ◌∙◌}
-use Prim.Native.Nat.{◌+◌, ◌-◌, ◌≤◌}
+use mathlib.Core.Path.{subst, ◌∙◌}
+use Prim.Native.Nat.{◌≤◌}
 use native.Mathlib.Omega.{arith}
 use Rattle.rules.specs.Words.{most_transitions}
-use Rattle.rules.specs.System.{transition_target}
 use Rattle.settling.specs.Made.{Gathered}
 use Rattle.modalities.proofs.Gathering.{following_start, following_raisable, following_on}
 use Rattle.modalities.proofs.Gathering.{following_many, following_end}

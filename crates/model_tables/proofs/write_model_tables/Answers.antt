@@ -1,5 +1,4 @@
 use Rattle.model_tables.proofs.Written.{all_written}
-use borrow.Author.Rules.{rules}
 use Rattle.model_tables.proofs.write_model_tables.Goals as goal
 
 -- GONE part-label-classes-start : tie.Need-slice-bounds-label-classes-start

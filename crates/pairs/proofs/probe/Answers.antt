@@ -1,4 +1,4 @@
-use Rattle.std.proofs.Common.{◌-◌, sym, ◌∙◌, arith}
+use Rattle.std.proofs.Common.{sym, ◌∙◌, arith}
 use Rattle.pairs.proofs.Search.{none_yet, one_more, up_to}
 use Rattle.pairs.proofs.probe.Goals as goal
 

@@ -1,4 +1,4 @@
-use Rattle.std.proofs.Common.{◌-◌, refl, not-suc-le-zero, arith}
+use Rattle.std.proofs.Common.{refl, not-suc-le-zero, arith}
 use Rattle.pairs.proofs.Begin.{clear_on, clear_end}
 use Rattle.pairs.proofs.start.Goals as goal
 

@@ -1,4 +1,3 @@
-use Prim.Native.Nat.{◌-◌}
 use native.Mathlib.Omega.{arith}
 use Rattle.rules.specs.PgsolverReading.{numbers_of}
 use Rattle.pgsolver_check.specs.Lines.{lines_from}

@@ -1,4 +1,3 @@
-use Prim.Native.Nat.{◌-◌}
 use native.Mathlib.Omega.{arith}
 use Rattle.pgsolver_check.proofs.Surveying.{surveying_start, surveying_broken, surveying_later}
 use Rattle.pgsolver_check.proofs.Surveying.{surveying_room, surveying_more, surveyed_within, surveyed_low}

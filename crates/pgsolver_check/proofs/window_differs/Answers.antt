@@ -1,4 +1,3 @@
-use Prim.Native.Nat.{◌-◌}
 use native.Mathlib.Omega.{arith}
 use mathlib.Core.Bool.{true≢false, false≢true}
 use Rattle.pgsolver_check.proofs.Walking.{walk_unnumbered, walk_number, walk_later}

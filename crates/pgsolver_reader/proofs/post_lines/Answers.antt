@@ -1,4 +1,3 @@
-use Prim.Native.Nat.{◌-◌}
 use mathlib.Core.Path.{refl, ◌∙◌}
 use native.Mathlib.Omega.{arith}
 use Rattle.pgsolver_reader.proofs.Posting.{posting_start, posting_stands, posting_below, posting_later}

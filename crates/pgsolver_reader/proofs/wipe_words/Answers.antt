@@ -1,4 +1,3 @@
-use Prim.Native.Nat.{◌-◌}
 use native.Mathlib.Omega.{arith}
 use Rattle.pgsolver_reader.proofs.Putting.{wiping_small, wiping_next, wiping_end}
 use Rattle.pgsolver_reader.proofs.wipe_words.Goals as goal

@@ -1,4 +1,3 @@
-use Prim.Native.Nat.{◌-◌}
 use native.Mathlib.Omega.{arith}
 use Rattle.pgsolver_scan.proofs.Blocks.{counted_start, counted_more, counted_end}
 use borrow.Author.Tests.{eqb-true, not-false}

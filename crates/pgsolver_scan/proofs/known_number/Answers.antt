@@ -1,4 +1,3 @@
-use Prim.Native.Nat.{◌-◌}
 use native.Mathlib.Omega.{arith}
 use Rattle.pgsolver_scan.proofs.Scanning.{scan-start, scan-digit}
 use Rattle.pgsolver_scan.proofs.Knowing.{known_inside, known_small, known_more, known_done}

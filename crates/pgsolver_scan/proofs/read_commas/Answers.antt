@@ -1,4 +1,3 @@
-use Prim.Native.Nat.{◌-◌}
 use native.Mathlib.Omega.{arith}
 use Rattle.pgsolver_scan.proofs.Reading.{commas_start, commas_end, commas_fail}
 use Rattle.pgsolver_scan.proofs.Reading.{commas_more, commas_later}

@@ -1,4 +1,3 @@
-use Prim.Native.Nat.{◌-◌}
 use native.Mathlib.Omega.{arith}
 use Rattle.pgsolver_scan.proofs.Naming.{naming_lacks, naming_more, naming_done, naming_line, naming_end}
 use Rattle.pgsolver_scan.proofs.read_name.Goals as goal

@@ -1,4 +1,3 @@
-use Prim.Native.Nat.{◌-◌}
 use native.Mathlib.Omega.{arith}
 use Rattle.pgsolver_scan.proofs.Scanning.{scan-start, scan_more, scan-digit, scan-other, scan-end}
 use Rattle.pgsolver_scan.proofs.read_number.Goals as goal

@@ -1,4 +1,3 @@
-use Prim.Native.Nat.{◌-◌}
 use native.Mathlib.Omega.{arith}
 use Rattle.pgsolver_scan.proofs.Blocks.{lacks_start, lacks_join}
 use Rattle.pgsolver_scan.proofs.skip_blocks.Goals as goal

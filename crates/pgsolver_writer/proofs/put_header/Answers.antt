@@ -9,7 +9,6 @@ use Rattle.rules.specs.Pgsolver.{parity_word, header_text}
 use Rattle.words.proofs.Stretches.{Writing, start, turn, called, done}
 use Rattle.text_writer.proofs.Lines.{first_fits}
 use Rattle.pgsolver_writer.proofs.Texts.{header_stretches}
-use borrow.Author.Rules.{rules}
 use Rattle.pgsolver_writer.proofs.put_header.Goals as goal
 
 -- GONE slice-aggregate-put-bytes : tie.Need-slice-aggregate-put-bytes

@@ -11,7 +11,6 @@ use Rattle.words.proofs.Stretches.{Writing, called, done}
 use Rattle.text_writer.proofs.Lines.{first_fits}
 use Rattle.pgsolver_writer.proofs.Lines.{Read, behind_number, behind_priority, behind_owner, line_end}
 use Rattle.pgsolver_writer.proofs.Lines.{successors_text, line_start, line_places}
-use borrow.Author.Rules.{rules}
 use Rattle.pgsolver_writer.proofs.put_line.Goals as goal
 use Rattle.pgsolver_writer.proofs.put_line.Goals.{After-put_number-past_owner, After-put_number-past_priority}
 

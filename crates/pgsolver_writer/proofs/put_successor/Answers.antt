@@ -1,6 +1,5 @@
 -- `put_successor` meets its contract: the bitmap tells whether the successor was (unless (marked before.args.bits.now before.args.target) ((separator before.args.start before.args.place ∷ decimal before.args.target))). Assumes nothing.
 use mathlib.Core.Path.{ap, sym, ◌∙◌}
-use mathlib.Core.Bool.{true}
 use mathlib.Core.List.{◌∷◌}
 use Prim.Native.Nat.{ℕ}
 use native.Mathlib.Omega.{arith}

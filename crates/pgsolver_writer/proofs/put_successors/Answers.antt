@@ -1,4 +1,3 @@
-use Prim.Native.Nat.{◌-◌}
 use native.Mathlib.Omega.{arith}
 use Rattle.pgsolver_writer.proofs.Turns.{listing_start, listing_room, listing_more, listing_last}
 use Rattle.pgsolver_writer.proofs.Turns.{only_once}

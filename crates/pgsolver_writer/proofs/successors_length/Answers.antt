@@ -1,4 +1,3 @@
-use Prim.Native.Nat.{◌-◌}
 use native.Mathlib.Omega.{arith}
 use Rattle.pgsolver_writer.proofs.Turns.{counted_start, counted_more, counted_last, only_once}
 use Rattle.pgsolver_writer.proofs.successors_length.Goals as goal

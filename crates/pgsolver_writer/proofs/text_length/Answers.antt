@@ -1,4 +1,4 @@
-use Prim.Native.Nat.{◌-◌, ◌≤◌, ◌<◌}
+use Prim.Native.Nat.{◌≤◌, ◌<◌}
 use native.Mathlib.Omega.{arith}
 use Rattle.rules.specs.Game.{vertex_count}
 use Rattle.pgsolver_writer.proofs.Texts.{text_short, size_start, size_more, size_done}

@@ -1,4 +1,3 @@
-use Prim.Native.Nat.{◌-◌}
 use native.Mathlib.Omega.{arith}
 use Rattle.pgsolver_writer.proofs.Turns.{only_more, only_done}
 use Rattle.pgsolver_writer.proofs.wipe_all.Goals as goal

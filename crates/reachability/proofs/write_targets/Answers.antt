@@ -1,7 +1,7 @@
 use mathlib.Core.List.{map}
 use lib.Seq.{slice}
 use Rattle.rules.specs.Lists.{word}
-use Prim.Native.Nat.{◌-◌, ◌<◌}
+use Prim.Native.Nat.{◌<◌}
 use mathlib.Core.Path.{ap}
 use native.Mathlib.Omega.{arith}
 use Rattle.games.specs.Columns.{edge_column_of}

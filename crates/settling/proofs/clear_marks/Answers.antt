@@ -1,4 +1,3 @@
-use Prim.Native.Nat.{◌-◌}
 use native.Mathlib.Omega.{arith}
 use Rattle.settling.proofs.Clearing.{clearing_start, clearing_on, clearing_end}
 use Rattle.settling.proofs.clear_marks.Goals as goal

@@ -1,5 +1,4 @@
 use mathlib.Core.Path.{sym, subst}
-use Prim.Native.Nat.{◌-◌}
 use native.Mathlib.Omega.{arith}
 use Rattle.settling.specs.Made.{Fitting, Answer}
 use Rattle.settling.proofs.Operands.{settling_start, settling_on, settling_many, settling_end, operand_fits}

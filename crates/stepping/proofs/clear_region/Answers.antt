@@ -1,4 +1,3 @@
-use Prim.Native.Nat.{◌-◌}
 use native.Mathlib.Omega.{arith}
 use Rattle.stepping.proofs.Starts.{clearing_start, clearing_on, clearing_end}
 use Rattle.stepping.proofs.clear_region.Goals as goal

@@ -1,6 +1,3 @@
-use Rattle.std.proofs.Common.{◌≡◌, true, false}
-use Rattle.settling.specs.Keys.{key_targets, key_behind, root_key}
-use Rattle.rules.specs.Words.{input_of}
 use Rattle.stepping.proofs.Walking.{stepped_on, stepped_last}
 use Rattle.stepping.proofs.run_steps.Goals as goal
 

@@ -1,4 +1,3 @@
-use Prim.Native.Nat.{◌-◌}
 use native.Mathlib.Omega.{arith}
 use Rattle.words.proofs.Stretches.{turn, done}
 use Rattle.text_writer.proofs.Lines.{numbers_room, numbers_more, spaced_none}
