@@ -7,7 +7,9 @@ use Rattle.rules.specs.Refusal.{fault_from, bad_action_operand, refusal34}
 use Rattle.action_words.proofs.check_operands.Given as goal
 
 abbrev pub invariant-loop-node : goal.invariant-loop-node
-invariant-loop-node l = refusal34 l.labels l.actions ≡ and_then (fault_from 34 l.node (size l.actions) (bad_action_operand l.labels l.actions)) (fault_if 34 (size l.actions) (not (on_row (action_children l.actions) (size l.actions) (size l.actions))))
+invariant-loop-node l = refusal34 l.labels l.actions ≡ and_then
+    (fault_from 34 l.node (size l.actions) (bad_action_operand l.labels l.actions))
+    (fault_if 34 (size l.actions) (not (on_row (action_children l.actions) (size l.actions) (size l.actions))))
 
 abbrev pub decreases-loop-node : goal.decreases-loop-node
 decreases-loop-node l = l.count - l.node

@@ -13,4 +13,11 @@ first_nodes-requires c =
 pub check_operands-requires : goal.check_operands-requires
 check_operands-requires c =
     let known = c.tree_ends.ensures.0 in
-    record { labels_nonzero = c.requires; ends = (known, c.first_nodes.ensures (action_children c.args.actions.now) known) }
+    record {
+      labels_nonzero = c.requires;
+      ends = (
+        known,
+        c.first_nodes.ensures (action_children c.args.actions.now)
+            known,
+      );
+    }

@@ -1,6 +1,4 @@
 -- `action_shape` meets its contract: each return is a law of the kinds. Assumes nothing.
--- ---- where the words lie that are read: the label of a multi-action, the right operand
--- ---- the needs
 use mathlib.Core.Path.{sym, subst}
 use Prim.Native.Nat.{◌≤◌, ◌<◌}
 use native.Mathlib.Omega.{arith}
@@ -23,10 +21,24 @@ returns-then-kind-le1 c =
     c.kind_at-kind.ensures c.if-kind-le1.true)
 
 pub offset_bounds-classes-operand : goal.offset_bounds-classes-operand
-offset_bounds-classes-operand c = omega (arith, (let it : c.operand_at-operand.result < label_count c.args.labels.now = label_below c.args.labels.now c.args.actions.now c.requires.good_actions.0 c.args.node c.requires.node_bound c.kind_at-kind.result c.operand_at-operand.result c.kind_at-kind.ensures c.if-kind-eq2.true c.operand_at-operand.ensures in it), c.requires.good_actions.1.room)
+offset_bounds-classes-operand c = omega (
+  arith,
+  (let it : c.operand_at-operand.result < label_count
+      c.args.labels.now = label_below c.args.labels.now c.args.actions.now c.requires.good_actions.0 c.args.node
+      c.requires.node_bound c.kind_at-kind.result c.operand_at-operand.result c.kind_at-kind.ensures
+      c.if-kind-eq2.true c.operand_at-operand.ensures in it),
+  c.requires.good_actions.1.room,
+)
 
 pub bounds-classes-operand : goal.bounds-classes-operand
-bounds-classes-operand c = omega (arith, (let it : c.operand_at-operand.result < label_count c.args.labels.now = label_below c.args.labels.now c.args.actions.now c.requires.good_actions.0 c.args.node c.requires.node_bound c.kind_at-kind.result c.operand_at-operand.result c.kind_at-kind.ensures c.if-kind-eq2.true c.operand_at-operand.ensures in it), c.requires.good_actions.1.room)
+bounds-classes-operand c = omega (
+  arith,
+  (let it : c.operand_at-operand.result < label_count c.args.labels.now =
+      label_below c.args.labels.now c.args.actions.now c.requires.good_actions.0 c.args.node c.requires.node_bound
+      c.kind_at-kind.result c.operand_at-operand.result c.kind_at-kind.ensures c.if-kind-eq2.true
+      c.operand_at-operand.ensures in it),
+  c.requires.good_actions.1.room,
+)
 
 pub returns-then-kind-eq2 : goal.returns-then-kind-eq2
 returns-then-kind-eq2 c =
@@ -54,10 +66,46 @@ returns-then-kind-eq5 c =
     c.kind_at-kind.result c.kind_at-kind.ensures c.if-kind-eq5.true)
 
 pub offset_bounds-numbers-operand : goal.offset_bounds-numbers-operand
-offset_bounds-numbers-operand c = omega (arith, c.requires.good_actions.0.few, (let it : c.operand_at-operand.result < size c.args.actions.now = (right_below c.args.labels.now c.args.actions.now c.requires.good_actions.0 c.args.node c.requires.node_bound c.kind_at-kind.result c.operand_at-operand.result c.kind_at-kind.ensures ((let it : (3 ≤ c.kind_at-kind.result) × (c.kind_at-kind.result ≤ 4) = let known = (c.requires.good_actions.0.nodes c.args.node c.requires.node_bound).known in (omega (arith, c.if-kind-le1.false, c.if-kind-eq2.false), omega (arith, c.kind_at-kind.ensures, c.if-kind-eq5.false, known)) in it)).0 ((let it : (3 ≤ c.kind_at-kind.result) × (c.kind_at-kind.result ≤ 4) = let known = (c.requires.good_actions.0.nodes c.args.node c.requires.node_bound).known in (omega (arith, c.if-kind-le1.false, c.if-kind-eq2.false), omega (arith, c.kind_at-kind.ensures, c.if-kind-eq5.false, known)) in it)).1 c.operand_at-operand.ensures).1 in it))
+offset_bounds-numbers-operand c = omega (
+  arith,
+  c.requires.good_actions.0.few,
+  (let it : c.operand_at-operand.result < size c.args.actions.now =
+      (right_below c.args.labels.now c.args.actions.now c.requires.good_actions.0 c.args.node c.requires.node_bound
+      c.kind_at-kind.result c.operand_at-operand.result c.kind_at-kind.ensures
+      ((let it : (3 ≤ c.kind_at-kind.result) × (c.kind_at-kind.result ≤ 4) = let known =
+      (c.requires.good_actions.0.nodes c.args.node c.requires.node_bound).known in (
+        omega (arith, c.if-kind-le1.false, c.if-kind-eq2.false),
+        omega
+            (arith, c.kind_at-kind.ensures, c.if-kind-eq5.false, known),
+      ) in it)).0
+      ((let it : (3 ≤ c.kind_at-kind.result) × (c.kind_at-kind.result ≤ 4) = let known =
+      (c.requires.good_actions.0.nodes c.args.node c.requires.node_bound).known in (
+        omega (arith, c.if-kind-le1.false, c.if-kind-eq2.false),
+        omega
+            (arith, c.kind_at-kind.ensures, c.if-kind-eq5.false, known),
+      ) in it)).1 c.operand_at-operand.ensures).1 in it),
+)
 
 pub bounds-numbers-operand : goal.bounds-numbers-operand
-bounds-numbers-operand c = omega (arith, c.requires.numbered.room, (let it : c.operand_at-operand.result < size c.args.actions.now = (right_below c.args.labels.now c.args.actions.now c.requires.good_actions.0 c.args.node c.requires.node_bound c.kind_at-kind.result c.operand_at-operand.result c.kind_at-kind.ensures ((let it : (3 ≤ c.kind_at-kind.result) × (c.kind_at-kind.result ≤ 4) = let known = (c.requires.good_actions.0.nodes c.args.node c.requires.node_bound).known in (omega (arith, c.if-kind-le1.false, c.if-kind-eq2.false), omega (arith, c.kind_at-kind.ensures, c.if-kind-eq5.false, known)) in it)).0 ((let it : (3 ≤ c.kind_at-kind.result) × (c.kind_at-kind.result ≤ 4) = let known = (c.requires.good_actions.0.nodes c.args.node c.requires.node_bound).known in (omega (arith, c.if-kind-le1.false, c.if-kind-eq2.false), omega (arith, c.kind_at-kind.ensures, c.if-kind-eq5.false, known)) in it)).1 c.operand_at-operand.ensures).1 in it))
+bounds-numbers-operand c = omega (
+  arith,
+  c.requires.numbered.room,
+  (let it : c.operand_at-operand.result < size c.args.actions.now =
+      (right_below c.args.labels.now c.args.actions.now c.requires.good_actions.0 c.args.node c.requires.node_bound
+      c.kind_at-kind.result c.operand_at-operand.result c.kind_at-kind.ensures
+      ((let it : (3 ≤ c.kind_at-kind.result) × (c.kind_at-kind.result ≤ 4) = let known =
+      (c.requires.good_actions.0.nodes c.args.node c.requires.node_bound).known in (
+        omega (arith, c.if-kind-le1.false, c.if-kind-eq2.false),
+        omega
+            (arith, c.kind_at-kind.ensures, c.if-kind-eq5.false, known),
+      ) in it)).0
+      ((let it : (3 ≤ c.kind_at-kind.result) × (c.kind_at-kind.result ≤ 4) = let known =
+      (c.requires.good_actions.0.nodes c.args.node c.requires.node_bound).known in (
+        omega (arith, c.if-kind-le1.false, c.if-kind-eq2.false),
+        omega
+            (arith, c.kind_at-kind.ensures, c.if-kind-eq5.false, known),
+      ) in it)).1 c.operand_at-operand.ensures).1 in it),
+)
 
 pub returns : goal.returns
 returns c =
@@ -65,4 +113,15 @@ returns c =
     (sym c.shaped-2.ensures) (shape_two c.args.labels.now c.args.actions.now
     c.requires.good_actions.0 c.args.node c.requires.node_bound c.args.numbers.now c.requires.numbered
     c.kind_at-kind.result c.operand_at-operand.result c.kind_at-kind.ensures
-    ((let it : (3 ≤ c.kind_at-kind.result) × (c.kind_at-kind.result ≤ 4) = let known = (c.requires.good_actions.0.nodes c.args.node c.requires.node_bound).known in (omega (arith, c.if-kind-le1.false, c.if-kind-eq2.false), omega (arith, c.kind_at-kind.ensures, c.if-kind-eq5.false, known)) in it)).0 ((let it : (3 ≤ c.kind_at-kind.result) × (c.kind_at-kind.result ≤ 4) = let known = (c.requires.good_actions.0.nodes c.args.node c.requires.node_bound).known in (omega (arith, c.if-kind-le1.false, c.if-kind-eq2.false), omega (arith, c.kind_at-kind.ensures, c.if-kind-eq5.false, known)) in it)).1 c.operand_at-operand.ensures)
+    ((let it : (3 ≤ c.kind_at-kind.result) × (c.kind_at-kind.result ≤ 4) = let known =
+    (c.requires.good_actions.0.nodes c.args.node c.requires.node_bound).known in (
+      omega (arith, c.if-kind-le1.false, c.if-kind-eq2.false),
+      omega
+          (arith, c.kind_at-kind.ensures, c.if-kind-eq5.false, known),
+    ) in it)).0
+    ((let it : (3 ≤ c.kind_at-kind.result) × (c.kind_at-kind.result ≤ 4) = let known =
+    (c.requires.good_actions.0.nodes c.args.node c.requires.node_bound).known in (
+      omega (arith, c.if-kind-le1.false, c.if-kind-eq2.false),
+      omega
+          (arith, c.kind_at-kind.ensures, c.if-kind-eq5.false, known),
+    ) in it)).1 c.operand_at-operand.ensures)

@@ -17,7 +17,12 @@ pub action_shape-shape-requires : goal.action_shape-shape-requires
 action_shape-shape-requires c =
     let done = c.loop-i.invariant in
     let more = c.loop-i-test.true in
-    record { good_actions = c.requires.good_actions; node_bound = node_below done more; numbered = later_numbered done more }
+    record {
+      good_actions = c.requires.good_actions;
+      node_bound = node_below done more;
+      numbered = later_numbered
+          done more;
+    }
 
 pub place_node-requires : goal.place_node-requires
 place_node-requires c =
@@ -39,4 +44,8 @@ loop-i-preserved c =
 pub returns : goal.returns
 returns c =
     let done = c.loop-i.invariant in
-    record { numbered = numbering_end done (omega (arith, c.loop-i-test.false)); shapes_len_2 = done.shapes_sized ∙ c.requires.shapes_len.0 }
+    record {
+      numbered = numbering_end done (omega (arith, c.loop-i-test.false));
+      shapes_len_2 = done.shapes_sized ∙
+          c.requires.shapes_len.0;
+    }

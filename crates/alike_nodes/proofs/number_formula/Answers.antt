@@ -10,12 +10,16 @@ pub loop-i-init : goal.loop-i-init
 loop-i-init c =
     let x = input_of c.args.labels.now c.args.system.now c.args.actions.now c.args.formula.now in
     numbering_none (formula_tree x) (FormulaShows x) (size x.formula) c.args.shapes.now c.args.numbers.now
-    c.at-count.result c.requires.shapes_len.0 c.requires.shapes_len.1 c.requires.good_input.0.formula.few c.at-count.ensures.0
+    c.at-count.result c.requires.shapes_len.0 c.requires.shapes_len.1 c.requires.good_input.0.formula.few
+    c.at-count.ensures.0
 
 pub formula_shape-shape-requires : goal.formula_shape-shape-requires
 formula_shape-shape-requires c =
     let done = c.loop-i.invariant in
-    record { good_input = (c.requires.good_input.0, node_below done c.loop-i-test.true, done.placed.numbered.room); action_numbers = (c.requires.good_input.1, c.requires.good_input.2) }
+    record {
+      good_input = (c.requires.good_input.0, node_below done c.loop-i-test.true, done.placed.numbered.room);
+      action_numbers = (c.requires.good_input.1, c.requires.good_input.2);
+    }
 
 pub place_node-requires : goal.place_node-requires
 place_node-requires c =

@@ -37,8 +37,10 @@ loop-node-preserved c =
 
 pub returns-then-count-end : goal.returns-then-count-end
 returns-then-count-end c =
-    sym (c.loop-node.invariant ∙ then_passed _ (from_done _ _ _ _ (omega arith)) ∙ unfinished c.args.formula.now _ _ c.at-count.ensures.0 (c.requires.sized_2.1 0 (omega arith)) c.if-count-end.true)
+    sym (c.loop-node.invariant ∙ then_passed _ (from_done _ _ _ _ (omega arith)) ∙ unfinished c.args.formula.now _
+    _ c.at-count.ensures.0 (c.requires.sized_2.1 0 (omega arith)) c.if-count-end.true)
 
 pub returns : goal.returns
 returns c =
-    sym (c.loop-node.invariant ∙ then_passed _ (from_done _ _ _ _ (omega arith)) ∙ finished c.args.formula.now _ _ c.at-count.ensures.0 (c.requires.sized_2.1 0 (omega arith)) c.if-count-end.false)
+    sym (c.loop-node.invariant ∙ then_passed _ (from_done _ _ _ _ (omega arith)) ∙ finished c.args.formula.now _ _
+    c.at-count.ensures.0 (c.requires.sized_2.1 0 (omega arith)) c.if-count-end.false)

@@ -12,7 +12,8 @@ abbrev pub invariant-loop-node : goal.invariant-loop-node
 invariant-loop-node l =
     refusal44 (names_no_tree l.actions) l.formula
     ≡ and_then (fault_from 44 l.node (size l.formula)
-    (λ j. bad_formula_operand (names_no_tree l.actions) l.formula j || eqb j (end_of (formula_children l.formula) (size l.formula) 0)))
+    (λ j. bad_formula_operand (names_no_tree l.actions) l.formula j || eqb j
+    (end_of (formula_children l.formula) (size l.formula) 0)))
     (fault_if 44 (size l.formula) (ltb (size l.formula) (end_of (formula_children l.formula) (size l.formula) 0)))
 
 abbrev pub decreases-loop-node : goal.decreases-loop-node

@@ -49,4 +49,5 @@ shape_of-out c = c.loop-index.invariant.1.long
 
 pub returns : goal.returns
 returns c =
-    row_done (below c.args.src.now c.args.past) c.args.count c.loop-index.index c.loop-index-test.false c.loop-index.invariant.1
+    row_done (below c.args.src.now c.args.past) c.args.count c.loop-index.index c.loop-index-test.false
+    c.loop-index.invariant.1

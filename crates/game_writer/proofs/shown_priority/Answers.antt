@@ -4,7 +4,8 @@ use Rattle.game_writer.proofs.Vertices.{settled_read, waits_read, priority_waits
 use Rattle.game_writer.proofs.shown_priority.Goals as goal
 
 pub returns-then-region_word-eq0 : goal.returns-then-region_word-eq0
-returns-then-region_word-eq0 c = sym (priority_waits _ _ _ _ _ _ (waits_read _ _ _ _ c.region_word.ensures c.if-region_word-eq0.true))
+returns-then-region_word-eq0 c = sym (priority_waits _ _ _ _ _ _
+    (waits_read _ _ _ _ c.region_word.ensures c.if-region_word-eq0.true))
 
 pub returns-then-first_loops : goal.returns-then-first_loops
 returns-then-first_loops c =

@@ -14,11 +14,16 @@ loop-column-init c = Rattle.words.proofs.Stretches.start
 
 pub write_column-place-requires : goal.write_column-place-requires
 write_column-place-requires c =
-    let h = column_room ((kinds_in c.args.compiled.now)) ((priorities_in c.args.compiled.now)) c.args.work.now c.args.room.vertices
+    let h = column_room ((kinds_in c.args.compiled.now)) ((priorities_in c.args.compiled.now)) c.args.work.now
+    c.args.room.vertices
     c.args.room.edges c.args.known c.loop-column.column
     (omega (arith, c.loop-column-test.true, c.vertex_columns-all.ensures)) c.requires.known_in_bounds
     c.loop-column.invariant in
-    record { showing = c.requires.showing; column_in_bounds = (omega (arith, c.loop-column-test.true, c.vertex_columns-all.ensures), h) }
+    record {
+      showing = c.requires.showing;
+      column_in_bounds =
+          (omega (arith, c.loop-column-test.true, c.vertex_columns-all.ensures), h);
+    }
 
 pub overflow_add-column : goal.overflow_add-column
 overflow_add-column c = omega arith
@@ -28,9 +33,12 @@ loop-column-smaller c = omega arith
 
 pub loop-column-preserved : goal.loop-column-preserved
 loop-column-preserved c =
-    columns_put vertex_columns ((shown_vertices ((kinds_in c.args.compiled.now)) ((priorities_in c.args.compiled.now)) c.args.work.now c.args.room.vertices c.args.room.edges c.args.known)) c.loop-column.column
+    columns_put vertex_columns ((shown_vertices ((kinds_in c.args.compiled.now))
+    ((priorities_in c.args.compiled.now)) c.args.work.now c.args.room.vertices c.args.room.edges c.args.known))
+    c.loop-column.column
     (omega (arith, c.loop-column-test.true, c.vertex_columns-all.ensures))
-    (column_shown ((kinds_in c.args.compiled.now)) ((priorities_in c.args.compiled.now)) c.args.work.now c.args.room.vertices
+    (column_shown ((kinds_in c.args.compiled.now)) ((priorities_in c.args.compiled.now)) c.args.work.now
+    c.args.room.vertices
     c.args.room.edges c.loop-column.column c.args.known)
     c.write_column-place.auto.game c.write_column-place.ensures
     c.loop-column.invariant
@@ -40,5 +48,7 @@ shape_of-game c = c.loop-column.invariant.long
 
 pub returns : goal.returns
 returns c =
-    columns_done vertex_columns ((shown_vertices ((kinds_in c.args.compiled.now)) ((priorities_in c.args.compiled.now)) c.args.work.now c.args.room.vertices c.args.room.edges c.args.known)) c.loop-column.column
+    columns_done vertex_columns ((shown_vertices ((kinds_in c.args.compiled.now))
+    ((priorities_in c.args.compiled.now)) c.args.work.now c.args.room.vertices c.args.room.edges c.args.known))
+    c.loop-column.column
     (omega (arith, c.loop-column-test.false, c.vertex_columns-all.ensures)) c.loop-column.invariant

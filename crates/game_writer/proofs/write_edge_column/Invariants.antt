@@ -10,8 +10,10 @@ abbrev pub invariant-loop-vertex : goal.invariant-loop-vertex
 invariant-loop-vertex l =
     (l.vertex ≤ l.known)
     × ((kinds priorities : List ℕ)
-    → Writing l.place (edge_column_of l.column (later kinds priorities l.work l.room.vertices l.room.edges l.known l.vertex)) l.game
-    l.start (edge_column_of l.column (shown_vertices kinds priorities l.work l.room.vertices l.room.edges l.known)) l.initial.game)
+    → Writing l.place (edge_column_of l.column (later kinds priorities l.work l.room.vertices l.room.edges l.known
+    l.vertex)) l.game
+    l.start (edge_column_of l.column (shown_vertices kinds priorities l.work l.room.vertices l.room.edges l.known))
+    l.initial.game)
 
 abbrev pub decreases-loop-vertex : goal.decreases-loop-vertex
 decreases-loop-vertex l = l.known - l.vertex

@@ -27,7 +27,11 @@ write_edge_column-place-requires c =
     c.args.known c.loop-column.column
     (omega (arith, c.loop-column-test.true, c.edge_columns-all.ensures)) c.requires.known_in_bounds
     (c.loop-column.invariant [] []) in
-    record { showing = c.requires.showing; column_in_bounds = (omega (arith, c.loop-column-test.true, c.edge_columns-all.ensures), h) }
+    record {
+      showing = c.requires.showing;
+      column_in_bounds =
+          (omega (arith, c.loop-column-test.true, c.edge_columns-all.ensures), h);
+    }
 
 pub overflow_add-column : goal.overflow_add-column
 overflow_add-column c = omega arith

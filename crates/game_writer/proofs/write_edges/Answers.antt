@@ -10,12 +10,40 @@ returns-then-held-eq0 c =
     (waits_read _ _ _ _ c.region_word-held.ensures c.if-held-eq0.true)
 
 pub overflow_sub-past : goal.overflow_sub-past
-overflow_sub-past c = omega (arith, (let it : (8 * c.args.room.vertices + c.args.room.edges ≤ c.buffer_end.result) × (c.buffer_end.result ≤ 8 * c.args.room.vertices + 2 * c.args.room.edges) = let ends = column_end c.args.room.vertices c.args.room.edges c.args.column c.requires.column_in_bounds.0 in (omega (arith, ends, c.buffer_end.ensures), omega (arith, ends, c.buffer_end.ensures)) in it), c.region_word.ensures, (let it : start_in c.args.work.now c.args.room.vertices c.args.vertex.0 + degree_in c.args.work.now c.args.room.vertices c.args.vertex.0 ≤ c.args.room.edges = c.requires.showing.edged.stretch c.args.vertex.0 (omega arith) (settled_read _ _ _ _ c.region_word-held.ensures c.if-held-eq0.false) in it))
+overflow_sub-past c = omega (
+  arith,
+  (let it : (8 * c.args.room.vertices + c.args.room.edges ≤ c.buffer_end.result)
+      × (c.buffer_end.result ≤ 8 * c.args.room.vertices + 2 * c.args.room.edges) = let ends = column_end
+      c.args.room.vertices c.args.room.edges c.args.column c.requires.column_in_bounds.0 in
+      (omega (arith, ends, c.buffer_end.ensures), omega (arith, ends, c.buffer_end.ensures)) in it),
+  c.region_word.ensures,
+  (let it : start_in c.args.work.now c.args.room.vertices c.args.vertex.0 + degree_in
+      c.args.work.now c.args.room.vertices c.args.vertex.0 ≤ c.args.room.edges = c.requires.showing.edged.stretch
+      c.args.vertex.0 (omega arith) (settled_read _ _ _ _ c.region_word-held.ensures c.if-held-eq0.false) in it),
+)
 
 pub copy_down-requires : goal.copy_down-requires
 copy_down-requires c = (
-  omega (arith, (let it : (8 * c.args.room.vertices + c.args.room.edges ≤ c.buffer_end.result) × (c.buffer_end.result ≤ 8 * c.args.room.vertices + 2 * c.args.room.edges) = let ends = column_end c.args.room.vertices c.args.room.edges c.args.column c.requires.column_in_bounds.0 in (omega (arith, ends, c.buffer_end.ensures), omega (arith, ends, c.buffer_end.ensures)) in it), c.region_word.ensures, c.region_word-held.ensures, (let it : start_in c.args.work.now c.args.room.vertices c.args.vertex.0 + degree_in c.args.work.now c.args.room.vertices c.args.vertex.0 ≤ c.args.room.edges = c.requires.showing.edged.stretch c.args.vertex.0 (omega arith) (settled_read _ _ _ _ c.region_word-held.ensures c.if-held-eq0.false) in it)),
-  omega (arith, (let it : (8 * c.args.room.vertices + c.args.room.edges ≤ c.buffer_end.result) × (c.buffer_end.result ≤ 8 * c.args.room.vertices + 2 * c.args.room.edges) = let ends = column_end c.args.room.vertices c.args.room.edges c.args.column c.requires.column_in_bounds.0 in (omega (arith, ends, c.buffer_end.ensures), omega (arith, ends, c.buffer_end.ensures)) in it), c.requires.showing.placed.whole),
+  omega (
+    arith,
+    (let it : (8 * c.args.room.vertices + c.args.room.edges ≤ c.buffer_end.result) ×
+        (c.buffer_end.result ≤ 8 * c.args.room.vertices + 2 * c.args.room.edges) = let ends = column_end
+        c.args.room.vertices c.args.room.edges c.args.column c.requires.column_in_bounds.0 in
+        (omega (arith, ends, c.buffer_end.ensures), omega (arith, ends, c.buffer_end.ensures)) in it),
+    c.region_word.ensures,
+    c.region_word-held.ensures,
+    (let it : start_in c.args.work.now c.args.room.vertices c.args.vertex.0 + degree_in c.args.work.now
+        c.args.room.vertices c.args.vertex.0 ≤ c.args.room.edges = c.requires.showing.edged.stretch c.args.vertex.0
+        (omega arith) (settled_read _ _ _ _ c.region_word-held.ensures c.if-held-eq0.false) in it),
+  ),
+  omega (
+    arith,
+    (let it : (8 * c.args.room.vertices + c.args.room.edges ≤ c.buffer_end.result) ×
+        (c.buffer_end.result ≤ 8 * c.args.room.vertices + 2 * c.args.room.edges) = let ends = column_end
+        c.args.room.vertices c.args.room.edges c.args.column c.requires.column_in_bounds.0 in
+        (omega (arith, ends, c.buffer_end.ensures), omega (arith, ends, c.buffer_end.ensures)) in it),
+    c.requires.showing.placed.whole,
+  ),
   omega (arith, c.requires.column_in_bounds.1, c.region_word-held.ensures),
 )
 

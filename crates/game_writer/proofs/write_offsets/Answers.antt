@@ -21,19 +21,40 @@ degree_of-degree-requires c =
     (omega (arith, p.whole), omega (arith, p.known, c.loop-vertex-test.true))
 
 pub offset_bounds-game-place : goal.offset_bounds-game-place
-offset_bounds-game-place c = omega (arith, (let it : c.loop-vertex.place < length c.loop-vertex.game = offsets_room [] [] c.args.work.now c.args.room.vertices c.args.room.edges c.args.known c.loop-vertex.edges c.loop-vertex.vertex c.loop-vertex.invariant.0 c.requires.known_bound.1 (c.loop-vertex.invariant.2 [] []) in it), (c.loop-vertex.invariant.2 [] []).long)
+offset_bounds-game-place c = omega (
+  arith,
+  (let it : c.loop-vertex.place < length c.loop-vertex.game = offsets_room
+      [] [] c.args.work.now c.args.room.vertices c.args.room.edges c.args.known c.loop-vertex.edges
+      c.loop-vertex.vertex c.loop-vertex.invariant.0 c.requires.known_bound.1 (c.loop-vertex.invariant.2 [] []) in
+      it),
+  (c.loop-vertex.invariant.2 [] []).long,
+)
 
 pub bounds-game-place : goal.bounds-game-place
-bounds-game-place c = (let it : c.loop-vertex.place < length c.loop-vertex.game = offsets_room [] [] c.args.work.now c.args.room.vertices c.args.room.edges c.args.known c.loop-vertex.edges c.loop-vertex.vertex c.loop-vertex.invariant.0 c.requires.known_bound.1 (c.loop-vertex.invariant.2 [] []) in it)
+bounds-game-place c = (let it : c.loop-vertex.place < length c.loop-vertex.game = offsets_room [] []
+    c.args.work.now c.args.room.vertices c.args.room.edges c.args.known c.loop-vertex.edges c.loop-vertex.vertex
+    c.loop-vertex.invariant.0 c.requires.known_bound.1 (c.loop-vertex.invariant.2 [] []) in it)
 
 pub overflow_add-place : goal.overflow_add-place
-overflow_add-place c = omega (arith, (let it : c.loop-vertex.place < length c.loop-vertex.game = offsets_room [] [] c.args.work.now c.args.room.vertices c.args.room.edges c.args.known c.loop-vertex.edges c.loop-vertex.vertex c.loop-vertex.invariant.0 c.requires.known_bound.1 (c.loop-vertex.invariant.2 [] []) in it), (c.loop-vertex.invariant.2 [] []).long)
+overflow_add-place c = omega (
+  arith,
+  (let it : c.loop-vertex.place < length c.loop-vertex.game = offsets_room [] []
+      c.args.work.now c.args.room.vertices c.args.room.edges c.args.known c.loop-vertex.edges c.loop-vertex.vertex
+      c.loop-vertex.invariant.0 c.requires.known_bound.1 (c.loop-vertex.invariant.2 [] []) in it),
+  (c.loop-vertex.invariant.2 [] []).long,
+)
 
 pub overflow_add-edges : goal.overflow_add-edges
 overflow_add-edges c =
     let most = below_most [] [] c.args.work.now c.args.room.vertices c.args.room.edges
     c.args.known c.loop-vertex.vertex in
-    omega (arith, most c.loop-vertex-test.true, c.loop-vertex.invariant.1, c.degree_of-degree.ensures, c.requires.known_bound.0)
+    omega (
+      arith,
+      most c.loop-vertex-test.true,
+      c.loop-vertex.invariant.1,
+      c.degree_of-degree.ensures,
+      c.requires.known_bound.0,
+    )
 
 pub overflow_add-vertex : goal.overflow_add-vertex
 overflow_add-vertex c = omega arith
@@ -48,23 +69,46 @@ loop-vertex-preserved c = (
       c.degree_of-degree.ensures,
   λ ks ps. offsets_put ks ps c.args.work.now c.args.room.vertices c.args.room.edges
       c.args.known c.loop-vertex.edges c.loop-vertex.vertex _ c.degree_of-degree.ensures c.loop-vertex-test.true
-      ((let it : c.loop-vertex.place < length c.loop-vertex.game = offsets_room [] [] c.args.work.now c.args.room.vertices c.args.room.edges c.args.known c.loop-vertex.edges c.loop-vertex.vertex c.loop-vertex.invariant.0 c.requires.known_bound.1 (c.loop-vertex.invariant.2 [] []) in it)) (c.loop-vertex.invariant.2 ks ps),
+      ((let it : c.loop-vertex.place < length c.loop-vertex.game = offsets_room [] [] c.args.work.now
+      c.args.room.vertices c.args.room.edges c.args.known c.loop-vertex.edges c.loop-vertex.vertex
+      c.loop-vertex.invariant.0 c.requires.known_bound.1 (c.loop-vertex.invariant.2 [] []) in it))
+      (c.loop-vertex.invariant.2 ks ps),
 )
 
 pub offset_bounds-game-place-2 : goal.offset_bounds-game-place-2
-offset_bounds-game-place-2 c = omega (arith, (let it : c.loop-vertex.place < length c.loop-vertex.game = offsets_room [] [] c.args.work.now c.args.room.vertices c.args.room.edges c.args.known c.loop-vertex.edges c.loop-vertex.vertex c.loop-vertex.invariant.0 c.requires.known_bound.1 (c.loop-vertex.invariant.2 [] []) in it), (c.loop-vertex.invariant.2 [] []).long)
+offset_bounds-game-place-2 c = omega (
+  arith,
+  (let it : c.loop-vertex.place < length c.loop-vertex.game =
+      offsets_room [] [] c.args.work.now c.args.room.vertices c.args.room.edges c.args.known c.loop-vertex.edges
+      c.loop-vertex.vertex c.loop-vertex.invariant.0 c.requires.known_bound.1 (c.loop-vertex.invariant.2 [] []) in
+      it),
+  (c.loop-vertex.invariant.2 [] []).long,
+)
 
 pub bounds-game-place-2 : goal.bounds-game-place-2
-bounds-game-place-2 c = (let it : c.loop-vertex.place < length c.loop-vertex.game = offsets_room [] [] c.args.work.now c.args.room.vertices c.args.room.edges c.args.known c.loop-vertex.edges c.loop-vertex.vertex c.loop-vertex.invariant.0 c.requires.known_bound.1 (c.loop-vertex.invariant.2 [] []) in it)
+bounds-game-place-2 c = (let it : c.loop-vertex.place < length c.loop-vertex.game = offsets_room [] []
+    c.args.work.now c.args.room.vertices c.args.room.edges c.args.known c.loop-vertex.edges c.loop-vertex.vertex
+    c.loop-vertex.invariant.0 c.requires.known_bound.1 (c.loop-vertex.invariant.2 [] []) in it)
 
 pub overflow_add-result : goal.overflow_add-result
-overflow_add-result c = omega (arith, (let it : c.loop-vertex.place < length c.loop-vertex.game = offsets_room [] [] c.args.work.now c.args.room.vertices c.args.room.edges c.args.known c.loop-vertex.edges c.loop-vertex.vertex c.loop-vertex.invariant.0 c.requires.known_bound.1 (c.loop-vertex.invariant.2 [] []) in it), (c.loop-vertex.invariant.2 [] []).long)
+overflow_add-result c = omega (
+  arith,
+  (let it : c.loop-vertex.place < length c.loop-vertex.game = offsets_room []
+      [] c.args.work.now c.args.room.vertices c.args.room.edges c.args.known c.loop-vertex.edges c.loop-vertex.vertex
+      c.loop-vertex.invariant.0 c.requires.known_bound.1 (c.loop-vertex.invariant.2 [] []) in it),
+  (c.loop-vertex.invariant.2 [] []).long,
+)
 
 pub shape_of-game : goal.shape_of-game
 shape_of-game c =
-    length-set {A = ℕ} c.loop-vertex.game c.loop-vertex.place c.loop-vertex.edges ∙ (c.loop-vertex.invariant.2 [] []).long
+    length-set {A = ℕ} c.loop-vertex.game c.loop-vertex.place c.loop-vertex.edges ∙
+    (c.loop-vertex.invariant.2 [] []).long
 
 pub returns : goal.returns
 returns c =
     λ ks ps. offsets_done ks ps c.args.work.now c.args.room.vertices c.args.room.edges
-    c.args.known c.loop-vertex.edges c.loop-vertex.vertex c.loop-vertex-test.false ((let it : c.loop-vertex.place < length c.loop-vertex.game = offsets_room [] [] c.args.work.now c.args.room.vertices c.args.room.edges c.args.known c.loop-vertex.edges c.loop-vertex.vertex c.loop-vertex.invariant.0 c.requires.known_bound.1 (c.loop-vertex.invariant.2 [] []) in it)) (c.loop-vertex.invariant.2 ks ps)
+    c.args.known c.loop-vertex.edges c.loop-vertex.vertex c.loop-vertex-test.false
+    ((let it : c.loop-vertex.place < length c.loop-vertex.game = offsets_room [] [] c.args.work.now
+    c.args.room.vertices c.args.room.edges c.args.known c.loop-vertex.edges c.loop-vertex.vertex
+    c.loop-vertex.invariant.0 c.requires.known_bound.1 (c.loop-vertex.invariant.2 [] []) in it))
+    (c.loop-vertex.invariant.2 ks ps)

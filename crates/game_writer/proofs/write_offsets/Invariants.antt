@@ -12,7 +12,8 @@ abbrev pub invariant-loop-vertex : goal.invariant-loop-vertex
 invariant-loop-vertex l =
     (l.vertex ≤ l.known) × (l.edges ≡ degrees_in l.work l.room.vertices l.vertex)
     × ((kinds priorities : List ℕ)
-    → Writing l.place (offsets l.edges (later kinds priorities l.work l.room.vertices l.room.edges l.known l.vertex)) l.game l.start
+    → Writing l.place (offsets l.edges (later kinds priorities l.work l.room.vertices l.room.edges l.known
+    l.vertex)) l.game l.start
     (offsets 0 (shown_vertices kinds priorities l.work l.room.vertices l.room.edges l.known)) l.initial.game)
 
 abbrev pub decreases-loop-vertex : goal.decreases-loop-vertex

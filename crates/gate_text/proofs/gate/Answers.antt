@@ -20,8 +20,11 @@ pub finish-requires : goal.finish-requires
 unfolding gate_text_length
 finish-requires c =
     let l = c.if-text-lt16384.false in
-    let f = gate_fits c.args.bytes.now in
-    (omega (arith, c.put_program-size.ensures.past, c.put_program-size.auto.text, f, l), omega (arith, c.put_program-size.ensures.past, f))
+    let f = gate_fits c.args.bytes.now in (
+      omega (arith, c.put_program-size.ensures.past, c.put_program-size.auto.text, f, l),
+      omega
+          (arith, c.put_program-size.ensures.past, f),
+    )
 
 pub shape_of-text : goal.shape_of-text
 shape_of-text c =

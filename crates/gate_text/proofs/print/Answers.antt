@@ -6,20 +6,19 @@ use Rattle.gate_text.proofs.print.Goals as goal
 
 pub put_game-requires : goal.put_game-requires
 put_game-requires c =
-    let e = c.in-Done.is in record { shown = c.requires.shown (done_printed c.args.answer _ _ _ e); game_in_bounds = room (report_done c.args.answer c.args.game.now _ _ _ e) c.requires.game_in_bounds }
-
--- GONE slice-aggregate-put-game-3 : tie.Need-slice-aggregate-put-game-3
--- GONE slice-aggregate-put-game-3 c = search rules
-
--- GONE slice-aggregate-put-game-4 : tie.Need-slice-aggregate-put-game-4
--- GONE slice-aggregate-put-game-4 c = search rules
+    let e = c.in-Done.is in record {
+      shown = c.requires.shown (done_printed c.args.answer _ _ _ e);
+      game_in_bounds
+          = room (report_done c.args.answer c.args.game.now _ _ _ e) c.requires.game_in_bounds;
+    }
 
 pub put_game-requires-in-Cut : goal.put_game-requires-in-Cut
 put_game-requires-in-Cut c =
-    let e = c.in-Cut.is in record { shown = c.requires.shown (cut_printed c.args.answer _ _ _ e); game_in_bounds = room (report_cut c.args.answer c.args.game.now _ _ _ e) c.requires.game_in_bounds }
-
--- GONE slice-aggregate-put-line-2 : tie.Need-slice-aggregate-put-line-2
--- GONE slice-aggregate-put-line-2 c = search rules
+    let e = c.in-Cut.is in record {
+      shown = c.requires.shown (cut_printed c.args.answer _ _ _ e);
+      game_in_bounds =
+          room (report_cut c.args.answer c.args.game.now _ _ _ e) c.requires.game_in_bounds;
+    }
 
 pub put_line-requires : goal.put_line-requires
 put_line-requires c =

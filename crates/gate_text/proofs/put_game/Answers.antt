@@ -19,7 +19,11 @@ put_vertices-requires c =
     let g = c.args.game.now in
     let first = line c.args.name.now c.args.numbers.now in
     let l = length-append first (vertex_lines g 0 (vertex_count g)) in
-    record { shown = c.requires.shown; game_in_bounds = omega (arith, c.requires.game_in_bounds, l, c.put_line-past_line.ensures.past, c.put_line-past_line.auto.text) }
+    record {
+      shown = c.requires.shown;
+      game_in_bounds = omega
+          (arith, c.requires.game_in_bounds, l, c.put_line-past_line.ensures.past, c.put_line-past_line.auto.text);
+    }
 
 pub shape_of-text : goal.shape_of-text
 shape_of-text c =

@@ -8,7 +8,11 @@ use Rattle.gate_text.proofs.put_program.Goals as goal
 
 pub slice_bounds-ws-end : goal.slice_bounds-ws-end
 slice_bounds-ws-end c =
-    omega (arith, read_count c.decode-read.result c.in-Read.count c.in-Read.is c.decode-read.ensures.1, c.decode-read.auto.words)
+    omega (
+      arith,
+      read_count c.decode-read.result c.in-Read.count c.in-Read.is c.decode-read.ensures.1,
+      c.decode-read.auto.words,
+    )
 
 pub slice_bounds-run_words-end : goal.slice_bounds-run_words-end
 slice_bounds-run_words-end c =
@@ -17,14 +21,11 @@ slice_bounds-run_words-end c =
 
 pub run_words-requires : goal.run_words-requires
 run_words-requires c =
-    let b = c.args.bytes.now in
-    (read_agrees b c.decode-read.new.words c.decode-read.result c.decode-read.ensures.0 c.in-Read.count c.in-Read.is, c.requires)
-
--- GONE slice-aggregate-put-line : tie.Need-slice-aggregate-put-line
--- GONE slice-aggregate-put-line c = search rules
-
--- GONE slice-aggregate-put-line-2 : tie.Need-slice-aggregate-put-line-2
--- GONE slice-aggregate-put-line-2 c = search rules
+    let b = c.args.bytes.now in (
+      read_agrees b c.decode-read.new.words c.decode-read.result c.decode-read.ensures.0 c.in-Read.count
+          c.in-Read.is,
+      c.requires,
+    )
 
 pub put_line-requires : goal.put_line-requires
 put_line-requires c =
@@ -49,4 +50,5 @@ pub returns-in-Unreadable : goal.returns-in-Unreadable
 returns-in-Unreadable c =
     let b = c.args.bytes.now in
     let u = c.in-Unreadable.is in
-    wrote_as (unreadable_printed b c.decode-read.new.words c.decode-read.result c.decode-read.ensures.0 u) c.put_line.ensures
+    wrote_as (unreadable_printed b c.decode-read.new.words c.decode-read.result c.decode-read.ensures.0 u)
+    c.put_line.ensures

@@ -7,7 +7,8 @@ use Rattle.gate_text.proofs.put_vertices.Given as goal
 
 abbrev pub invariant-loop-vertex : goal.invariant-loop-vertex
 invariant-loop-vertex l =
-    (l.vertex ≤ l.count) × Writing l.place (vertex_lines l.game l.vertex (vertex_count l.game - l.vertex)) l.text l.start (vertex_lines l.game 0 (vertex_count l.game))
+    (l.vertex ≤ l.count) × Writing l.place (vertex_lines l.game l.vertex (vertex_count l.game - l.vertex)) l.text
+    l.start (vertex_lines l.game 0 (vertex_count l.game))
     l.initial.text
 
 abbrev pub decreases-loop-vertex : goal.decreases-loop-vertex

@@ -8,7 +8,8 @@ use Rattle.gate_text.proofs.Decoding.{followed}
 use Rattle.gate_text.proofs.read_words.Given as goal
 
 abbrev pub invariant-loop-i : goal.invariant-loop-i
-invariant-loop-i l = (l.i ≤ l.count) × (length l.words ≡ length l.initial.words) × (words_of l.bytes ≡ followed (take l.i l.words) (words_of (drop (4 * l.i) l.bytes)))
+invariant-loop-i l = (l.i ≤ l.count) × (length l.words ≡ length l.initial.words) ×
+    (words_of l.bytes ≡ followed (take l.i l.words) (words_of (drop (4 * l.i) l.bytes)))
 
 abbrev pub decreases-loop-i : goal.decreases-loop-i
 decreases-loop-i l = l.count - l.i

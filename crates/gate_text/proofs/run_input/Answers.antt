@@ -9,7 +9,11 @@ pub print-requires : goal.print-requires
 unfolding gate_run gate_room gate_steps game_length work_length
 print-requires c =
     let x = input_of c.args.labels.now c.args.system.now c.args.actions.now c.args.formula.now in
-    record { game_in_bounds = run_room x c.translate-answer.result _ _ c.translate-answer.ensures.equals _ c.requires; shown = game_shown x c.translate-answer.result _ _ c.translate-answer.ensures.equals }
+    record {
+      game_in_bounds = run_room x c.translate-answer.result _ _ c.translate-answer.ensures.equals _
+          c.requires;
+      shown = game_shown x c.translate-answer.result _ _ c.translate-answer.ensures.equals;
+    }
 
 pub returns : goal.returns
 unfolding gate_run gate_room gate_steps game_length work_length

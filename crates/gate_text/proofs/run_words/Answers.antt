@@ -22,19 +22,69 @@ at-requires-2 c =
     omega (arith, four_words c.args.ws.now c.requires.0)
 
 pub slice_bounds-run_input-end : goal.slice_bounds-run_input-end
-slice_bounds-run_input-end c = omega (arith, (let it : 4 + c.at-labels_end.result + c.at.result + c.at-2.result ≤ length c.args.ws.now = omega (arith, all_words c.args.ws.now c.requires.0, c.at-labels_end.ensures.0, c.at.ensures.0, c.at-2.ensures.0) in it))
+slice_bounds-run_input-end c = omega (
+  arith,
+  (let it : 4 + c.at-labels_end.result + c.at.result + c.at-2.result ≤
+      length c.args.ws.now = omega (
+        arith,
+        all_words c.args.ws.now c.requires.0,
+        c.at-labels_end.ensures.0,
+        c.at.ensures.0,
+        c.at-2.ensures.0,
+      ) in it),
+)
 
 pub slice_bounds-run_input-end-2 : goal.slice_bounds-run_input-end-2
-slice_bounds-run_input-end-2 c = omega (arith, (let it : 4 + c.at-labels_end.result + c.at.result + c.at-2.result ≤ length c.args.ws.now = omega (arith, all_words c.args.ws.now c.requires.0, c.at-labels_end.ensures.0, c.at.ensures.0, c.at-2.ensures.0) in it))
+slice_bounds-run_input-end-2 c = omega (
+  arith,
+  (let it : 4 + c.at-labels_end.result + c.at.result + c.at-2.result ≤
+      length c.args.ws.now = omega (
+        arith,
+        all_words c.args.ws.now c.requires.0,
+        c.at-labels_end.ensures.0,
+        c.at.ensures.0,
+        c.at-2.ensures.0,
+      ) in it),
+)
 
 pub slice_bounds-run_input-end-3 : goal.slice_bounds-run_input-end-3
-slice_bounds-run_input-end-3 c = omega (arith, (let it : 4 + c.at-labels_end.result + c.at.result + c.at-2.result ≤ length c.args.ws.now = omega (arith, all_words c.args.ws.now c.requires.0, c.at-labels_end.ensures.0, c.at.ensures.0, c.at-2.ensures.0) in it))
+slice_bounds-run_input-end-3 c = omega (
+  arith,
+  (let it : 4 + c.at-labels_end.result + c.at.result + c.at-2.result ≤
+      length c.args.ws.now = omega (
+        arith,
+        all_words c.args.ws.now c.requires.0,
+        c.at-labels_end.ensures.0,
+        c.at.ensures.0,
+        c.at-2.ensures.0,
+      ) in it),
+)
 
 pub slice_bounds-run_input-count-4 : goal.slice_bounds-run_input-count-4
-slice_bounds-run_input-count-4 c = omega (arith, (let it : 4 + c.at-labels_end.result + c.at.result + c.at-2.result ≤ length c.args.ws.now = omega (arith, all_words c.args.ws.now c.requires.0, c.at-labels_end.ensures.0, c.at.ensures.0, c.at-2.ensures.0) in it))
+slice_bounds-run_input-count-4 c = omega (
+  arith,
+  (let it : 4 + c.at-labels_end.result + c.at.result + c.at-2.result
+      ≤ length c.args.ws.now = omega (
+        arith,
+        all_words c.args.ws.now c.requires.0,
+        c.at-labels_end.ensures.0,
+        c.at.ensures.0,
+        c.at-2.ensures.0,
+      ) in it),
+)
 
 pub slice_bounds-run_input-start-4 : goal.slice_bounds-run_input-start-4
-slice_bounds-run_input-start-4 c = omega (arith, (let it : 4 + c.at-labels_end.result + c.at.result + c.at-2.result ≤ length c.args.ws.now = omega (arith, all_words c.args.ws.now c.requires.0, c.at-labels_end.ensures.0, c.at.ensures.0, c.at-2.ensures.0) in it))
+slice_bounds-run_input-start-4 c = omega (
+  arith,
+  (let it : 4 + c.at-labels_end.result + c.at.result + c.at-2.result
+      ≤ length c.args.ws.now = omega (
+        arith,
+        all_words c.args.ws.now c.requires.0,
+        c.at-labels_end.ensures.0,
+        c.at.ensures.0,
+        c.at-2.ensures.0,
+      ) in it),
+)
 
 pub returns : goal.returns
 returns c =

@@ -6,5 +6,11 @@ use Rattle.hingrezh.proofs.hingrezh_read_pgsolver.Goals as goal
 pub returns : goal.returns
 returns c =
     let it =
-    reading_carried _ _ _ _ _ c.read_pgsolver-result.result c.put_answer.ensures (c.read_pgsolver-result.ensures.equals, (c.read_pgsolver-result.ensures.coded, c.read_pgsolver-result.ensures.demand)) in
+    reading_carried _ _ _ _ _ c.read_pgsolver-result.result c.put_answer.ensures (
+      c.read_pgsolver-result.ensures.equals,
+      (
+        c.read_pgsolver-result.ensures.coded,
+        c.read_pgsolver-result.ensures.demand,
+      ),
+    ) in
     record { coded = it.0; equals = it.1.0; demand = it.1.1 }

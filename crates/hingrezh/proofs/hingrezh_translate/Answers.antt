@@ -6,5 +6,17 @@ use Rattle.hingrezh.proofs.hingrezh_translate.Goals as goal
 pub returns : goal.returns
 returns c =
     let it =
-    run_carried _ _ _ _ _ _ _ _ _ c.put_answer.ensures (c.translate-result.ensures.equals, (c.translate-result.ensures.coded, (c.translate-result.ensures.demand1, (c.translate-result.ensures.demand3, c.translate-result.ensures.no_false_pass)))) in
+    run_carried _ _ _ _ _ _ _ _ _ c.put_answer.ensures (
+      c.translate-result.ensures.equals,
+      (
+        c.translate-result.ensures.coded,
+        (
+          c.translate-result.ensures.demand1,
+          (
+            c.translate-result.ensures.demand3,
+            c.translate-result.ensures.no_false_pass,
+          ),
+        ),
+      ),
+    ) in
     record { coded = it.0; equals = it.1.0; demand1 = it.1.1.0; demand3 = it.1.1.1.0; no_false_pass = it.1.1.1.1 }

@@ -6,5 +6,11 @@ use Rattle.hingrezh.proofs.hingrezh_write_pgsolver.Goals as goal
 pub returns : goal.returns
 returns c =
     let it =
-    writing_carried _ _ _ _ c.write_pgsolver-result.result c.put_answer.ensures (c.write_pgsolver-result.ensures.equals, (c.write_pgsolver-result.ensures.coded, c.write_pgsolver-result.ensures.demand)) in
+    writing_carried _ _ _ _ c.write_pgsolver-result.result c.put_answer.ensures (
+      c.write_pgsolver-result.ensures.equals,
+      (
+        c.write_pgsolver-result.ensures.coded,
+        c.write_pgsolver-result.ensures.demand,
+      ),
+    ) in
     record { coded = it.0; equals = it.1.0; demand = it.1.1 }

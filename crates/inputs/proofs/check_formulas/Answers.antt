@@ -10,9 +10,11 @@ check_formula-requires c = actions_passed _ _ (sym c.check_actions-checked.ensur
 pub returns-in-Fault : goal.returns-in-Fault
 returns-in-Fault c =
     let a = c.args in
-    sym (first_fault_of (action_checks a.labels.now a.actions.now) _ (sym c.check_actions-checked.ensures ∙ c.in-Fault.is))
+    sym (first_fault_of (action_checks a.labels.now a.actions.now) _
+    (sym c.check_actions-checked.ensures ∙ c.in-Fault.is))
 
 pub returns-in-Passed : goal.returns-in-Passed
 returns-in-Passed c =
     let a = c.args in
-    c.check_formula.ensures ∙ sym (first_next_of (action_checks a.labels.now a.actions.now) _ (sym c.check_actions-checked.ensures ∙ c.in-Passed.is))
+    c.check_formula.ensures ∙ sym (first_next_of (action_checks a.labels.now a.actions.now) _
+    (sym c.check_actions-checked.ensures ∙ c.in-Passed.is))

@@ -17,16 +17,21 @@ check_formulas-requires c =
 pub returns-in-Fault : goal.returns-in-Fault
 returns-in-Fault c =
     let a = c.args in
-    sym (words_order _ _ _ _ ∙ first_fault_of (label_checks a.labels.now) _ (sym c.check_labels-first.ensures ∙ c.in-Fault.is))
+    sym (words_order _ _ _ _ ∙ first_fault_of (label_checks a.labels.now) _
+    (sym c.check_labels-first.ensures ∙ c.in-Fault.is))
 
 pub returns-in-Fault-second : goal.returns-in-Fault-second
 returns-in-Fault-second c =
     let a = c.args in
-    sym (words_order _ _ _ _ ∙ first_next_of (label_checks a.labels.now) _ (sym c.check_labels-first.ensures ∙ c.in-Passed.is)
-    ∙ first_fault_of (system_checks a.labels.now a.system.now) _ (sym c.check_system-second.ensures ∙ c.in-Fault-second.is))
+    sym (words_order _ _ _ _ ∙ first_next_of (label_checks a.labels.now) _
+    (sym c.check_labels-first.ensures ∙ c.in-Passed.is)
+    ∙ first_fault_of (system_checks a.labels.now a.system.now) _
+    (sym c.check_system-second.ensures ∙ c.in-Fault-second.is))
 
 pub returns-in-Passed-second : goal.returns-in-Passed-second
 returns-in-Passed-second c =
     let a = c.args in
-    c.check_formulas.ensures ∙ sym (words_order _ _ _ _ ∙ first_next_of (label_checks a.labels.now) _ (sym c.check_labels-first.ensures ∙ c.in-Passed.is)
-    ∙ first_next_of (system_checks a.labels.now a.system.now) _ (sym c.check_system-second.ensures ∙ c.in-Passed-second.is))
+    c.check_formulas.ensures ∙ sym (words_order _ _ _ _ ∙ first_next_of (label_checks a.labels.now) _
+    (sym c.check_labels-first.ensures ∙ c.in-Passed.is)
+    ∙ first_next_of (system_checks a.labels.now a.system.now) _
+    (sym c.check_system-second.ensures ∙ c.in-Passed-second.is))

@@ -14,11 +14,21 @@ use Rattle.item_table.proofs.compile.Goals as goal
 
 pub make_items-items-requires : goal.make_items-items-requires
 make_items-items-requires c =
-    record { good_input = (c.requires.good_input.0, c.requires.good_input.1, c.requires.compiled_len); listed = (c.list_equations-count.ensures.listed, c.list_equations-count.ensures.value); most_nodes_in_bounds = (search rules, search rules) }
+    record {
+      good_input = (c.requires.good_input.0, c.requires.good_input.1, c.requires.compiled_len);
+      listed =
+          (c.list_equations-count.ensures.listed, c.list_equations-count.ensures.value);
+      most_nodes_in_bounds =
+          (search rules, search rules);
+    }
 
 pub put_priorities-requires : goal.put_priorities-requires
 put_priorities-requires c =
-    record { listed = (c.list_equations-count.ensures.listed, c.list_equations-count.ensures.value); compiled_len = c.make_items-items.ensures.items_only.sized ∙ c.requires.compiled_len }
+    record {
+      listed = (c.list_equations-count.ensures.listed, c.list_equations-count.ensures.value);
+      compiled_len =
+          c.make_items-items.ensures.items_only.sized ∙ c.requires.compiled_len;
+    }
 
 pub returns : goal.returns
 returns c =
@@ -29,8 +39,10 @@ returns c =
     let only = c.put_priorities.ensures.priorities_only.only in
     let after = c.put_priorities.new.compiled in record {
       value = c.make_items-items.ensures.value;
-      item_table = table_kept x good _ _ whole c.make_items-items.ensures.shown_in c.put_priorities.ensures.priorities_only;
-      ranks = ranks_made x good by_depth (λ i. by_depth_words (formula_only x.formula) x i refl) c.list_equations-count.result _
+      item_table = table_kept x good _ _ whole c.make_items-items.ensures.shown_in
+          c.put_priorities.ensures.priorities_only;
+      ranks = ranks_made x good by_depth (λ i. by_depth_words (formula_only x.formula) x i refl)
+          c.list_equations-count.result _
           (priorities_in after) c.list_equations-count.ensures.value (omega (
             arith,
             whole,

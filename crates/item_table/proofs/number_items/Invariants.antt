@@ -10,7 +10,8 @@ use Rattle.item_table.proofs.number_items.Given as goal
 
 abbrev pub invariant-loop-node : goal.invariant-loop-node
 invariant-loop-node l =
-    (length l.numbers ≡ length l.initial.numbers) × (l.node ≤ l.size) × (first_body_node l.formula ≤ l.node) × (l.size ≡ size l.formula)
+    (length l.numbers ≡ length l.initial.numbers) × (l.node ≤ l.size) × (first_body_node l.formula ≤ l.node) ×
+    (l.size ≡ size l.formula)
     × Numbering (input_of l.labels l.system l.actions l.formula) l.nodes l.node l.next l.numbers
 
 abbrev pub decreases-loop-node : goal.decreases-loop-node

@@ -9,21 +9,10 @@ use Rattle.item_table.proofs.Filling.{ranked_between}
 use Rattle.item_table.proofs.Parts.{priorities_length, once_part, twice_part, twice_only}
 use Rattle.item_table.proofs.put_priorities.Goals as goal
 
--- GONE part-clear-start : tie.Need-slice-bounds-clear-start
--- GONE part-clear-start c = search rules
-
--- GONE part-clear-end : tie.Need-slice-bounds-clear-end
--- GONE part-clear-end c = search rules
-
--- GONE part-list-priorities-start : tie.Need-slice-bounds-list-priorities-start
--- GONE part-list-priorities-start c = search rules
-
--- GONE part-list-priorities-end : tie.Need-slice-bounds-list-priorities-end
--- GONE part-list-priorities-end c = search rules
-
 pub list_priorities-requires : goal.list_priorities-requires
 list_priorities-requires c =
-    let ys-sized = c.clear.auto.ws ∙ priorities_length c.args.compiled.now (omega (arith, c.requires.compiled_len)) in record {
+    let ys-sized = c.clear.auto.ws ∙ priorities_length c.args.compiled.now (omega (arith, c.requires.compiled_len))
+    in record {
       listed = c.requires.listed.0;
       count_value = (
         c.requires.listed.1,

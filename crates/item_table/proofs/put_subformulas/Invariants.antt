@@ -12,7 +12,8 @@ use Rattle.item_table.proofs.put_subformulas.Given as goal
 abbrev pub invariant-loop-node : goal.invariant-loop-node
 invariant-loop-node l =
     (l.node ≤ l.size) × (first_body_node l.formula ≤ l.node) × (l.size ≡ size l.formula)
-    × NodesShown (input_of l.labels l.system l.actions l.formula) l.node (kinds_in l.compiled) (lefts_in l.compiled) (rights_in l.compiled)
+    × NodesShown (input_of l.labels l.system l.actions l.formula) l.node (kinds_in l.compiled)
+    (lefts_in l.compiled) (rights_in l.compiled)
     × ItemsOnly l.initial.compiled l.compiled
 
 abbrev pub decreases-loop-node : goal.decreases-loop-node

@@ -11,10 +11,13 @@ pub returns-then-labels-actions : goal.returns-then-labels-actions
 returns-then-labels-actions c = sym (first-fault _ (other_length _ (omega arith)))
 
 pub returns-then-at-gt-MOST_LABELS : goal.returns-then-at-gt-MOST_LABELS
-returns-then-at-gt-MOST_LABELS c = sym (first_next _ (right_length _ (omega arith) (omega arith)) ∙ first-fault _ (many-labels _ (omega arith)))
+returns-then-at-gt-MOST_LABELS c = sym (first_next _ (right_length _ (omega arith) (omega arith)) ∙ first-fault _
+    (many-labels _ (omega arith)))
 
 pub returns-then-actions-gt-MOST_ACTIONS : goal.returns-then-actions-gt-MOST_ACTIONS
-returns-then-actions-gt-MOST_ACTIONS c = sym (first_next _ (right_length _ (omega arith) (omega arith)) ∙ first-fault _ (many-actions _ (omega arith)))
+returns-then-actions-gt-MOST_ACTIONS c = sym (first_next _ (right_length _ (omega arith) (omega arith)) ∙
+    first-fault _ (many-actions _ (omega arith)))
 
 pub returns : goal.returns
-returns c = c.check_numbers.ensures ∙ sym (first_next _ (right_length _ (omega arith) (omega arith)) ∙ first_next _ (few_enough _ (omega arith) (omega arith)) ∙ first_one _)
+returns c = c.check_numbers.ensures ∙ sym (first_next _ (right_length _ (omega arith) (omega arith)) ∙ first_next _
+    (few_enough _ (omega arith) (omega arith)) ∙ first_one _)

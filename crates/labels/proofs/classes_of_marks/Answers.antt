@@ -15,8 +15,18 @@ pub class_of-class-requires : goal.class_of-class-requires
 class_of-class-requires c =
     let start = c.before.before.before.before.before.before in
     let l = c.loop-left in
-    let u = c.loop-left-test.true in
-    (start.requires.good_labels, omega arith, omega (arith, u, l.invariant.0, l.invariant.1, start.requires.labels_in_bounds), λ z h. l.invariant.2 z (omega arith))
+    let u = c.loop-left-test.true in (
+      start.requires.good_labels,
+      omega arith,
+      omega (
+        arith,
+        u,
+        l.invariant.0,
+        l.invariant.1,
+        start.requires.labels_in_bounds,
+      ),
+      λ z h. l.invariant.2 z (omega arith),
+    )
 
 pub loop-left-smaller : goal.loop-left-smaller
 loop-left-smaller c = omega arith
@@ -27,7 +37,13 @@ loop-left-preserved c =
     let l = c.loop-left in
     let u = c.loop-left-test.true in
     let k = c.class_of-class in
-    let room : l.left - 1 < length l.classes = omega (arith, u, l.invariant.0, l.invariant.1, start.requires.labels_in_bounds) in (
+    let room : l.left - 1 < length l.classes = omega (
+      arith,
+      u,
+      l.invariant.0,
+      l.invariant.1,
+      start.requires.labels_in_bounds,
+    ) in (
       length-set l.classes (l.left - 1) k.result ∙ l.invariant.0,
       omega arith,
       marked_before start.args.labels.now start.args.starts.now l.classes (l.left - 1) k.result
@@ -40,4 +56,8 @@ pub returns : goal.returns
 returns c =
     let start = c.before.before.before.before.before in
     let l = c.loop-left in
-    record { room = omega (arith, l.invariant.0, start.requires.labels_in_bounds); entry = λ z h. l.invariant.3 z (omega arith) h }
+    record {
+      room = omega (arith, l.invariant.0, start.requires.labels_in_bounds);
+      entry = λ z h. l.invariant.3 z
+          (omega arith) h;
+    }

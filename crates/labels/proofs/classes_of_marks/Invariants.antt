@@ -10,7 +10,8 @@ use Rattle.labels.proofs.classes_of_marks.Given as goal
 
 abbrev pub invariant-loop-left : goal.invariant-loop-left
 invariant-loop-left l =
-    (length l.classes ≡ length l.initial.classes) × (l.left ≤ label_count l.labels) × Marked l.labels l.starts l.classes l.left
+    (length l.classes ≡ length l.initial.classes) × (l.left ≤ label_count l.labels) × Marked l.labels l.starts
+    l.classes l.left
     × ((z : ℕ) → l.left ≤ z → z < label_count l.labels → word l.classes z ≡ multiset l.labels z)
 
 abbrev pub decreases-loop-left : goal.decreases-loop-left

@@ -7,8 +7,15 @@ use Rattle.labels.proofs.mark_labels.Goals as goal
 
 pub loop-label-init : goal.loop-label-init
 loop-label-init c =
-    let start = c.before.before.before in
-    (start.requires.starts_len.0, refl, omega arith, refl, starts_first start.args.labels.now, λ z h. absurd (omega arith))
+    let start = c.before.before.before in (
+      start.requires.starts_len.0,
+      refl,
+      omega arith,
+      refl,
+      starts_first start.args.labels.now,
+      λ z h. absurd
+          (omega arith),
+    )
 
 pub mark_of-mark-requires : goal.mark_of-mark-requires
 mark_of-mark-requires c =
@@ -41,7 +48,8 @@ loop-label-preserved c =
       refl,
       f.ensures.ends,
       marked_more start.args.labels.now l.starts l.marks l.label l.from c.mark_of-mark.result
-          (omega (arith, l.invariant.0, start.requires.good_labels.few)) (omega (arith, l.invariant.1, start.requires.starts_len.1))
+          (omega (arith, l.invariant.0, start.requires.good_labels.few))
+          (omega (arith, l.invariant.1, start.requires.starts_len.1))
           (record { end = f.result; stretch = f.ensures; sum = c.mark_of-mark.ensures }) l.invariant.5,
     )
 

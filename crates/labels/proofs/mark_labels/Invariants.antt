@@ -10,7 +10,8 @@ use Rattle.labels.proofs.mark_labels.Given as goal
 
 abbrev pub invariant-loop-label : goal.invariant-loop-label
 invariant-loop-label l =
-    (length l.starts ≡ 4_096) × (length l.marks ≡ length l.initial.marks) × (l.label ≤ l.count) × (l.count ≡ label_count l.labels)
+    (length l.starts ≡ 4_096) × (length l.marks ≡ length l.initial.marks) × (l.label ≤ l.count) ×
+    (l.count ≡ label_count l.labels)
     × Starts l.labels l.label l.from × Marked l.labels l.starts l.marks l.label
 
 abbrev pub decreases-loop-label : goal.decreases-loop-label

@@ -31,8 +31,13 @@ loop-i-smaller c = omega arith
 
 pub loop-i-preserved : goal.loop-i-preserved
 loop-i-preserved c =
-    let l = c.loop-i in
-    (omega arith, omega arith, refl, below_more _ _ l.invariant.3 (omega (arith, c.label_at-found.ensures, c.if-found-label.false)))
+    let l = c.loop-i in (
+      omega arith,
+      omega arith,
+      refl,
+      below_more _ _ l.invariant.3
+          (omega (arith, c.label_at-found.ensures, c.if-found-label.false)),
+    )
 
 pub returns : goal.returns
 returns c =

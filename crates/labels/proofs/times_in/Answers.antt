@@ -26,8 +26,22 @@ loop-i-preserved c =
     let l = c.loop-i in
     let e = c.action_at-found.ensures in
     elim c.if-found-action.branch [
-      | then-found-action w ↦ (omega arith, omega arith, w.times-is ∙ times_hit start.args.labels.now start.args.from l.i start.args.action l.times l.invariant.0 l.invariant.2 (sym e ∙ w.if-found-action.true), omega (arith, w.times-is))
-      | else-found-action w ↦ (omega arith, omega arith, w.times-is ∙ times_miss start.args.labels.now start.args.from l.i start.args.action l.times l.invariant.0 l.invariant.2 (λ z. w.if-found-action.false (e ∙ z)), omega (arith, w.times-is))
+      | then-found-action w ↦ (
+        omega arith,
+        omega arith,
+        w.times-is ∙ times_hit start.args.labels.now
+            start.args.from l.i start.args.action l.times l.invariant.0 l.invariant.2
+            (sym e ∙ w.if-found-action.true),
+        omega (arith, w.times-is),
+      )
+      | else-found-action w ↦ (
+        omega arith,
+        omega arith,
+        w.times-is ∙ times_miss start.args.labels.now
+            start.args.from l.i start.args.action l.times l.invariant.0 l.invariant.2
+            (λ z. w.if-found-action.false (e ∙ z)),
+        omega (arith, w.times-is),
+      )
     ]
 
 pub returns : goal.returns

@@ -19,8 +19,18 @@ loop-i-preserved c =
     let x = start.args in
     let l = c.loop-i in
     elim c.if-marks-i.branch [
-      | then-marks-i w ↦ (omega arith, w.times-is ∙ marked_hit x.marks.now x.mark l.i l.times l.invariant.1 w.if-marks-i.true, omega (arith, w.times-is))
-      | else-marks-i w ↦ (omega arith, w.times-is ∙ marked_miss x.marks.now x.mark l.i l.times l.invariant.1 w.if-marks-i.false, omega (arith, w.times-is))
+      | then-marks-i w ↦ (
+        omega arith,
+        w.times-is ∙ marked_hit x.marks.now x.mark l.i l.times l.invariant.1
+            w.if-marks-i.true,
+        omega (arith, w.times-is),
+      )
+      | else-marks-i w ↦ (
+        omega arith,
+        w.times-is ∙ marked_miss x.marks.now x.mark l.i l.times l.invariant.1
+            w.if-marks-i.false,
+        omega (arith, w.times-is),
+      )
     ]
 
 pub returns : goal.returns

@@ -17,7 +17,8 @@ pub loop-label-preserved : goal.loop-label-preserved
 loop-label-preserved c =
     let l = c.loop-label in
     let q = class_matches _ _ c.requires.good_tables.0.2 _ _ (omega (arith, c.requires.count_value.0))
-    c.at-multiset.ensures.0 _ _ (c.match_action_formula.ensures _ c.requires.good_tables.0.2 c.requires.good_tables.0.1) in
+    c.at-multiset.ensures.0 _ _ (c.match_action_formula.ensures _ c.requires.good_tables.0.2
+    c.requires.good_tables.0.1) in
     let room : c.args.start + label_count c.args.labels.now ≤ 17_408 = omega
     (arith, c.requires.count_value.0, c.requires.count_value.1) in
     filling_more _ _ _ _ _ _ _ l.invariant (omega arith) room c.requires.matched_len _ _
@@ -29,4 +30,8 @@ loop-label-preserved c =
 pub returns : goal.returns
 returns c =
     let l = c.loop-label in
-    record { row_at = filling_end _ _ _ _ _ _ _ l.invariant (omega arith) (omega (arith, c.requires.count_value.0, c.requires.count_value.1)); same_before = l.invariant.before }
+    record {
+      row_at = filling_end _ _ _ _ _ _ _ l.invariant (omega arith)
+          (omega (arith, c.requires.count_value.0, c.requires.count_value.1));
+      same_before = l.invariant.before;
+    }

@@ -8,4 +8,12 @@ use Rattle.match_table.proofs.give_item_row.Goals as goal
 
 pub give_row-requires : goal.give_row-requires
 give_row-requires c =
-    record { good_tables = (subst (λ (z : List ℕ). GoodTables c.args.labels.now c.args.actions.now z) (sym c.classes-classes.ensures) c.requires.good_tables.0, omega (arith, c.if-at-node.false, c.at.ensures.0)); first_rows = c.requires.first_rows }
+    record {
+      good_tables = (
+        subst (λ (z : List ℕ). GoodTables c.args.labels.now c.args.actions.now z)
+            (sym c.classes-classes.ensures) c.requires.good_tables.0,
+        omega
+            (arith, c.if-at-node.false, c.at.ensures.0),
+      );
+      first_rows = c.requires.first_rows;
+    }

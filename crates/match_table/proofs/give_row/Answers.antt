@@ -30,7 +30,13 @@ overflow_add-start-2 c =
 
 pub fill_row-requires : goal.fill_row-requires
 fill_row-requires c =
-    record { good_tables = c.requires.good_tables; count_value = (c.at-count.ensures.0, omega (arith, c.if-start-count-gt-MATCHED.false)); matched_len = c.requires.first_rows.sized }
+    record {
+      good_tables = c.requires.good_tables;
+      count_value =
+          (c.at-count.ensures.0, omega (arith, c.if-start-count-gt-MATCHED.false));
+      matched_len =
+          c.requires.first_rows.sized;
+    }
 
 pub returns : goal.returns
 returns c =

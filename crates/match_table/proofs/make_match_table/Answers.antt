@@ -8,4 +8,11 @@ loop-item-init c =
 
 pub give_item_row-rows-requires : goal.give_item_row-rows-requires
 give_item_row-rows-requires c =
-    record { good_tables = (c.requires.good_tables.0, omega (arith, c.requires.good_tables.1, c.loop-item-test.true)); first_rows = c.loop-item.invariant.1 }
+    record {
+      good_tables = (
+        c.requires.good_tables.0,
+        omega
+            (arith, c.requires.good_tables.1, c.loop-item-test.true),
+      );
+      first_rows = c.loop-item.invariant.1;
+    }

@@ -16,18 +16,6 @@ slice_bounds-result-count c =
       | else-start-gt0 w ↦ inr (omega (arith, w.if-start-gt0.false), w.end-is)
     ])
 
--- GONE part-result-start : tie.Need-slice-bounds-result-start
--- GONE part-result-start c =
--- GONE     let at-row-of = c.before.before.before.before in
--- GONE     part_forward _ _ _ _ _ _ _ at-row-of.row_of.ensures c.before.before.before.at.ensures.0
--- GONE     (⊎_elim (λ w. inl (w.0.taken, w.1)) (λ w. inr (omega (arith, w.0.left), w.1)) c.before.before.if1.branch)
-
--- GONE part-result-end : tie.Need-slice-bounds-result-end
--- GONE part-result-end c =
--- GONE     let at-row-of = c.before.before.before.before in
--- GONE     let e = part-within _ _ _ _ _ _ _ at-row-of.row_of.ensures c.before.before.before.at.ensures.0
--- GONE     (⊎_elim (λ w. inl (w.0.taken, w.1)) (λ w. inr (omega (arith, w.0.left), w.1)) c.before.before.if1.branch) in omega (arith, e)
-
 pub returns : goal.returns
 returns c =
     part_row _ _ _ _ _ _ _ c.row_of-start.ensures c.at-count.ensures.0

@@ -21,4 +21,5 @@ overflow_add-result c =
 
 pub returns : goal.returns
 returns c =
-    λ p. row_told _ _ _ c.requires.node_bound.1 _ c.requires.node_bound.0 _ _ c.wide-number.ensures c.if-number-eq0.false c.at.ensures.0
+    λ p. row_told _ _ _ c.requires.node_bound.1 _ c.requires.node_bound.0 _ _ c.wide-number.ensures
+    c.if-number-eq0.false c.at.ensures.0

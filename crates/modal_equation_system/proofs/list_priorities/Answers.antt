@@ -17,7 +17,9 @@ priority_of-priority-requires c =
 pub loop-i-preserved : goal.loop-i-preserved
 loop-i-preserved c =
     let l = c.loop-i in
-    let next = ranked_next by_depth c.args.formula.now l.i c.args.priorities.now l.priorities c.priority_of-priority.result.0 (omega (arith, l.invariant.1, c.requires.count_value)) c.priority_of-priority.ensures l.invariant.2 in
+    let next = ranked_next by_depth c.args.formula.now l.i c.args.priorities.now l.priorities
+    c.priority_of-priority.result.0 (omega (arith, l.invariant.1, c.requires.count_value))
+    c.priority_of-priority.ensures l.invariant.2 in
     (omega arith, next.sized, next)
 
 pub returns : goal.returns

@@ -8,7 +8,8 @@ use Rattle.modal_equation_system.specs.System.{RankedBy}
 use Rattle.modal_equation_system.proofs.list_priorities.Given as goal
 
 abbrev pub invariant-loop-i : goal.invariant-loop-i
-invariant-loop-i l = (l.i ≤ l.count) × (length l.priorities ≡ length l.initial.priorities) × RankedBy by_depth l.formula l.i l.initial.priorities l.priorities
+invariant-loop-i l = (l.i ≤ l.count) × (length l.priorities ≡ length l.initial.priorities) × RankedBy by_depth
+    l.formula l.i l.initial.priorities l.priorities
 
 abbrev pub decreases-loop-i : goal.decreases-loop-i
 decreases-loop-i l = l.count - l.i

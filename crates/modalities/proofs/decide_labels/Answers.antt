@@ -51,9 +51,11 @@ loop-t-smaller c =
 pub loop-t-preserved : goal.loop-t-preserved
 loop-t-preserved c =
     let e = c.label_of-label.ensures in
-    let below = c.requires.labelled.system.labels c.loop-t.t (omega (arith, c.requires.within.0.inside, c.loop-t-test.true)) in
+    let below = c.requires.labelled.system.labels c.loop-t.t
+    (omega (arith, c.requires.within.0.inside, c.loop-t-test.true)) in
     let q = class_matches _ _ c.requires.labelled.table _ _ (omega (arith, below, e))
-    c.at-multiset.ensures.0 _ _ (c.match_action_formula.ensures _ c.requires.labelled.table c.requires.labelled.actions) in
+    c.at-multiset.ensures.0 _ _ (c.match_action_formula.ensures _ c.requires.labelled.table
+    c.requires.labelled.actions) in
     deciding_more _ _ _ _ _ _ _ c.loop-t.invariant e (omega (arith, below, e, c.requires.labelled.labels.few)) _ _
     (elim c.if-match_action_formula.branch [
       | then-match_action_formula w ↦ told_true _ _ w.if-match_action_formula.true w.byte-is
@@ -62,4 +64,8 @@ loop-t-preserved c =
 
 pub returns : goal.returns
 returns c =
-    record { answers_len = c.loop-t.invariant.sized; answered = λ t p q. c.loop-t.invariant.answered t p (omega (arith, c.loop-t-test.false)) }
+    record {
+      answers_len = c.loop-t.invariant.sized;
+      answered = λ t p q. c.loop-t.invariant.answered t p
+          (omega (arith, c.loop-t-test.false));
+    }

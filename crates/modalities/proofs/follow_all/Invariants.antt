@@ -8,7 +8,8 @@ use Rattle.modalities.proofs.follow_all.Given as goal
 
 abbrev pub invariant-loop-t : goal.invariant-loop-t
 invariant-loop-t l =
-    Following l.system l.answers l.room l.operand l.moves.first l.moves.end l.initial.work l.initial.so_far l.work l.so_far l.t
+    Following l.system l.answers l.room l.operand l.moves.first l.moves.end l.initial.work l.initial.so_far l.work
+    l.so_far l.t
     × (l.t < l.moves.end → l.ahead ≡ transition_target l.system l.t)
 
 abbrev pub decreases-loop-t : goal.decreases-loop-t

@@ -7,7 +7,12 @@ use Rattle.modalities.proofs.moves_of.Goals as goal
 
 pub first_transition-first-requires : goal.first_transition-first-requires
 first_transition-first-requires c =
-    record { system = c.requires.system.0; samples = subst (Samples c.args.system.now) (sym c.samples-samples.ensures) c.requires.system.1; state_bound = c.requires.state_bound }
+    record {
+      system = c.requires.system.0;
+      samples = subst (Samples c.args.system.now)
+          (sym c.samples-samples.ensures) c.requires.system.1;
+      state_bound = c.requires.state_bound;
+    }
 
 pub overflow_add-result : goal.overflow_add-result
 overflow_add-result c =

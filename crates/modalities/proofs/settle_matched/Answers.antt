@@ -13,7 +13,11 @@ clear_marks-requires c =
 
 pub product-requires : goal.product-requires
 product-requires c =
-    record { multiples = subst Multiples (sym c.multiples-multiples.ensures) c.requires.multiples.0; factor_bound = omega (arith, c.requires.multiples.3) }
+    record {
+      multiples = subst Multiples (sym c.multiples-multiples.ensures) c.requires.multiples.0;
+      factor_bound =
+          omega (arith, c.requires.multiples.3);
+    }
 
 pub follow_all-requires : goal.follow_all-requires
 follow_all-requires c =

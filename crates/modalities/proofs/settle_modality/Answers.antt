@@ -16,7 +16,12 @@ use Rattle.modalities.proofs.settle_modality.Goals as goal
 
 pub settle_decided-requires : goal.settle_decided-requires
 settle_decided-requires c =
-    record { multiples = c.requires.multiples.0; labelled = c.requires.labelled; unmarked = c.requires.unmarked.0; within = (c.moves_of-moves.ensures.0, c.requires.unmarked.1.1, c.requires.unmarked.1.2) }
+    record {
+      multiples = c.requires.multiples.0;
+      labelled = c.requires.labelled;
+      unmarked = c.requires.unmarked.0;
+      within = (c.moves_of-moves.ensures.0, c.requires.unmarked.1.1, c.requires.unmarked.1.2);
+    }
 
 pub returns-then-answers-eq0 : goal.returns-then-answers-eq0
 returns-then-answers-eq0 c =
@@ -34,7 +39,12 @@ settle_matched-requires c =
     let within = c.moves_of-moves.ensures.0 in
     let bytes = row_bytes _ _ _ _ _ _ _ good within.inside
     (c.row-answers.ensures (omega (arith, c.if-answers-eq0.false))) in
-    let multiples = c.requires.multiples.0 in record { multiples = (multiples, (label_count c.args.labels.now, good), within, c.requires.unmarked.1.2); unmarked = (c.requires.unmarked.0, bytes) }
+    let multiples = c.requires.multiples.0 in record {
+      multiples =
+          (multiples, (label_count c.args.labels.now, good), within, c.requires.unmarked.1.2);
+      unmarked =
+          (c.requires.unmarked.0, bytes);
+    }
 
 pub returns : goal.returns
 returns c =
@@ -48,4 +58,5 @@ returns c =
     let tree = action_tree a.labels.now a.actions.now a.modality.action in
     let same = answered_matched _ _ tree _ a.modality.operand moves.first moves.end answers in
     subst₂ (λ (ts cs : List ℕ). Answer a.work.now a.room.vertices a.room.edges a.counters ts cs
-    c.settle_matched.new.work c.settle_matched.result) (ap (once eqb) same ∙ all) (ap tallies same ∙ counts) c.settle_matched.ensures
+    c.settle_matched.new.work c.settle_matched.result) (ap (once eqb) same ∙ all) (ap tallies same ∙ counts)
+    c.settle_matched.ensures

@@ -6,7 +6,12 @@ use Rattle.pairs.proofs.find.Goals as goal
 
 pub probe-requires-in-Nowhere : goal.probe-requires-in-Nowhere
 probe-requires-in-Nowhere c =
-    omega (arith, c.slot_of-home.ensures, slot_below (key_of c.args.state c.args.item) (c.args.vertices + c.args.vertices / 2) (omega (arith, c.requires.asks.some)))
+    omega (
+      arith,
+      c.slot_of-home.ensures,
+      slot_below (key_of c.args.state c.args.item)
+          (c.args.vertices + c.args.vertices / 2) (omega (arith, c.requires.asks.some)),
+    )
 
 pub returns-in-Known : goal.returns-in-Known
 returns-in-Known c =
@@ -18,4 +23,6 @@ returns-in-Free c =
 
 pub returns-in-Nowhere : goal.returns-in-Nowhere
 returns-in-Nowhere c =
-    second _ _ _ _ c.requires.asks.table _ c.slot_of-home.ensures c.probe-in-Nowhere.result (slot_below _ _ (omega (arith, c.requires.asks.some))) _ c.probe.ensures c.in-Nowhere.is c.probe-in-Nowhere.ensures
+    second _ _ _ _ c.requires.asks.table _ c.slot_of-home.ensures c.probe-in-Nowhere.result
+    (slot_below _ _ (omega (arith, c.requires.asks.some))) _ c.probe.ensures c.in-Nowhere.is
+    c.probe-in-Nowhere.ensures

@@ -32,7 +32,9 @@ returns-in-Known c =
 
 pub returns-else-known-vertices : goal.returns-else-known-vertices
 returns-else-known-vertices c =
-    added_by _ _ _ _ _ c.requires.asks _ _ _ _ _ (omega (arith, c.if-known-vertices.false, c.requires.asks.table.slots.room)) c.find.ensures c.in-Free.is c.put_slot_word.ensures c.put_slot_word-in-Free.ensures c.put_word.ensures
+    added_by _ _ _ _ _ c.requires.asks _ _ _ _ _ (omega
+    (arith, c.if-known-vertices.false, c.requires.asks.table.slots.room)) c.find.ensures c.in-Free.is
+    c.put_slot_word.ensures c.put_slot_word-in-Free.ensures c.put_word.ensures
 
 pub returns-in-Nowhere : goal.returns-in-Nowhere
 returns-in-Nowhere c =

@@ -13,8 +13,10 @@ returns-then-room-lt1-2 c = sym (no_edge _ _ (omega arith))
 
 -- src/lib.rt:118:9
 pub returns-then-above_room : goal.returns-then-above_room
-returns-then-above_room c = sym (above _ _ (omega (arith, c.if-room-lt1.false)) (omega (arith, c.if-room-lt1-2.false)) c.above_room.ensures c.if-above_room.true)
+returns-then-above_room c = sym (above _ _ (omega (arith, c.if-room-lt1.false))
+    (omega (arith, c.if-room-lt1-2.false)) c.above_room.ensures c.if-above_room.true)
 
 -- src/lib.rt:108:1
 pub returns : goal.returns
-returns c = sym (within _ _ (omega (arith, c.if-room-lt1.false)) (omega (arith, c.if-room-lt1-2.false)) c.above_room.ensures c.if-above_room.false)
+returns c = sym (within _ _ (omega (arith, c.if-room-lt1.false)) (omega (arith, c.if-room-lt1-2.false))
+    c.above_room.ensures c.if-above_room.false)

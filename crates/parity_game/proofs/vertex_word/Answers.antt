@@ -7,7 +7,8 @@ overflow_add-vertex_column_at c =
     omega (
       arith,
       vertex_within c.args.game.now c.args.column c.args.vertex _
-          c.at-vertices.ensures.0 _ c.vertex_column_at.ensures c.requires.game_in_bounds c.requires.column_in_bounds.0 c.requires.column_in_bounds.1,
+          c.at-vertices.ensures.0 _ c.vertex_column_at.ensures c.requires.game_in_bounds
+          c.requires.column_in_bounds.0 c.requires.column_in_bounds.1,
     )
 
 pub at-requires : goal.at-requires

@@ -57,4 +57,8 @@ returns-then-right c =
 pub returns : goal.returns
 returns c =
     let s = seen_at c.args.text.now c.in-Surveyed.found c.in-Surveyed.is
-    c.survey_text-seen.ensures.told_survey in record { told_plan = refused92 s c.args.vertices c.args.edges c.numbered-right.ensures.text_value c.if-right.false; bits_len = c.numbered-right.ensures.bits_len }
+    c.survey_text-seen.ensures.told_survey in record {
+      told_plan = refused92 s c.args.vertices c.args.edges
+          c.numbered-right.ensures.text_value c.if-right.false;
+      bits_len = c.numbered-right.ensures.bits_len;
+    }

@@ -86,4 +86,8 @@ loop-place-preserved c =
 
 pub returns : goal.returns
 returns c =
-    record { value = edging_done c.loop-place.invariant c.loop-place-test.false; bits_len = c.loop-place.invariant.holds.long }
+    record {
+      value = edging_done c.loop-place.invariant c.loop-place-test.false;
+      bits_len =
+          c.loop-place.invariant.holds.long;
+    }

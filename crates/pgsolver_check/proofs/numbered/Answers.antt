@@ -14,7 +14,11 @@ returns-then-found c =
 
 pub returns-then-found-2 : goal.returns-then-found-2
 returns-then-found-2 c =
-    record { text_value = other_top c.requires.0 (omega arith) c.if-found.false c.if-found-2.true; bits_len = c.requires.1 }
+    record {
+      text_value = other_top c.requires.0 (omega arith) c.if-found.false c.if-found-2.true;
+      bits_len =
+          c.requires.1;
+    }
 
 pub returns-then-found-3 : goal.returns-then-found-3
 returns-then-found-3 c =
@@ -45,4 +49,8 @@ returns-then-found-4 c =
 
 pub returns : goal.returns
 returns c =
-    record { text_value = numbers_again c.requires.0 (omega arith) c.if-found.false c.if-found-2.false c.if-found-4.false; bits_len = c.requires.1 }
+    record {
+      text_value = numbers_again c.requires.0 (omega arith) c.if-found.false c.if-found-2.false
+          c.if-found-4.false;
+      bits_len = c.requires.1;
+    }

@@ -34,7 +34,11 @@ loop-base-preserved c = (
 
 pub returns-else-fine : goal.returns-else-fine
 returns-else-fine c =
-    record { value = some_same_number _ (c.window_differs-fine.ensures.not_distinct c.if-fine.false); bits_len = c.window_differs-fine.ensures.bits_len }
+    record {
+      value = some_same_number _ (c.window_differs-fine.ensures.not_distinct c.if-fine.false);
+      bits_len =
+          c.window_differs-fine.ensures.bits_len;
+    }
 
 pub returns : goal.returns
 returns c =

@@ -6,7 +6,11 @@ use Rattle.pgsolver_check.proofs.survey_text.Goals as goal
 
 pub returns-in_default : goal.returns-in_default
 returns-in_default c =
-    record { told_survey = surveyed_not c.args.text.now c.in_default.is c.read_header-header.ensures; bits_len = c.requires }
+    record {
+      told_survey = surveyed_not c.args.text.now c.in_default.is c.read_header-header.ensures;
+      bits_len =
+          c.requires;
+    }
 
 pub clear-requires : goal.clear-requires
 clear-requires c = c.requires

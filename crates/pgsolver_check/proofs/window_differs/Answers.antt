@@ -56,4 +56,9 @@ loop-place-preserved c =
 
 pub returns : goal.returns
 returns c =
-    record { apart = λ e. window_done c.loop-place.invariant c.loop-place-test.false; not_distinct = λ e. absurd (true≢false e); bits_len = c.loop-place.invariant.noted.long }
+    record {
+      apart = λ e. window_done c.loop-place.invariant c.loop-place-test.false;
+      not_distinct = λ e. absurd
+          (true≢false e);
+      bits_len = c.loop-place.invariant.noted.long;
+    }

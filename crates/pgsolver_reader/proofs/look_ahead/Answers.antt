@@ -8,8 +8,11 @@ pub loop-vertex-init : goal.loop-vertex-init
 loop-vertex-init c = (omega arith, refl)
 
 pub posted_at-place-requires : goal.posted_at-place-requires
-posted_at-place-requires c =
-    (omega (arith, c.loop-vertex-test.true, c.requires.posted_from.1), c.requires.vertices_le_most_vertices.0, c.requires.vertices_le_most_vertices.1)
+posted_at-place-requires c = (
+  omega (arith, c.loop-vertex-test.true, c.requires.posted_from.1),
+  c.requires.vertices_le_most_vertices.0,
+  c.requires.vertices_le_most_vertices.1,
+)
 
 pub bounds-text-place : goal.bounds-text-place
 bounds-text-place c =

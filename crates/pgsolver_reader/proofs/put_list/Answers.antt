@@ -73,7 +73,8 @@ loop-list-preserved c =
     let told = c.known_number-number.ensures.told in
     let inside = c.known_number-number.ensures.next_in_bounds in
     let text = c.args.text.now in
-    let comma = byte_here text number.next 44 true inside (eq-eqb (word text number.next) 44 c.if-text-past-ne44.false) in
+    let comma = byte_here text number.next 44 true inside
+    (eq-eqb (word text number.next) 44 c.if-text-past-ne44.false) in
     putting_more number.value c.loop-list.invariant c.put_new-end.auto.game
     c.put_new-end.ensures.wrote c.put_new-end.ensures.met (number.next + 1)
     (read_line_on text c.loop-list.next number.value number.next c.loop-list.invariant.here.within told

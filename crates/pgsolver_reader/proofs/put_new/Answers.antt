@@ -40,7 +40,10 @@ pub returns-then-new : goal.returns-then-new
 returns-then-new c =
     let e = unless_new (marked c.args.bits.now c.args.value) _ (c.args.value ∷ [])
     c.meet-new.ensures.0 c.if-new.true in
-    record { wrote = wrote_as (sym e) (done (put (omega (arith, c.requires.value_in_bounds, ap length e)) start)); met = c.meet-new.ensures.1 }
+    record {
+      wrote = wrote_as (sym e) (done (put (omega (arith, c.requires.value_in_bounds, ap length e)) start));
+      met = c.meet-new.ensures.1;
+    }
 
 pub returns : goal.returns
 returns c =

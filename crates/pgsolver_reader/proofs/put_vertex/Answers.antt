@@ -10,7 +10,12 @@ use Rattle.pgsolver_reader.proofs.put_vertex.Goals as goal
 
 pub bounds-game-vertex_column_at-2 : goal.bounds-game-vertex_column_at-2
 bounds-game-vertex_column_at-2 c =
-    simp length-set (omega (arith, c.requires.vertex_lt_vertices.0, c.requires.vertex_lt_vertices.2, c.vertex_column_at-2.ensures))
+    simp length-set (omega (
+      arith,
+      c.requires.vertex_lt_vertices.0,
+      c.requires.vertex_lt_vertices.2,
+      c.vertex_column_at-2.ensures,
+    ))
 
 pub overflow_add-game-3 : goal.overflow_add-game-3
 overflow_add-game-3 c =

@@ -50,4 +50,8 @@ shape_of-game c = c.loop-vertex.invariant.0
 
 pub returns : goal.returns
 returns c =
-    record { part_2 = part_last c.loop-vertex.invariant.4 c.loop-vertex-test.false c.loop-vertex.invariant.1; posted_from_2 = posted_last c.loop-vertex-test.false c.loop-vertex.invariant.4 c.loop-vertex.invariant.3; holds = c.loop-vertex.invariant.2 }
+    record {
+      part_2 = part_last c.loop-vertex.invariant.4 c.loop-vertex-test.false c.loop-vertex.invariant.1;
+      posted_from_2 = posted_last c.loop-vertex-test.false c.loop-vertex.invariant.4 c.loop-vertex.invariant.3;
+      holds = c.loop-vertex.invariant.2;
+    }

@@ -16,7 +16,11 @@ block_end-last-requires c = c.loop-vertex-test.true
 
 pub look_ahead-odd-requires : goal.look_ahead-odd-requires
 look_ahead-odd-requires c =
-    record { posted_from = (c.loop-vertex.invariant.3, c.block_end-last.ensures.1); vertices_le_most_vertices = (c.requires.whole.0.few, omega (arith, c.loop-vertex.invariant.1.room)) }
+    record {
+      posted_from = (c.loop-vertex.invariant.3, c.block_end-last.ensures.1);
+      vertices_le_most_vertices =
+          (c.requires.whole.0.few, omega (arith, c.loop-vertex.invariant.1.room));
+    }
 
 pub shape_of-game-then-odd : goal.shape_of-game-then-odd
 shape_of-game-then-odd c = c.loop-vertex.invariant.0

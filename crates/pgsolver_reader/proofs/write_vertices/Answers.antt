@@ -6,7 +6,12 @@ use Rattle.pgsolver_reader.proofs.write_vertices.Goals as goal
 
 pub write_in_order-requires : goal.write_in_order-requires
 write_in_order-requires c =
-    record { whole = (c.requires.whole.0, c.requires.whole.1.begins, c.requires.whole.1.short); text_value = c.requires.whole.1.order c.if-ordered.true; part = (part_start c.requires.whole.1.room, c.requires.holds) }
+    record {
+      whole = (c.requires.whole.0, c.requires.whole.1.begins, c.requires.whole.1.short);
+      text_value =
+          c.requires.whole.1.order c.if-ordered.true;
+      part = (part_start c.requires.whole.1.room, c.requires.holds);
+    }
 
 pub shape_of-game-then-ordered : goal.shape_of-game-then-ordered
 shape_of-game-then-ordered c = c.write_in_order.auto.game

@@ -37,4 +37,8 @@ returns-then-first c =
 
 pub returns : goal.returns
 returns c =
-    record { text_value = parity_1 c.args.text.now c.bytes_at-first.ensures.place_value c.if-first.false; in_bounds = λ e. absurd (false≢true e) }
+    record {
+      text_value = parity_1 c.args.text.now c.bytes_at-first.ensures.place_value c.if-first.false;
+      in_bounds
+          = λ e. absurd (false≢true e);
+    }

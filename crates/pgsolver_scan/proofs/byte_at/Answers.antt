@@ -7,7 +7,11 @@ use Rattle.pgsolver_scan.proofs.byte_at.Goals as goal
 
 pub returns-then-text-place : goal.returns-then-text-place
 returns-then-text-place c =
-    record { place_value = byte_end c.args.text.now c.args.place c.args.byte c.if-text-place.true; place_in_bounds = λ e. absurd (false≢true e) }
+    record {
+      place_value = byte_end c.args.text.now c.args.place c.args.byte c.if-text-place.true;
+      place_in_bounds
+          = λ e. absurd (false≢true e);
+    }
 
 pub returns : goal.returns
 returns c =

@@ -12,7 +12,11 @@ returns-then-begun c =
     record {
       place_value = pair_told c.args.text.now c.args.place c.args.first c.args.second
           c.byte_at-begun.ensures.place_value c.byte_at.result c.if-begun.true c.byte_at.ensures.place_value;
-      place_in_bounds = λ e. (omega (arith, c.byte_at.ensures.place_in_bounds e), omega (arith, c.byte_at.ensures.place_in_bounds e));
+      place_in_bounds = λ e. (
+        omega (arith, c.byte_at.ensures.place_in_bounds e),
+        omega
+            (arith, c.byte_at.ensures.place_in_bounds e),
+      );
     }
 
 pub returns : goal.returns

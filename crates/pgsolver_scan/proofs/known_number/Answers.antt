@@ -14,7 +14,11 @@ bounds-text-next c =
 pub returns-then-digit-eq10 : goal.returns-then-digit-eq10
 returns-then-digit-eq10 c =
     let stands = c.requires
-    in record { told = known_done stands c.loop-place.invariant c.digit_of-digit.result c.digit_of-digit.ensures c.if-digit-eq10.true; next_in_bounds = known_inside stands c.loop-place.invariant }
+    in record {
+      told = known_done stands c.loop-place.invariant c.digit_of-digit.result c.digit_of-digit.ensures
+          c.if-digit-eq10.true;
+      next_in_bounds = known_inside stands c.loop-place.invariant;
+    }
 
 pub overflow_mul-number : goal.overflow_mul-number
 overflow_mul-number c =

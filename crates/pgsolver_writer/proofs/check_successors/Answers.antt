@@ -14,14 +14,22 @@ loop-vertex-init c = (omega arith, λ u h. absurd (omega arith))
 
 pub edges_from-first-requires : goal.edges_from-first-requires
 edges_from-first-requires c =
-    record { game_in_bounds = omega (arith, c.requires.sized); column_in_bounds = (omega arith, omega (arith, c.at-vertices.ensures.0)) }
+    record {
+      game_in_bounds = omega (arith, c.requires.sized);
+      column_in_bounds =
+          (omega arith, omega (arith, c.at-vertices.ensures.0));
+    }
 
 pub overflow_add-vertex : goal.overflow_add-vertex
 overflow_add-vertex c = omega (arith, c.at-vertices.ensures.1)
 
 pub edges_from-end-requires : goal.edges_from-end-requires
 edges_from-end-requires c =
-    record { game_in_bounds = omega (arith, c.requires.sized); column_in_bounds = (omega arith, omega (arith, c.at-vertices.ensures.0)) }
+    record {
+      game_in_bounds = omega (arith, c.requires.sized);
+      column_in_bounds =
+          (omega arith, omega (arith, c.at-vertices.ensures.0));
+    }
 
 pub returns-then-first-end : goal.returns-then-first-end
 returns-then-first-end c =
@@ -51,5 +59,6 @@ loop-vertex-preserved c =
 pub returns : goal.returns
 returns c =
     let game = c.args.game.now in
-    let all : vertex_count game ≤ c.loop-vertex.vertex = omega (arith, c.at-vertices.ensures.0, c.loop-vertex-test.false) in
+    let all : vertex_count game ≤ c.loop-vertex.vertex = omega
+    (arith, c.at-vertices.ensures.0, c.loop-vertex-test.false) in
     sym (none_stuck game c.loop-vertex.vertex all c.loop-vertex.invariant.1)

@@ -14,7 +14,11 @@ pub put_successor-past-requires : goal.put_successor-past-requires
 put_successor-past-requires c =
     let below = c.loop-place-test.true in
     let inv = c.loop-place.invariant in
-    let small = c.requires.places.small c.loop-place.place inv.begun below in record { target_lt_bitmap_numbers = (omega (arith, c.at-target.ensures.0, small), inv.holds.long); target_in_bounds = listing_room c.at-target.result c.requires.places below c.at-target.ensures.0 inv c.requires.end_in_bounds }
+    let small = c.requires.places.small c.loop-place.place inv.begun below in record {
+      target_lt_bitmap_numbers = (omega (arith, c.at-target.ensures.0, small), inv.holds.long);
+      target_in_bounds = listing_room c.at-target.result c.requires.places below c.at-target.ensures.0 inv
+          c.requires.end_in_bounds;
+    }
 
 pub overflow_add-place : goal.overflow_add-place
 overflow_add-place c =

@@ -39,7 +39,8 @@ put_line-past-requires c =
       writable = (c.requires.writable.0, below);
       holds = c.loop-vertex.invariant.2;
       vertex_in_bounds = first_fits (line_text (line_in game c.loop-vertex.vertex)) _
-          (omega (arith, c.put_header-past.ensures.past, c.put_header-past.auto.text, c.requires.writable.1, size)) next;
+          (omega (arith, c.put_header-past.ensures.past, c.put_header-past.auto.text, c.requires.writable.1, size))
+          next;
     }
 
 pub overflow_add-vertex : goal.overflow_add-vertex
@@ -67,7 +68,8 @@ shape_of-text c = c.loop-vertex.invariant.1.long ∙ c.put_header-past.auto.text
 pub returns : goal.returns
 returns c =
     let game = c.args.game.now in
-    let all : vertex_count game ≤ c.loop-vertex.vertex = omega (arith, c.at-vertices.ensures.0, c.loop-vertex-test.false) in
+    let all : vertex_count game ≤ c.loop-vertex.vertex = omega
+    (arith, c.at-vertices.ensures.0, c.loop-vertex-test.false) in
     let highest : c.at-vertices.result - 1 ≡ vertex_count game - 1 = omega (arith, c.at-vertices.ensures.0) in
     let lines = done (turn (lines_none game c.loop-vertex.vertex all) c.loop-vertex.invariant.1) in
     wrote_as (sym (text_stretches game (c.at-vertices.result - 1) highest))

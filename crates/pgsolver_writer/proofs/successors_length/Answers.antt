@@ -28,7 +28,8 @@ loop-place-smaller c = omega arith
 pub loop-place-preserved : goal.loop-place-preserved
 loop-place-preserved c =
     counted_more c.at-target.result c.requires.places c.loop-place-test.true
-    c.at-target.ensures.0 c.loop-place.invariant c.successor_length-size.ensures.value.0 c.successor_length-size.ensures.value.1 c.successor_length-size.ensures.met
+    c.at-target.ensures.0 c.loop-place.invariant c.successor_length-size.ensures.value.0
+    c.successor_length-size.ensures.value.1 c.successor_length-size.ensures.met
 
 pub empty-requires : goal.empty-requires
 empty-requires c =

@@ -22,7 +22,10 @@ loop-vertex-init c =
 
 pub line_length-size-requires : goal.line_length-size-requires
 line_length-size-requires c =
-    record { writable = (c.requires.writable, omega (arith, c.at-vertices.ensures.0, c.loop-vertex-test.true)); holds = c.loop-vertex.invariant.2 }
+    record {
+      writable = (c.requires.writable, omega (arith, c.at-vertices.ensures.0, c.loop-vertex-test.true));
+      holds = c.loop-vertex.invariant.2;
+    }
 
 pub overflow_add-size-in-loop-vertex : goal.overflow_add-size-in-loop-vertex
 overflow_add-size-in-loop-vertex c =
@@ -54,7 +57,8 @@ loop-vertex-preserved c =
 pub returns : goal.returns
 returns c =
     let game = c.args.game.now in
-    let all : vertex_count game ≤ c.loop-vertex.vertex = omega (arith, c.at-vertices.ensures.0, c.loop-vertex-test.false) in
+    let all : vertex_count game ≤ c.loop-vertex.vertex = omega
+    (arith, c.at-vertices.ensures.0, c.loop-vertex-test.false) in
     let right = size_done game c.loop-vertex.vertex c.loop-vertex.size all c.loop-vertex.invariant.1 in
     let few = text_short game c.requires.writable (λ i. omega (arith, c.type_inv.game i)) in
     record { value = (right, omega (arith, right, few)); holds_2 = c.loop-vertex.invariant.2 }

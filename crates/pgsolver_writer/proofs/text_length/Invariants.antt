@@ -11,7 +11,8 @@ use Rattle.pgsolver_writer.proofs.text_length.Given as goal
 
 abbrev pub invariant-loop-vertex : goal.invariant-loop-vertex
 invariant-loop-vertex l =
-    (l.vertex ≤ l.vertices) × (l.size + length (lines_from l.game l.vertex) ≡ length (game_text l.game)) × Holds l.bits []
+    (l.vertex ≤ l.vertices) × (l.size + length (lines_from l.game l.vertex) ≡ length (game_text l.game)) × Holds
+    l.bits []
 
 abbrev pub decreases-loop-vertex : goal.decreases-loop-vertex
 decreases-loop-vertex l = l.vertices - l.vertex

@@ -25,7 +25,14 @@ returns-then-text-size c =
 pub put_text-past-requires : goal.put_text-past-requires
 put_text-past-requires c =
     let long = c.if-text-size.false in
-    record { writable = (writable c.args.game.now c.requires, omega (arith, long, c.text_length-size.ensures.value.0)); holds = c.text_length-size.ensures.holds_2 }
+    record {
+      writable = (
+        writable c.args.game.now c.requires,
+        omega
+            (arith, long, c.text_length-size.ensures.value.0),
+      );
+      holds = c.text_length-size.ensures.holds_2;
+    }
 
 pub finish-requires : goal.finish-requires
 finish-requires c =
@@ -43,6 +50,7 @@ returns c =
     let game = c.args.game.now in
     let text = c.args.text.now in
     let size = c.text_length-size.ensures.value.0 in
-    text_finished (length (game_text game)) (game_text game) text (omega (arith, c.if-text-size.false, size)) c.put_text-past.auto.text
+    text_finished (length (game_text game)) (game_text game) text (omega (arith, c.if-text-size.false, size))
+    c.put_text-past.auto.text
     c.put_text-past.ensures c.finish.ensures.value c.finish.ensures.text_after
     ∙ accepted game text c.requires

@@ -8,7 +8,8 @@ use Rattle.reachability.proofs.count_edges.Given as goal
 
 abbrev pub invariant-loop-i : goal.invariant-loop-i
 invariant-loop-i l =
-    (l.i ≤ l.count) × (l.edges + edge_count (some_of l.game l.work l.count l.i) ≡ edge_count (kept_vertices l.game (take l.count l.work)))
+    (l.i ≤ l.count) × (l.edges + edge_count (some_of l.game l.work l.count l.i) ≡ edge_count
+    (kept_vertices l.game (take l.count l.work)))
 
 abbrev pub decreases-loop-i : goal.decreases-loop-i
 decreases-loop-i l = l.count - l.i

@@ -13,4 +13,8 @@ returns-then-mapping-place c =
 
 pub returns-else-mapping-place : goal.returns-else-mapping-place
 returns-else-mapping-place c =
-    record { knows_2 = c.requires.knows; work_after = old _ _ _ _ c.requires.knows c.requires.vertex_in_bounds c.if-mapping-place.false }
+    record {
+      knows_2 = c.requires.knows;
+      work_after = old _ _ _ _ c.requires.knows c.requires.vertex_in_bounds
+          c.if-mapping-place.false;
+    }

@@ -50,4 +50,8 @@ shape_of-work c =
 
 pub returns : goal.returns
 returns c =
-    record { knows_2 = c.loop-place.invariant.1; work_after = meet_end _ _ _ _ _ c.loop-place-test.false c.loop-place.invariant.3 }
+    record {
+      knows_2 = c.loop-place.invariant.1;
+      work_after = meet_end _ _ _ _ _ c.loop-place-test.false
+          c.loop-place.invariant.3;
+    }

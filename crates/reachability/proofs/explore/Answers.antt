@@ -21,7 +21,13 @@ discover-count-requires c =
       knows = none_known _ _ (omega (arith, c.fill.auto.ws, c.requires.mapping_len))
           (omega (arith, c.fill.auto.ws, c.requires.mapping_len, c.requires.good_game.few))
           (filled 4_294_967_295 c.args.mapping.now _ c.fill.ensures);
-      vertex_in_bounds = omega (arith, c.fill.auto.ws, c.requires.mapping_len, c.requires.good_game.initial, c.vertex_at-initial.ensures);
+      vertex_in_bounds = omega (
+        arith,
+        c.fill.auto.ws,
+        c.requires.mapping_len,
+        c.requires.good_game.initial,
+        c.vertex_at-initial.ensures,
+      );
     }
 
 pub loop-i-init : goal.loop-i-init
@@ -118,4 +124,8 @@ shape_of-work c =
 
 pub returns : goal.returns
 returns c =
-    record { knows = c.loop-i.invariant.0; work_after = search_done _ _ _ _ _ _ c.loop-i.invariant.0 c.loop-i-test.false c.loop-i.invariant.2 }
+    record {
+      knows = c.loop-i.invariant.0;
+      work_after = search_done _ _ _ _ _ _ c.loop-i.invariant.0
+          c.loop-i-test.false c.loop-i.invariant.2;
+    }

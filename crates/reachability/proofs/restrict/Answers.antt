@@ -15,7 +15,12 @@ pub write_game-edges-requires : goal.write_game-edges-requires
 write_game-edges-requires c =
     let l = accepted_slices _ _ _ _ c.requires in
     let n = c.explore-count.auto.mapping ∙ l.2 in
-    record { chosen = chosen _ _ _ _ (good_game _ l.0) c.explore-count.ensures.knows n; knows = c.explore-count.ensures.knows; mapping_len = (n, l.1) }
+    record {
+      chosen = chosen _ _ _ _ (good_game _ l.0) c.explore-count.ensures.knows n;
+      knows =
+          c.explore-count.ensures.knows;
+      mapping_len = (n, l.1);
+    }
 
 pub fill-requires : goal.fill-requires
 fill-requires c = omega arith

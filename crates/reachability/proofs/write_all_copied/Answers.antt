@@ -38,7 +38,8 @@ loop-column-smaller c = omega arith
 pub loop-column-preserved : goal.loop-column-preserved
 loop-column-preserved c = (
   omega (arith, c.loop-column.invariant.0),
-  columns_put edge_columns (all_edges ((kept_vertices c.args.game.now (take c.args.count c.args.work.now)))) c.loop-column.column
+  columns_put edge_columns (all_edges ((kept_vertices c.args.game.now (take c.args.count c.args.work.now))))
+      c.loop-column.column
       (omega (arith, c.loop-column-test.true, c.edge_columns-all.ensures)) refl
       c.write_copied-next.auto.out c.write_copied-next.ensures c.loop-column.invariant.1,
 )
@@ -48,5 +49,6 @@ shape_of-out c = c.loop-column.invariant.1.long
 
 pub returns : goal.returns
 returns c =
-    columns_done edge_columns (all_edges ((kept_vertices c.args.game.now (take c.args.count c.args.work.now)))) c.loop-column.column
+    columns_done edge_columns (all_edges ((kept_vertices c.args.game.now (take c.args.count c.args.work.now))))
+    c.loop-column.column
     (omega (arith, c.loop-column-test.false, c.edge_columns-all.ensures)) c.loop-column.invariant.1

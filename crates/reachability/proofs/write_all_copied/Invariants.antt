@@ -7,7 +7,8 @@ use Rattle.reachability.proofs.write_all_copied.Given as goal
 
 abbrev pub invariant-loop-column : goal.invariant-loop-column
 invariant-loop-column l =
-    (1 ≤ l.column) × Writing l.next (columns (drop l.column edge_columns) (all_edges (kept_vertices l.game (take l.count l.work)))) l.out
+    (1 ≤ l.column) × Writing l.next (columns (drop l.column edge_columns)
+    (all_edges (kept_vertices l.game (take l.count l.work)))) l.out
     l.start (columns (drop 1 edge_columns) (all_edges (kept_vertices l.game (take l.count l.work)))) l.initial.out
 
 abbrev pub decreases-loop-column : goal.decreases-loop-column

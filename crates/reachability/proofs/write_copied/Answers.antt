@@ -59,7 +59,8 @@ loop-i-smaller c = omega arith
 
 pub loop-i-preserved : goal.loop-i-preserved
 loop-i-preserved c =
-    let t = copied_next c.args.column c.requires.column_nonzero.1 c.requires.column_nonzero.0 _ _ _ _ _ _ _ c.requires.chosen
+    let t = copied_next c.args.column c.requires.column_nonzero.1 c.requires.column_nonzero.0 _ _ _ _ _ _ _
+    c.requires.chosen
     c.loop-i-test.true c.vertex_at-vertex.ensures
     c.edges_from-from.ensures c.edges_end-end.ensures in (
       omega arith,

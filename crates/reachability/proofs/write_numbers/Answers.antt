@@ -22,13 +22,25 @@ new_number-target-requires c =
     )
 
 pub offset_bounds-out-next : goal.offset_bounds-out-next
-offset_bounds-out-next c = omega (arith, (let it : c.loop-place.next < length c.loop-place.out = numbers_room c.args.game.now c.args.mapping.now _ _ _ c.loop-place-test.true c.requires.from_le_end.1 c.requires.from_le_end.2 c.loop-place.invariant.2 in it))
+offset_bounds-out-next c = omega (
+  arith,
+  (let it : c.loop-place.next < length c.loop-place.out = numbers_room
+      c.args.game.now c.args.mapping.now _ _ _ c.loop-place-test.true c.requires.from_le_end.1
+      c.requires.from_le_end.2 c.loop-place.invariant.2 in it),
+)
 
 pub bounds-out-next : goal.bounds-out-next
-bounds-out-next c = (let it : c.loop-place.next < length c.loop-place.out = numbers_room c.args.game.now c.args.mapping.now _ _ _ c.loop-place-test.true c.requires.from_le_end.1 c.requires.from_le_end.2 c.loop-place.invariant.2 in it)
+bounds-out-next c = (let it : c.loop-place.next < length c.loop-place.out = numbers_room c.args.game.now
+    c.args.mapping.now _ _ _ c.loop-place-test.true c.requires.from_le_end.1 c.requires.from_le_end.2
+    c.loop-place.invariant.2 in it)
 
 pub overflow_add-next : goal.overflow_add-next
-overflow_add-next c = omega (arith, (let it : c.loop-place.next < length c.loop-place.out = numbers_room c.args.game.now c.args.mapping.now _ _ _ c.loop-place-test.true c.requires.from_le_end.1 c.requires.from_le_end.2 c.loop-place.invariant.2 in it))
+overflow_add-next c = omega (
+  arith,
+  (let it : c.loop-place.next < length c.loop-place.out = numbers_room
+      c.args.game.now c.args.mapping.now _ _ _ c.loop-place-test.true c.requires.from_le_end.1
+      c.requires.from_le_end.2 c.loop-place.invariant.2 in it),
+)
 
 pub overflow_add-place : goal.overflow_add-place
 overflow_add-place c = omega arith
@@ -46,7 +58,10 @@ loop-place-preserved c =
       omega arith,
       carry_put f c.args.game.now c.loop-place.place c.args.end _
           (c.new_number-target.ensures ∙ ap f c.vertex_at.ensures) c.loop-place-test.true
-          c.requires.from_le_end.1 ((let it : c.loop-place.next < length c.loop-place.out = let start = c.before.before.before.before.before.before.before in numbers_room c.args.game.now c.args.mapping.now _ _ _ c.loop-place-test.true c.requires.from_le_end.1 c.requires.from_le_end.2 c.loop-place.invariant.2 in it)) c.loop-place.invariant.2,
+          c.requires.from_le_end.1 ((let it : c.loop-place.next < length c.loop-place.out = let start =
+          c.before.before.before.before.before.before.before in numbers_room c.args.game.now c.args.mapping.now
+          _ _ _ c.loop-place-test.true c.requires.from_le_end.1 c.requires.from_le_end.2
+          c.loop-place.invariant.2 in it)) c.loop-place.invariant.2,
     )
 
 pub shape_of-out : goal.shape_of-out

@@ -9,7 +9,8 @@ use Rattle.reachability.proofs.write_offsets.Given as goal
 
 abbrev pub invariant-loop-i : goal.invariant-loop-i
 invariant-loop-i l =
-    (l.i ≤ l.count) × (l.edges + edge_count (some_of l.game l.work l.count l.i) ≡ edge_count (kept_vertices l.game (take l.count l.work))) ×
+    (l.i ≤ l.count) × (l.edges + edge_count (some_of l.game l.work l.count l.i) ≡ edge_count
+    (kept_vertices l.game (take l.count l.work))) ×
     Writing l.next (offsets l.edges (some_of l.game l.work l.count l.i)) l.out l.start
     (offsets 0 (kept_vertices l.game (take l.count l.work))) l.initial.out
 

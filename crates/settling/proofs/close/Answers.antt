@@ -4,7 +4,8 @@ use Rattle.settling.proofs.close.Goals as goal
 
 pub returns-then-edges-start : goal.returns-then-edges-start
 returns-then-edges-start c =
-    close_loop _ _ _ _ _ _ _ _ c.requires.0 c.requires.1 c.requires.3 c.if-edges-start.true (omega (arith, c.requires.0.buffer, c.if-edges-room.false)) c.put_edge.ensures c.put_word.ensures
+    close_loop _ _ _ _ _ _ _ _ c.requires.0 c.requires.1 c.requires.3 c.if-edges-start.true
+    (omega (arith, c.requires.0.buffer, c.if-edges-room.false)) c.put_edge.ensures c.put_word.ensures
 
 pub overflow_add-edges : goal.overflow_add-edges
 overflow_add-edges c =
@@ -12,4 +13,5 @@ overflow_add-edges c =
 
 pub returns : goal.returns
 returns c =
-    close_others _ _ c.args.work.now _ c.args.work.now _ _ _ c.requires.0 c.requires.1 c.requires.3 c.if-edges-start.false c.put_word-2.ensures
+    close_others _ _ c.args.work.now _ c.args.work.now _ _ _ c.requires.0 c.requires.1 c.requires.3
+    c.if-edges-start.false c.put_word-2.ensures

@@ -7,7 +7,18 @@ pub number-requires : goal.number-requires
 number-requires c =
     let r = c.requires.ready.0 in
     let f = c.requires.ready.1 in
-    record { scaled = c.requires.scaled; asks = record { some = r.some; most = r.most; whole = omega (arith, r.whole); state_fits = f.state_fits; item_fits = f.item_fits; table = r.table } }
+    record {
+      scaled = c.requires.scaled;
+      asks = record {
+        some = r.some;
+        most = r.most;
+        whole = omega (arith, r.whole);
+        state_fits = f.state_fits;
+        item_fits =
+            f.item_fits;
+        table = r.table;
+      };
+    }
 
 pub returns-then-known-before : goal.returns-then-known-before
 returns-then-known-before c =
@@ -26,7 +37,8 @@ pub returns-else-known-before : goal.returns-else-known-before
 returns-else-known-before c =
     let room = met_room _ _ _ _ _ _ c.number.ensures _ _ c.in-Vertex.is c.if-known-before.false in
     met_new _ _ _ _ _ _ c.number.ensures _ _ c.in-Vertex.is _ _ c.if-known-before.false
-    (omega (arith, c.requires.ready.0.stack, room)) (omega (arith, c.requires.ready.0.whole, c.number.auto.work)) c.put_word.ensures
+    (omega (arith, c.requires.ready.0.stack, room)) (omega (arith, c.requires.ready.0.whole, c.number.auto.work))
+    c.put_word.ensures
 
 pub returns-in-NoRoom : goal.returns-in-NoRoom
 returns-in-NoRoom c =

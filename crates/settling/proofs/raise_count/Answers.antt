@@ -6,7 +6,12 @@ pub overflow_add-work : goal.overflow_add-work
 overflow_add-work c =
     let v = c.args.room.vertices in
     let e = c.args.room.edges in
-    omega (arith, c.requires.place_bound, count_word v e c.args.place c.args.work.now c.requires.vertices_le_most_vertices.2)
+    omega (
+      arith,
+      c.requires.place_bound,
+      count_word v e c.args.place c.args.work.now
+          c.requires.vertices_le_most_vertices.2,
+    )
 
 pub returns : goal.returns
 returns c = count_stored _ _ _ _ c.requires.vertices_le_most_vertices.2

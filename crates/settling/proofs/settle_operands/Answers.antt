@@ -13,8 +13,13 @@ nth_operand-item-requires c =
 
 pub product-scaled-requires : goal.product-scaled-requires
 product-scaled-requires c =
-    let fits = operand_fits c.args.state _ _ _ _ c.loop-i-test.true c.requires.ready.2 c.requires.ready.1 c.requires.fitting in
-    record { multiples = c.requires.multiples; factor_bound = omega (arith, c.nth_operand-item.ensures, fits.item_fits) }
+    let fits = operand_fits c.args.state _ _ _ _ c.loop-i-test.true c.requires.ready.2 c.requires.ready.1
+    c.requires.fitting in
+    record {
+      multiples = c.requires.multiples;
+      factor_bound = omega
+          (arith, c.nth_operand-item.ensures, fits.item_fits);
+    }
 
 pub number_target-requires : goal.number_target-requires
 number_target-requires c =
@@ -22,7 +27,11 @@ number_target-requires c =
     let fits = operand_fits c.args.state _ _ _ _ less c.requires.ready.2 c.requires.ready.1 c.requires.fitting in
     let fits-item = subst (Fitting c.args.state) (sym c.nth_operand-item.ensures) fits in
     let ready = c.loop-i.invariant.made.ready in
-    record { scaled = record { multiples = c.requires.multiples; product = c.product-scaled.ensures }; ready = (ready, fits-item) }
+    record {
+      scaled = record { multiples = c.requires.multiples; product = c.product-scaled.ensures };
+      ready =
+          (ready, fits-item);
+    }
 
 pub returns-in-Full : goal.returns-in-Full
 returns-in-Full c =

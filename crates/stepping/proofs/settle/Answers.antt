@@ -22,7 +22,18 @@ pub settle_modality-requires : goal.settle_modality-requires
 settle_modality-requires c =
     let t = c.requires.tables.0 in
     let modal = eqb-true (c.kind_of-kind.result / 2) 2 (sym c.is_modality.ensures ∙ c.if-is_modality.true) in
-    let inside = modality_inside _ _ _ t _ _ c.requires.tables.1 _ c.kind_of-kind.ensures _ c.modality_of-modality.ensures modal in record { labelled = record { labels = t.input.labels; system = t.input.system; actions = t.input.actions; table = t.multisets }; multiples = (t.bytes, t.firsts, t.answers); unmarked = (c.requires.unmarked, inside) }
+    let inside = modality_inside _ _ _ t _ _ c.requires.tables.1 _ c.kind_of-kind.ensures _
+    c.modality_of-modality.ensures modal in record {
+      labelled = record {
+        labels = t.input.labels;
+        system = t.input.system;
+        actions = t.input.actions;
+        table =
+            t.multisets;
+      };
+      multiples = (t.bytes, t.firsts, t.answers);
+      unmarked = (c.requires.unmarked, inside);
+    }
 
 pub returns-then-is_modality : goal.returns-then-is_modality
 returns-then-is_modality c =
@@ -43,7 +54,13 @@ pub settle_at_state-requires : goal.settle_at_state-requires
 settle_at_state-requires c =
     let t = c.requires.tables.0 in
     let inside = c.requires.tables.1 in
-    let other = eqb-false (c.kind_of-kind.result / 2) 2 (sym c.is_modality.ensures ∙ c.if-is_modality.false) in record { multiples = (t.bytes, item_small _ _ _ t _ _ inside); ready = c.requires.unmarked.0; all_fit = operands_fit _ _ _ t _ _ inside _ c.kind_of-kind.ensures (λ h. omega (arith, other)) }
+    let other = eqb-false (c.kind_of-kind.result / 2) 2 (sym c.is_modality.ensures ∙ c.if-is_modality.false) in
+    record {
+      multiples = (t.bytes, item_small _ _ _ t _ _ inside);
+      ready = c.requires.unmarked.0;
+      all_fit =
+          operands_fit _ _ _ t _ _ inside _ c.kind_of-kind.ensures (λ h. omega (arith, other));
+    }
 
 pub returns : goal.returns
 returns c =

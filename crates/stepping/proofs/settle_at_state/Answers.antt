@@ -24,7 +24,8 @@ settle_operands-requires c =
         first_fits _ _ _ _ fit _ _ c.left_of-left.ensures c.right_of-right.ensures _ o.0 o.1 (omega (arith, some)),
         few _ _ _ _ fit _ _ c.left_of-left.ensures c.right_of-right.ensures _ o.0 o.1 (omega (arith, some)),
       );
-      fitting = second_fits _ _ _ _ fit _ _ c.left_of-left.ensures c.right_of-right.ensures _ o.0 o.1 (omega (arith, some));
+      fitting = second_fits _ _ _ _ fit _ _ c.left_of-left.ensures c.right_of-right.ensures _ o.0 o.1
+          (omega (arith, some));
     }
 
 pub returns : goal.returns

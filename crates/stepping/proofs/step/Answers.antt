@@ -14,14 +14,25 @@ returns-then-counters-eq0 c =
 pub pop-popped-requires : goal.pop-popped-requires
 pop-popped-requires c =
     let g = c.requires.good in
-    record { ready = g.ready; waiting_nonzero = (omega (arith, c.if-counters-eq0.false), top_below _ _ _ _ _ _ _ g c.if-counters-eq0.false _ refl) }
+    record {
+      ready = g.ready;
+      waiting_nonzero = (
+        omega (arith, c.if-counters-eq0.false),
+        top_below _ _ _ _ _ _ _ g
+            c.if-counters-eq0.false _ refl,
+      );
+    }
 
 pub settle-requires : goal.settle-requires
 settle-requires c =
     let g = c.requires.good in
     let t = c.requires.tables in
     let inside = pop_inside _ t.input _ _ _ _ g c.if-counters-eq0.false _ _ c.pop-popped.ensures in
-    record { tables = (t, inside); unmarked = pop_unmarked _ t.input _ _ _ _ g c.if-counters-eq0.false _ _ c.pop-popped.ensures }
+    record {
+      tables = (t, inside);
+      unmarked = pop_unmarked _ t.input _ _ _ _ g c.if-counters-eq0.false _ _
+          c.pop-popped.ensures;
+    }
 
 pub close-requires : goal.close-requires
 close-requires c =

@@ -22,5 +22,6 @@ loop-count-preserved g c =
     let before = c.loop-count.invariant in
     let read = c.in_ok-more.ensures in
     let room = length c.loop-count.buffer - c.loop-count.count in
-    let joined = front_more c.loop-count.count room c.in_ok-more.more c.loop-count.buffer c.read.new.buf before.1 read.bound.0 in
+    let joined = front_more c.loop-count.count room c.in_ok-more.more c.loop-count.buffer c.read.new.buf before.1
+    read.bound.0 in
     (search rules, search rules, subst (Consumes _ _) joined (Consumes-trans _ _ _ _ _ before.2 read.bytes.0))

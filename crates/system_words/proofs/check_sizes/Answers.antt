@@ -11,13 +11,17 @@ pub returns-then-system-states : goal.returns-then-system-states
 returns-then-system-states c = sym (first-fault _ (other_length _ (omega arith)))
 
 pub returns-then-states-lt1 : goal.returns-then-states-lt1
-returns-then-states-lt1 c = sym (first_next _ (right_length _ (omega arith) (omega arith)) ∙ first-fault _ (no_state _ (omega arith)))
+returns-then-states-lt1 c = sym (first_next _ (right_length _ (omega arith) (omega arith)) ∙ first-fault _
+    (no_state _ (omega arith)))
 
 pub returns-then-states-gt-MOST_STATES : goal.returns-then-states-gt-MOST_STATES
-returns-then-states-gt-MOST_STATES c = sym (first_next _ (right_length _ (omega arith) (omega arith)) ∙ first-fault _ (many-states _ (omega arith)))
+returns-then-states-gt-MOST_STATES c = sym (first_next _ (right_length _ (omega arith) (omega arith)) ∙ first-fault
+    _ (many-states _ (omega arith)))
 
 pub returns-then-transitions-gt-MOST_TRANSITIONS : goal.returns-then-transitions-gt-MOST_TRANSITIONS
-returns-then-transitions-gt-MOST_TRANSITIONS c = sym (first_next _ (right_length _ (omega arith) (omega arith)) ∙ first-fault _ (many-transitions _ (omega arith)))
+returns-then-transitions-gt-MOST_TRANSITIONS c = sym (first_next _ (right_length _ (omega arith) (omega arith)) ∙
+    first-fault _ (many-transitions _ (omega arith)))
 
 pub returns : goal.returns
-returns c = sym (first_next _ (right_length _ (omega arith) (omega arith)) ∙ first_next _ (right_sizes _ (omega arith) (omega arith) (omega arith)) ∙ first-none)
+returns c = sym (first_next _ (right_length _ (omega arith) (omega arith)) ∙ first_next _
+    (right_sizes _ (omega arith) (omega arith) (omega arith)) ∙ first-none)

@@ -18,4 +18,5 @@ returns-in-Fault c =
 pub returns-in-Passed : goal.returns-in-Passed
 returns-in-Passed c =
     let ss = c.args.system.now in
-    c.check_transitions.ensures ∙ sym (first_next_of (refusal21 ss ∷ refusal22 ss ∷ []) _ (sym c.check_sizes-sizes.ensures ∙ c.in-Passed.is))
+    c.check_transitions.ensures ∙ sym (first_next_of (refusal21 ss ∷ refusal22 ss ∷ []) _
+    (sym c.check_sizes-sizes.ensures ∙ c.in-Passed.is))

@@ -9,7 +9,17 @@ pub returns-then-kind-others : goal.returns-then-kind-others
 returns-then-kind-others c = sym (rw (le-ltb _ _ c.if-kind-naming.false, lt-ltb _ _ c.if-kind-others.true))
 
 pub returns-then-kind-known : goal.returns-then-kind-known
-returns-then-kind-known c = sym (rw (le-ltb _ _ c.if-kind-naming.false, le-ltb _ _ c.if-kind-others.false, lt-ltb _ _ c.if-kind-known.true))
+returns-then-kind-known c = sym (rw (
+  le-ltb _ _ c.if-kind-naming.false,
+  le-ltb _ _ c.if-kind-others.false,
+  lt-ltb _
+      _ c.if-kind-known.true,
+))
 
 pub returns : goal.returns
-returns c = sym (rw (le-ltb _ _ c.if-kind-naming.false, le-ltb _ _ c.if-kind-others.false, le-ltb _ _ c.if-kind-known.false))
+returns c = sym (rw (
+  le-ltb _ _ c.if-kind-naming.false,
+  le-ltb _ _ c.if-kind-others.false,
+  le-ltb _ _
+      c.if-kind-known.false,
+))

@@ -11,7 +11,8 @@ loop-node-init c = refl
 pub returns-then-most-kind_at : goal.returns-then-most-kind_at
 returns-then-most-kind_at c =
     let a = c.args in
-    sym (c.loop-node.invariant ∙ from_stop _ _ _ _ (omega arith) (lt-ltb a.most (kind a.ws.now c.loop-node.node) (omega arith)))
+    sym (c.loop-node.invariant ∙ from_stop _ _ _ _ (omega arith)
+    (lt-ltb a.most (kind a.ws.now c.loop-node.node) (omega arith)))
 
 pub loop-node-preserved : goal.loop-node-preserved
 loop-node-preserved c =

@@ -13,7 +13,8 @@ returns-then-children-eq0 c = sym (end_number_leaf _ _ _ c.requires.sized.1 (cc)
 
 pub returns-then-children-eq1 : goal.returns-then-children-eq1
 returns-then-children-eq1 c =
-    c.requires.by_index (c.args.node + 1) (omega arith) (omega arith) ∙ sym (end_number_one _ _ _ c.requires.sized.1 (cc))
+    c.requires.by_index (c.args.node + 1) (omega arith) (omega arith) ∙ sym
+    (end_number_one _ _ _ c.requires.sized.1 (cc))
 
 pub bounds-ends-end : goal.bounds-ends-end
 bounds-ends-end c =
@@ -40,4 +41,5 @@ returns c =
       children_most c.args.table c.args.ws.now c.args.node c.requires.sized.1,
       c.children_at-children.ensures,
     ) in
-    c.requires.by_index _ (omega arith) (omega arith) ∙ ap (end_of c₁ n) k ∙ sym (end_number_two c₁ n _ c.requires.sized.1 two)
+    c.requires.by_index _ (omega arith) (omega arith) ∙ ap (end_of c₁ n) k ∙ sym
+    (end_number_two c₁ n _ c.requires.sized.1 two)

@@ -16,8 +16,10 @@ loop-node-init c =
     let top = size c.args.ws.now + 1 in (
       omega arith,
       simp length-set c.requires.1,
-      set_down f (set es (m + 1) (m + 1)) m top (m + 1) (simp length-set (omega arith)) (omega (arith, out m (omega arith)))
-          (set_down f es (m + 1) top (m + 1) (omega arith) (omega (arith, out (m + 1) (omega arith))) (λ j h l. absurd (omega arith))),
+      set_down f (set es (m + 1) (m + 1)) m top (m + 1) (simp length-set (omega arith))
+          (omega (arith, out m (omega arith)))
+          (set_down f es (m + 1) top (m + 1) (omega arith) (omega (arith, out (m + 1) (omega arith)))
+          (λ j h l. absurd (omega arith))),
     )
 
 pub node_end-end-requires : goal.node_end-end-requires

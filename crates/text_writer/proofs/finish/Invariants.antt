@@ -6,7 +6,8 @@ use Rattle.text_writer.proofs.finish.Given as goal
 
 abbrev pub invariant-loop-place : goal.invariant-loop-place
 invariant-loop-place l =
-    Writing l.place (replicate (length l.initial.text - l.place) 0) l.text l.size (replicate (length l.initial.text - l.size) 0) l.initial.text
+    Writing l.place (replicate (length l.initial.text - l.place) 0) l.text l.size
+    (replicate (length l.initial.text - l.size) 0) l.initial.text
 
 abbrev pub decreases-loop-place : goal.decreases-loop-place
 decreases-loop-place l = length l.initial.text - l.place

@@ -8,7 +8,8 @@ use Rattle.text_writer.proofs.put_numbers.Given as goal
 
 abbrev pub invariant-loop-i : goal.invariant-loop-i
 invariant-loop-i l =
-    (l.i ≤ l.end) × Writing l.place (spaced (slice l.i l.end l.ws)) l.text l.start (spaced (slice l.from l.end l.ws)) l.initial.text
+    (l.i ≤ l.end) × Writing l.place (spaced (slice l.i l.end l.ws)) l.text l.start
+    (spaced (slice l.from l.end l.ws)) l.initial.text
 
 abbrev pub decreases-loop-i : goal.decreases-loop-i
 decreases-loop-i l = l.end - l.i

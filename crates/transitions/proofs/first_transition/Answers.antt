@@ -9,7 +9,12 @@ use Rattle.transitions.proofs.first_transition.Goals as goal
 pub overflow_cast-first : goal.overflow_cast-first
 overflow_cast-first c =
     let i = c.args.state / stride in
-    omega (arith, sum_small c.args.system.now c.requires.system (i * stride) _ (omega (arith, c.requires.state_bound)) (c.requires.samples.entry i (omega (arith, c.requires.state_bound))))
+    omega (
+      arith,
+      sum_small c.args.system.now c.requires.system (i * stride) _
+          (omega (arith, c.requires.state_bound)) (c.requires.samples.entry i
+          (omega (arith, c.requires.state_bound))),
+    )
 
 pub loop-s-init : goal.loop-s-init
 loop-s-init c =
@@ -18,7 +23,12 @@ loop-s-init c =
 pub overflow_add-first : goal.overflow_add-first
 overflow_add-first c =
     let l = c.loop-s in
-    omega (arith, sum_small c.args.system.now c.requires.system l.s l.first (omega (arith, l.invariant.0, c.requires.state_bound)) l.invariant.1, c.at-first.ensures.1)
+    omega (
+      arith,
+      sum_small c.args.system.now c.requires.system l.s l.first
+          (omega (arith, l.invariant.0, c.requires.state_bound)) l.invariant.1,
+      c.at-first.ensures.1,
+    )
 
 pub loop-s-preserved : goal.loop-s-preserved
 loop-s-preserved c =

@@ -22,12 +22,21 @@ loop-s-init c = (
 pub overflow_cast-samples : goal.overflow_cast-samples
 overflow_cast-samples c =
     let l = c.loop-s in
-    omega (arith, sum_small c.args.system.now c.requires.system l.s l.sum (omega (arith, l.invariant.0, l.invariant.1)) l.invariant.3)
+    omega (
+      arith,
+      sum_small c.args.system.now c.requires.system l.s l.sum
+          (omega (arith, l.invariant.0, l.invariant.1)) l.invariant.3,
+    )
 
 pub overflow_add-sum : goal.overflow_add-sum
 overflow_add-sum c =
     let l = c.loop-s in
-    omega (arith, sum_small c.args.system.now c.requires.system l.s l.sum (omega (arith, l.invariant.0, l.invariant.1)) l.invariant.3, c.at-sum.ensures.1)
+    omega (
+      arith,
+      sum_small c.args.system.now c.requires.system l.s l.sum
+          (omega (arith, l.invariant.0, l.invariant.1)) l.invariant.3,
+      c.at-sum.ensures.1,
+    )
 
 pub loop-s-preserved : goal.loop-s-preserved
 loop-s-preserved c =
@@ -41,14 +50,24 @@ loop-s-preserved c =
         l.invariant.1,
         ap length w.samples-is ∙ length-set l.samples (l.s / stride) l.sum ∙ l.invariant.2,
         more,
-        subst (λ (z : List ℕ). (i : ℕ) → i * stride < l.s + 1 → word z i ≡ first_transition ss (i * stride)) (sym w.samples-is) (sample_more ss l.samples l.s l.sum (omega (arith, l.invariant.2, l.invariant.0, l.invariant.1, c.requires.system.1.states, c.requires.sample_count_in_bounds)) w.if-s-eq0.true l.invariant.3 l.invariant.4),
+        subst (λ (z : List ℕ). (i : ℕ) → i * stride < l.s + 1 → word z i ≡ first_transition ss (i * stride))
+            (sym w.samples-is) (sample_more ss l.samples l.s l.sum
+            (omega (
+              arith,
+              l.invariant.2,
+              l.invariant.0,
+              l.invariant.1,
+              c.requires.system.1.states,
+              c.requires.sample_count_in_bounds,
+            )) w.if-s-eq0.true l.invariant.3 l.invariant.4),
       )
       | else-s-eq0 w ↦ (
         omega arith,
         l.invariant.1,
         ap length w.samples-is ∙ l.invariant.2,
         more,
-        subst (λ (z : List ℕ). (i : ℕ) → i * stride < l.s + 1 → word z i ≡ first_transition ss (i * stride)) (sym w.samples-is) (sample_between ss l.samples l.s w.if-s-eq0.false l.invariant.4),
+        subst (λ (z : List ℕ). (i : ℕ) → i * stride < l.s + 1 → word z i ≡ first_transition ss (i * stride))
+            (sym w.samples-is) (sample_between ss l.samples l.s w.if-s-eq0.false l.invariant.4),
       )
     ]
 

@@ -34,7 +34,8 @@ bounds-out-place c =
     let s = c.before.before.before.before.before.before.before in
     let l = c.loop-i in
     let f : ℕ → ℕ = λ v. word s.args.src.now (s.args.base + v) in
-    carry-room f s.args.numbers.now l.i s.args.count c.loop-i-test.true s.requires.count_in_bounds.0 s.requires.count_in_bounds.1 l.invariant.1
+    carry-room f s.args.numbers.now l.i s.args.count c.loop-i-test.true s.requires.count_in_bounds.0
+    s.requires.count_in_bounds.1 l.invariant.1
 
 pub offset_bounds-out-place : goal.offset_bounds-out-place
 offset_bounds-out-place c = omega (arith, bounds-out-place c)

@@ -7,7 +7,9 @@ use Rattle.rules.specs.Lists.{word}
 use Rattle.words.proofs.carry.Given as goal
 
 abbrev pub invariant-loop-i : goal.invariant-loop-i
-invariant-loop-i l = (l.i ≤ l.count) × Writing l.place (map (λ v. word l.src (l.base + v)) (slice l.i l.count l.numbers)) l.out l.start (map (λ v. word l.src (l.base + v)) (take l.count l.numbers)) l.initial.out
+invariant-loop-i l = (l.i ≤ l.count) × Writing l.place
+    (map (λ v. word l.src (l.base + v)) (slice l.i l.count l.numbers)) l.out l.start
+    (map (λ v. word l.src (l.base + v)) (take l.count l.numbers)) l.initial.out
 
 abbrev pub decreases-loop-i : goal.decreases-loop-i
 decreases-loop-i l = l.count - l.i

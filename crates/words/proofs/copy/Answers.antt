@@ -15,7 +15,8 @@ pub bounds-out-place : goal.bounds-out-place
 bounds-out-place c =
     let s = c.before.before.before in
     let l = c.loop-index in
-    copy_room s.args.src.now s.args.from l.index s.args.end c.loop-index-test.true s.requires.1 s.requires.2 l.invariant.1
+    copy_room s.args.src.now s.args.from l.index s.args.end c.loop-index-test.true s.requires.1 s.requires.2
+    l.invariant.1
 
 pub offset_bounds-out-place : goal.offset_bounds-out-place
 offset_bounds-out-place c = omega (arith, bounds-out-place c)
