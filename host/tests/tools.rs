@@ -36,12 +36,11 @@ fn help_explains_and_does_nothing() {
 
 #[test]
 fn a_named_oracle_must_be_there() {
-    refuses(COMPARE, "--oracle nowhere/oracle", "there is no program at nowhere/oracle");
-    refuses(BENCH, "--oracle=nowhere/bench", "there is no program at nowhere/bench");
-    refuses(BENCH, "--before nowhere/bench", "there is no program at nowhere/bench");
+    refuses(COMPARE, "--oracle nowhere/oracle", "there is no oracle at nowhere/oracle");
+    refuses(BENCH, "--oracle=nowhere/bench", "there is no oracle at nowhere/bench");
     let output = run(TOOLS[2], "nowhere/oracle nowhere/crates");
     assert_eq!(output.status.code(), Some(1));
-    assert!(text(&output.stderr).contains("there is no program at nowhere/oracle"));
+    assert!(text(&output.stderr).contains("there is no oracle at nowhere/oracle"));
 }
 
 #[test]
@@ -54,7 +53,6 @@ fn mistakes_are_named() {
     refuses(BENCH, "boxen", "there is no shape boxen");
     refuses(BENCH, "--runs 0", "--runs: 0 is too small");
     refuses(BENCH, "--sizes 1,5", "--sizes: 5 is none of 1, 2, 3, 4");
-    refuses(BENCH, &format!("--before {BENCH} million"), "--before measures runs, and million is a text");
 }
 
 #[test]
@@ -64,6 +62,28 @@ fn a_stage_by_its_name() {
     let text = text(&output.stdout);
     assert!(text.contains("verdict of the known false alarm") && !text.contains("random games"), "{text}");
     assert!(text.contains("verdicts: 1 games: 0 agree (0 pass, 0 do not), 1 false alarms, 0 false passes"), "{text}");
+}
+
+/// A median, the least and the greatest, where it was a single figure before.
+#[test]
+fn tables_have_medians_and_bounds() {
+    let output = run(BENCH, "--runs 2 --sizes 1 nested");
+    let text = text(&output.stdout);
+    let row = text.lines().find(|line| line.starts_with("| nested | 1x | 8180 | 8186 | ")).unwrap_or_default();
+    let cells: Vec<&str> = row.split(" | ").collect();
+    assert!(output.status.success() && cells.len() == 7, "{text}");
+    for cell in &cells[4..] {
+        let numbers: Vec<f64> = cell.split(['(', ')', ' ', '|']).filter_map(|word| word.parse().ok()).collect();
+        let [median, least, most] = numbers[..] else { panic!("no median and bounds: {cell}") };
+        assert!(0.0 < least && least <= median && median <= most, "{cell}");
+    }
+    assert!(!text.contains("Rust text s | Rust text / library"), "no oracle was named");
+}
+
+#[test]
+fn an_earlier_library_is_a_program_and_measures_runs() {
+    refuses(BENCH, "--before nowhere/bench", "there is no program at nowhere/bench");
+    refuses(BENCH, &format!("--before {BENCH} million"), "--before measures runs, and million is a text");
 }
 
 /// What `bench` prints with these words, and the cells of the row that begins so. Each behind the first ones is a
@@ -81,13 +101,6 @@ fn row_of(line: &str, begins: &str, first: usize) -> (String, usize) {
     }
     let count = cells.len();
     (text, count)
-}
-
-#[test]
-fn tables_have_medians_and_bounds() {
-    let (text, cells) = row_of("--runs 2 --sizes 1 nested", "| nested | 1x | 8180 | 8186 | ", 4);
-    assert_eq!(cells, 7, "{text}");
-    assert!(!text.contains("Rust text s | Rust text / library"), "no oracle was named");
 }
 
 /// The library beside itself.

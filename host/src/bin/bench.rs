@@ -672,7 +672,8 @@ fn settings(arguments: Vec<String>) -> Result<Settings, String> {
     let patience = options.number("--seconds", 20)? as f64;
     let program = options.value("--oracle").map(program_at).transpose()?;
     let original = program.map(|program| Original { program, patience });
-    let before = options.value("--before").map(program_at).transpose()?;
+    let earlier = |path: &str| program_at(path).map_err(|_| format!("there is no program at {path}"));
+    let before = options.value("--before").map(earlier).transpose()?;
     Ok(Settings { original, before, runs: options.count("--runs", 5)? as usize, sizes, names: options.names })
 }
 

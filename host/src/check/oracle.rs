@@ -21,7 +21,7 @@ pub enum Reply {
 /// file here, not a command.
 pub fn program_at(path: &str) -> Result<PathBuf, String> {
     let program = std::fs::canonicalize(path).ok().filter(|program| program.is_file());
-    program.ok_or_else(|| format!("there is no program at {path}"))
+    program.ok_or_else(|| format!("there is no oracle at {path}"))
 }
 
 pub struct Oracle {
