@@ -51,7 +51,7 @@ pub extern "C" fn hingrezh_translate(
 )
     ensures coded { answer.new ≡ said (run by_depth (input_of labels.now system.now
         actions.now formula.now) (room_of vertices edges) limit game.old work.old).answer }
-    ensures equals { Says answer.exit.now (λ a.
+    ensures equals { Says answer.new (λ a.
         ◌≡◌ {A = Outcome} (record { answer = a; game = game.new; work = work.new })
         (run by_depth (input_of labels.now system.now actions.now formula.now)
         (room_of vertices edges) limit game.old work.old)) }
@@ -81,7 +81,7 @@ pub extern "C" fn hingrezh_compute_reachable(
 )
     ensures coded { answer.new
         ≡ said (restriction game.now out.old map.old work.old).answer }
-    ensures equals { Says answer.exit.now (λ a. ◌≡◌ {A = Restricted}
+    ensures equals { Says answer.new (λ a. ◌≡◌ {A = Restricted}
         (record { answer = a; out = out.new; mapping = map.new; work = work.new })
         (restriction game.now out.old map.old work.old)) }
     ensures restricts { Says answer.new (λ a. Accepted a
@@ -99,7 +99,7 @@ pub extern "C" fn hingrezh_compute_reachable(
 #[unsafe(no_mangle)]
 pub extern "C" fn hingrezh_write_pgsolver(game: &[u32], text: &mut [u8], answer: &mut [u32; 4])
     ensures coded { answer.new ≡ said (written_game game.now text.old).answer }
-    ensures equals { Says answer.exit.now (λ a. ◌≡◌ {A = Written}
+    ensures equals { Says answer.new (λ a. ◌≡◌ {A = Written}
         (record { answer = a; text = text.new }) (written_game game.now text.old)) }
     ensures demand { Says answer.new (λ a.
         WritingDemand game.now text.old a text.new) }
@@ -120,7 +120,7 @@ pub extern "C" fn hingrezh_read_pgsolver(
 )
     ensures coded { answer.new
         ≡ said (read_game (room_of vertices edges) text.now game.old).answer }
-    ensures equals { Says answer.exit.now (λ a. ◌≡◌ {A = Readback}
+    ensures equals { Says answer.new (λ a. ◌≡◌ {A = Readback}
         (record { answer = a; game = game.new })
         (read_game (room_of vertices edges) text.now game.old)) }
     ensures demand { Says answer.new (λ a.

@@ -8,6 +8,8 @@ use Rattle.pairs.specs.declared.Numbered.TheVariants.{Vertex, NoRoom}
 use Rattle.pairs.specs.Slot.{slot_of}
 use Rattle.pairs.specs.Table.{slot_count, slots_of, key_in, held_in, keys_of, Path, Table}
 
+-- ---- along the slots from a up to b
+
 -- each is taken, by another key than k
 pub record Others (slots : List ℕ) (a b k : ℕ) : Type 0 where
   pub taken : (q : ℕ) → a ≤ q → q < b → 0 < held_in slots q
@@ -32,6 +34,8 @@ abbrev pub Probed : List ℕ → (a b k : ℕ) → Place → Type 0
 Probed slots a b k (Known i) = Has slots a b k i.0
 Probed slots a b k (Free p) = Ends slots a b k p
 Probed slots a b k Nowhere = Others slots a b k
+
+-- ---- in the table
 
 -- key k is not known, and slot p is the empty one for it
 pub record Fresh (w : List ℕ) (v n k p : ℕ) : Type 0 where

@@ -22,6 +22,8 @@ Accepted (Done s v e) = Unit {0}
 Accepted (Cut s v e) = Unit {0}
 Accepted (Refused n p) = ⊥
 
+-- ---- checks
+
 -- fault n at place p if the test holds
 unfoldable pub fault_if : ℕ → ℕ → Bool → Check
 fault_if n p true = Fault n p

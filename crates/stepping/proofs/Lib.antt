@@ -7,4 +7,3 @@ pub mod Walking
 pub mod Starts
 pub mod Offsets
 pub mod Paired
-pub mod Slots
