@@ -3,66 +3,73 @@
 
 ghost use Rattle.std.specs.Prelude.{◌≡◌, [], ◌∷◌, ◌<◌, length};
 ghost use Rattle.rules.specs.Answers.{first_fault};
-ghost use Rattle.rules.specs.Table.{size, action_children};
-ghost use Rattle.rules.specs.Refusal.{bad_action_operand, refusal31, refusal32, refusal33, refusal34};
-ghost use Rattle.table_words.specs.Tables.{Sized, Ends, Firsts};
+ghost use Rattle.rules.specs.Table.{size};
+ghost use Rattle.rules.specs.Refusal.{fault_from, bad_action_operand, refusal31, refusal32, refusal33, refusal34};
+ghost use Rattle.table_words.specs.Tables.{Sized};
 
-use rules::Check;
-use table_words::{FirstNodes, Table, TreeEnds};
+use node_kinds::ActionKind;
+use rules::Fault;
+use table_words::{Row, Trees};
 use words::NODES;
 
 // The operand of a node is wrong. As a name, that of a multi-action, it is a label below L.
-fn bad_operand(labels: &[u32], actions: &[u32], ends: &TreeEnds, node: usize) -> bool
-    requires labels_nonzero { (0 < length labels.now) × Sized actions.now × (node < size actions.now) }
-    requires ends { Ends (action_children actions.now) (size actions.now) ends.now }
-    ensures { result ≡ bad_action_operand labels.now actions.now node }
+#[tactic(auto, unfolding(rules::specs::Refusal::bad_action_operand))]
+fn bad_operand(labels: &[u32], trees: &Trees<'_, '_, ActionKind>, node: usize) -> bool
+    requires { (0 < length labels.now) × (node < size trees.now.words.now) }
+    ensures { result ≡ bad_action_operand labels.now trees.now.words.now node }
 {
-    let unnamed = words::at(labels, 0) <= words::operand_at(actions, node);
-    table_words::bad_operand(actions, Table::Actions, ends, node, unnamed)
+    let unnamed = words::at(labels, 0) <= words::operand_at(trees.words, node);
+    trees.bad_operand(node, unnamed)
+}
+
+// 34: an operand.
+fn check_operands(labels: &[u32], trees: &Trees<'_, '_, ActionKind>) -> Result<(), Fault>
+    requires { 0 < length labels.now }
+    ensures { result ≡ fault_from 34 0 (size trees.now.words.now)
+        (bad_action_operand labels.now trees.now.words.now) }
+{
+    faults::first_fault(34, 0, trees.size(), |node| bad_operand(labels, trees, node))
 }
 
 // 34: an operand, or an unfinished tree.
-fn check_operands(labels: &[u32], actions: &[u32], ends: &TreeEnds, firsts: &FirstNodes) -> Check
-    requires labels_nonzero { (0 < length labels.now) × Sized actions.now }
-    requires ends { Ends (action_children actions.now) (size actions.now) ends.now
-        × Firsts (action_children actions.now) (size actions.now) firsts.now }
-    ensures { result ≡ refusal34 labels.now actions.now }
+#[tactic(auto, using(tables::proofs::Pools::refusal34_scan), unfolding(rules::specs::Answers::and_then, rules::specs::Answers::fault_if))]
+fn check_trees(
+    labels: &[u32],
+    trees: &Trees<'_, '_, ActionKind>,
+    row: &Row<'_, '_, ActionKind>,
+) -> Result<(), Fault>
+    requires { (0 < length labels.now) × (row.now.words.now ≡ trees.now.words.now) }
+    ensures { result ≡ refusal34 labels.now trees.now.words.now }
 {
-    let count = words::at(actions, 0);
-    let mut node = 0;
-    while node < count {
-        if bad_operand(labels, actions, ends, node) {
-            return Check::Fault(34, node as u32);
-        }
-        node += 1;
+    check_operands(labels, trees)?;
+    if !row.is_finished() {
+        return Err(Fault {
+            number: 34,
+            place: trees.size() as u32,
+        });
     }
-    if firsts[count] {
-        return Check::Passed;
-    }
-    Check::Fault(34, count as u32)
+    Ok(())
 }
 
 // 34, for which the ends of the trees and the row are kept here.
-fn check_row(labels: &[u32], actions: &[u32]) -> Check
+fn check_row(labels: &[u32], actions: &[u32]) -> Result<(), Fault>
     requires { (0 < length labels.now) × Sized actions.now }
     ensures { result ≡ refusal34 labels.now actions.now }
 {
     let mut ends = [0usize; NODES + 2];
-    table_words::tree_ends(actions, Table::Actions, &mut ends);
+    let trees = Trees::<ActionKind>::of(actions, &mut ends);
     let mut firsts = [false; NODES + 1];
-    table_words::first_nodes(actions, &ends, &mut firsts);
-    check_operands(labels, actions, &ends, &firsts)
+    let row = trees.row(&mut firsts);
+    check_trees(labels, &trees, &row)
 }
 
 // 31 to 34: the action formulas.
-pub fn check_actions(labels: &[u32], actions: &[u32]) -> Check
+#[tactic(auto, unfolding(rules::specs::Answers::first_fault, rules::specs::Answers::and_then, rules::specs::Answers::fault_if, rules::specs::Refusal::outside, rules::specs::Refusal::refusal31, rules::specs::Refusal::refusal32, rules::specs::Refusal::refusal33))]
+pub fn check_actions(labels: &[u32], actions: &[u32]) -> Result<(), Fault>
     requires { 0 < length labels.now }
     ensures { result ≡ first_fault (refusal31 actions.now ∷ refusal32 actions.now
         ∷ refusal33 actions.now ∷ refusal34 labels.now actions.now ∷ []) }
 {
-    let checked = table_words::check_table(actions, 0, 5, 31);
-    match checked {
-        Check::Fault(number, place) => Check::Fault(number, place),
-        Check::Passed => check_row(labels, actions),
-    }
+    table_words::check_table(actions, 0, 5, 31)?;
+    check_row(labels, actions)
 }

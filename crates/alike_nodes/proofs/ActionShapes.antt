@@ -12,7 +12,6 @@ use Rattle.tables.specs.Good.{GoodActions}
 use Rattle.labels.specs.Classes.{Classes}
 use Rattle.trees.proofs.ActionTrees.{any_tree, never_tree, multi_tree, union_tree, intersection_tree, negation_tree}
 use Rattle.alike_nodes.specs.Nodes.{Last, Numbered, ActionShown}
-use Rattle.alike_nodes.proofs.Numbering.{Numbering}
 
 module _ (ls acts : List ℕ) (good : GoodActions (label_count ls) acts) (v : ℕ) (h : v < size acts) where
   abbrev Shows : (k l r : ℕ) → Type 0
@@ -64,12 +63,3 @@ module _ (ls acts : List ℕ) (good : GoodActions (label_count ls) acts) (v : �
         go (no d) =
             let z : k ≡ 4 = omega arith in
             to _ k (word numbers (v + 1)) (word numbers o) (intersection_tree (label_count ls) acts good ls v h (sym e ∙ z)) (z, next k e p, right k o e p q i)
-
--- ---- the nodes from i on are placed
-
-abbrev pub ActionShows : (ls acts : List ℕ) → Action → (k l r : ℕ) → Type 0
-ActionShows ls acts = ActionShown (Last (action_tree ls acts) (size acts))
-
-abbrev pub ActionsNumbering : (ls acts : List ℕ) (shapes₀ numbers₀ : List ℕ) (count i : ℕ) (shapes numbers : List ℕ) → Type 0
-ActionsNumbering ls acts shapes₀ numbers₀ count i shapes numbers =
-    Numbering (action_tree ls acts) (ActionShows ls acts) (size acts) shapes₀ numbers₀ count i shapes numbers

@@ -1,10 +1,9 @@
 -- The shape of a node of the formula, one law for each kind that the code tests. Assumes nothing.
 use mathlib.Core.Path.{◌≡◌, refl, sym, ap, subst, ◌∙◌}
 use mathlib.Core.List.{List}
-use Prim.Native.Nat.{ℕ, suc, ◌+◌, ◌-◌, ◌≤◌, ◌<◌}
+use Prim.Native.Nat.{ℕ, suc, ◌+◌, ◌≤◌, ◌<◌}
 use native.Mathlib.Decide.{ℕ_discrete}
 use native.Mathlib.Omega.{arith}
-use lib.ListN.{length, set}
 use Rattle.rules.specs.Lists.{word}
 use Rattle.rules.specs.Words.{Input}
 use Rattle.rules.specs.Table.{size, kind, operand}
@@ -13,10 +12,7 @@ use Rattle.rules.specs.Formula.{Formula, formula_tree, equation_number}
 use Rattle.tables.specs.Good.{GoodInput}
 use Rattle.trees.proofs.Fixpoints.{fixpoint_kind}
 use Rattle.trees.proofs.FormulaTrees.{truth_tree, falsity_tree, conjunction_tree, disjunction_tree, box_tree, diamond_tree, fixpoint_tree, reference_tree}
-use Rattle.alike_nodes.specs.declared.Shape.{Shape}
-use Rattle.alike_nodes.specs.Nodes.{Last, Numbered, Later, EquationNumbers, FormulaShown, NodeShown, number_in, ShapePut}
-use Rattle.alike_nodes.proofs.Showing.{formula-words, formula_shown_one, formula_shown_map}
-use Rattle.alike_nodes.proofs.Numbering.{Numbering, node_below, later_numbered, numbering_next}
+use Rattle.alike_nodes.specs.Nodes.{Last, Numbered, Later, EquationNumbers, FormulaShown}
 
 module _ (x : Input) (good : GoodInput x) (numbers : List ℕ) (v : ℕ) (h : v < size x.formula) where
   abbrev OfAction : Action → ℕ → Type 0
@@ -109,38 +105,3 @@ module _ (x : Input) (good : GoodInput x) (numbers : List ℕ) (v : ℕ) (h : v 
         go (no d) =
             let z : k ≡ 5 = omega arith in
             to _ k (word numbers (v + 1)) (word acts o) (diamond_tree (size x.actions) x good.formula v h (sym e ∙ z)) (z, next k e (omega arith) q, action k o e p q i)
-
-  -- where the later nodes are numbered, the operands' numbers are those of their trees
-  pub shape_numbered : Numbered (formula_tree x) (size x.formula) (v + 1) numbers → (k l r : ℕ) → Shows k l r
-      → FormulaShown (Last (formula_tree x) (size x.formula)) (Last (action_tree x.labels x.actions) (size x.actions)) (formula_tree x v) k l r
-  shape_numbered known k l r s =
-      formula_shown_map (Later (formula_tree x) (size x.formula) v numbers) (Last (formula_tree x) (size x.formula))
-      (Last (action_tree x.labels x.actions) (size x.actions)) (Last (action_tree x.labels x.actions) (size x.actions))
-      (λ t m z. rw (← z.carries, ← z.number) (known.number z.node (let p = z.past in omega arith) z.below))
-      (λ a m z. z)
-      (formula_tree x v) k l r s
-
--- ---- the nodes from i on are placed
-
-abbrev pub FormulaShows : (x : Input) → Formula → (k l r : ℕ) → Type 0
-FormulaShows x = FormulaShown (Last (formula_tree x) (size x.formula)) (Last (action_tree x.labels x.actions) (size x.actions))
-
-abbrev pub FormulaNumbering : (x : Input) (shapes₀ numbers₀ : List ℕ) (count i : ℕ) (shapes numbers : List ℕ) → Type 0
-FormulaNumbering x shapes₀ numbers₀ count i shapes numbers =
-    Numbering (formula_tree x) (FormulaShows x) (size x.formula) shapes₀ numbers₀ count i shapes numbers
-
-pub formula_next : (x : Input) (good : GoodInput x) {shapes₀ numbers₀ : List ℕ} {count i : ℕ} {shapes numbers : List ℕ}
-    → FormulaNumbering x shapes₀ numbers₀ count i shapes numbers
-    → 0 < i
-    → (s : Shape) (shapes' numbers' : List ℕ)
-    → NodeShown x numbers (i - 1) s
-    → ShapePut shapes shapes' (i - 1) s
-    → length numbers' ≡ length numbers
-    → numbers' ≡ set numbers (i - 1) (number_in shapes numbers count (i - 1) s)
-    → FormulaNumbering x shapes₀ numbers₀ count (i - 1) shapes' numbers'
-formula_next x good {i = i} {numbers = numbers} done more s shapes' numbers' shown =
-    numbering_next done more
-    (formula-words (formula_tree x) (size x.formula) (action_tree x.labels x.actions) (size x.actions))
-    (formula_shown_one (formula_tree x) (size x.formula) (action_tree x.labels x.actions) (size x.actions))
-    s shapes' numbers'
-    (shape_numbered x good numbers (i - 1) (node_below done more) (later_numbered done more) s.kind s.left s.right shown)

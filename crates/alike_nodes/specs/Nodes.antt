@@ -1,14 +1,13 @@
 -- Nodes with equal trees have one number: the last node that has the tree. A node is shown by three words, its kind
 -- and the numbers of its operands, so that two nodes have equal trees exactly if their words are equal. Assumes
 -- nothing: these are definitions.
-use Rattle.std.specs.Prelude.{◌≡◌, Bool, cond, ◌&&◌, List, ℕ, ◌+◌, ◌-◌, ◌≤◌, ◌<◌, length, set, eqb, ltb}
-use Rattle.rules.specs.Lists.{word, seek}
+use Rattle.std.specs.Prelude.{◌≡◌, ◌⊎◌, List, ℕ, ◌+◌, ◌≤◌, ◌<◌, length, get_or}
+use Rattle.rules.specs.Lists.{word}
 use Rattle.rules.specs.Words.{Input}
 use Rattle.rules.specs.Table.{size, kind}
 use Rattle.rules.specs.Actions.{Action, action_tree, any_action, never_action, multi_action, union, intersection, negation}
 use Rattle.rules.specs.Formula.{Formula, truth, falsity, conjunction, disjunction, box, diamond, reference}
 use Rattle.rules.specs.Formula.{equation_number, formula_tree}
-use Rattle.compiled.specs.Stretches.{stretch}
 use Rattle.alike_nodes.specs.declared.Shape.{Shape}
 
 -- ---- numbers of nodes
@@ -65,10 +64,14 @@ FormulaShown Number OfAction (box a f) k l r = (k ≡ 4) × Number f l × OfActi
 FormulaShown Number OfAction (diamond a f) k l r = (k ≡ 5) × Number f l × OfAction a r
 FormulaShown Number OfAction (reference i) k l r = (k ≡ 8) × (l ≡ i) × (r ≡ 0)
 
--- the shape of a node of the action formulas
-abbrev pub ActionNodeShown : (ls acts : List ℕ) (v : ℕ) → Shape → Type 0
-ActionNodeShown ls acts v s =
-    ActionShown (Last (action_tree ls acts) (size acts)) (action_tree ls acts v) s.kind s.left s.right
+-- the shapes that show a tree, by the numbers of the nodes
+abbrev pub ActionShows : (ls acts : List ℕ) → Action → Shape → Type 0
+ActionShows ls acts t s = ActionShown (Last (action_tree ls acts) (size acts)) t s.kind s.left s.right
+
+abbrev pub FormulaShows : Input → Formula → Shape → Type 0
+FormulaShows x t s =
+    FormulaShown (Last (formula_tree x) (size x.formula)) (Last (action_tree x.labels x.actions) (size x.actions)) t
+    s.kind s.left s.right
 
 -- the shape of a node of the formula, by the numbers of the nodes past it
 abbrev pub NodeShown : Input → (numbers : List ℕ) (v : ℕ) → Shape → Type 0
@@ -77,45 +80,15 @@ NodeShown x numbers v s =
     (Last (action_tree x.labels x.actions) (size x.actions))
     (formula_tree x v) s.kind s.left s.right
 
--- ---- what is computed from the words
+-- ---- the numbers of the nodes as they are given
 
--- node u is shown by these words
-unfoldable pub shown_by : (kinds lefts rights : List ℕ) → (k l r u : ℕ) → Bool
-shown_by kinds lefts rights k l r u = eqb (word kinds u) k && (eqb (word lefts u) l && eqb (word rights u) r)
+-- the shape of a node that is not there
+abbrev pub no_shape : Shape
+no_shape = record { kind = 0; left = 0; right = 0 }
 
--- the number of node v of n, shown by k, l and r: that of the first later node shown by the same words, or v if there
--- is none
-unfoldable pub number_of : (kinds lefts rights numbers : List ℕ) → (n v k l r : ℕ) → ℕ
-number_of kinds lefts rights numbers n v k l r =
-    let u = seek (shown_by kinds lefts rights k l r) (v + 1) (n - (v + 1)) in
-    cond (ltb u n) (word numbers u) v
-
--- ---- the shapes in one array of three columns
-
-abbrev pub shape_words : ℕ
-shape_words = 3_072
-
-abbrev pub kinds_in : List ℕ → List ℕ
-kinds_in shapes = stretch 0 1024 shapes
-
-abbrev pub lefts_in : List ℕ → List ℕ
-lefts_in shapes = stretch 1024 1024 shapes
-
-abbrev pub rights_in : List ℕ → List ℕ
-rights_in shapes = stretch 2048 1024 shapes
-
--- node u has this shape
-abbrev pub shown_in : (shapes : List ℕ) → Shape → (u : ℕ) → Bool
-shown_in shapes s u = shown_by (kinds_in shapes) (lefts_in shapes) (rights_in shapes) s.kind s.left s.right u
-
--- the number of node v of n, which has this shape
-abbrev pub number_in : (shapes numbers : List ℕ) (n v : ℕ) → Shape → ℕ
-number_in shapes numbers n v s =
-    number_of (kinds_in shapes) (lefts_in shapes) (rights_in shapes) numbers n v s.kind s.left s.right
-
--- the shape of node v was put
-pub record ShapePut (before after : List ℕ) (v : ℕ) (s : Shape) : Type 0 where
-  pub sized : length after ≡ length before
-  pub kinds : kinds_in after ≡ set (kinds_in before) v s.kind
-  pub lefts : lefts_in after ≡ set (lefts_in before) v s.left
-  pub rights : rights_in after ≡ set (rights_in before) v s.right
+-- r is the number of a node of shape s, given the shapes of the later nodes: the number of one of these that has the
+-- shape, or, if none has it, the node's own
+abbrev pub NumberGiven : (later : List Shape) (numbers : List ℕ) (node : ℕ) → Shape → ℕ → Type 0
+NumberGiven later numbers node s r =
+    ((k : ℕ) × (k < length later) × (get_or later k no_shape ≡ s) × (r ≡ word numbers (node + 1 + k)))
+    ⊎ (((k : ℕ) → k < length later → ¬ (get_or later k no_shape ≡ s)) × (r ≡ node))

@@ -3,222 +3,220 @@
 // compared by three words each.
 #![tactic(auto)]
 
-ghost use Rattle.std.specs.Prelude.{◌≡◌, ◌+◌, ◌-◌, ◌≤◌, ◌<◌, length, set};
-ghost use Rattle.rules.specs.Lists.{seek};
-ghost use Rattle.rules.specs.Words.{most_nodes, Input, input_of};
+ghost use Rattle.std.specs.Prelude.{◌≡◌, ℕ, ◌+◌, ◌≤◌, ◌<◌, ⊤, length};
+ghost use Rattle.rules.specs.Words.{most_nodes};
 ghost use Rattle.rules.specs.Labels.{label_count};
 ghost use Rattle.rules.specs.Table.{size};
-ghost use Rattle.rules.specs.Actions.{action_tree};
-ghost use Rattle.tables.specs.Good.{GoodActions, GoodInput};
+ghost use Rattle.rules.specs.Actions.{Action, action_tree};
+ghost use Rattle.rules.specs.Formula.{Formula, formula_tree};
+ghost use Rattle.tables.specs.Good.{GoodActions};
 ghost use Rattle.labels.specs.Classes.{Classes};
-ghost use Rattle.alike_nodes.specs.Nodes.{Numbered, ActionNumbers, FormulaNumbers, EquationNumbers};
-ghost use Rattle.alike_nodes.specs.Nodes.{ActionNodeShown, NodeShown, shape_words, shown_in, number_in, ShapePut};
+ghost use Rattle.lent_input.specs.Inputs.{input_in};
+ghost use Rattle.alike_nodes.specs.declared.Shape.{Shape};
+ghost use Rattle.alike_nodes.specs.Nodes.{Numbered, NumberGiven, ActionNumbers, EquationNumbers};
+ghost use Rattle.alike_nodes.specs.Nodes.{NodeShown, ActionShows, FormulaShows};
+ghost use Rattle.alike_nodes.specs.Laws.{action_one_shape, action_one_tree, formula_one_shape, formula_one_tree};
 
-use words::at;
+use lent_input::Input;
+use node_kinds::{ActionKind, FormulaKind};
+use words::{NODES, at, kind_at, operand_at};
 
-// What a node is: its kind and its two operands.
-#[derive(Clone, Copy)]
+// What a node is: the word of its kind and its two operands.
+// Kept (no plainer): the kind is a word: one array of shapes serves both tables, whose kinds are two types.
+#[derive(Clone, Copy, PartialEq, Eq, Debug)]
 pub struct Shape {
     pub kind: u32,
     pub left: u32,
     pub right: u32,
 }
 
-// The shapes of the nodes stand in one array of three columns: only the functions below index it.
-const KINDS: usize = 0;
+impl Shape {
+    // The shape that stands where no node has one yet.
+    pub const NONE: Shape = Shape {
+        kind: 0,
+        left: 0,
+        right: 0,
+    };
 
-const LEFTS: usize = 1024;
+    // The shape of these words.
+    fn new(kind: u32, left: u32, right: u32) -> Shape
+        ensures { result ≡ record { kind = kind; left = left; right = right } }
+    {
+        Shape { kind, left, right }
+    }
+}
 
-const RIGHTS: usize = 2048;
-
-pub const SHAPES: usize = 3072;
-
-pub type Shapes = [u32; SHAPES];
+// The shapes of the nodes of a table.
+pub type Shapes = [Shape; NODES];
 
 // The kind of a reference, which an inner fixpoint is too.
 const REFERENCE: u32 = 8;
 
-// ---- the shape of a node
+// Nodes of a table of trees. Two nodes have one tree exactly where the shapes that show them are equal: a shape has the
+// numbers of later nodes.
+pub trait Nodes {
+    ghost Tree: { Type 0 };
 
-// The shape of these words.
-fn shaped(kind: u32, left: u32, right: u32) -> Shape
-    ensures { result ≡ record { kind = kind; left = left; right = right } }
-{
-    Shape { kind, left, right }
+    // the tree of a node, how many nodes there are, which shape shows a tree
+    ghost tree: { Self → ℕ → Tree };
+
+    ghost count: { Self → ℕ };
+
+    ghost Shown: { Self → Tree → Shape → Type 0 };
+
+    // what has to hold of what the nodes are shown by
+    ghost Known: { Self → Type 0 };
+
+    // How many nodes there are.
+    fn count(&self) -> usize
+        ensures { (result ≡ count self.now) × (result ≤ most_nodes) };
+
+    // The shape of a node, where `numbers` has the later nodes.
+    fn shape(&self, numbers: &[u32], node: usize) -> Shape
+        requires known { Known self.now × (node < count self.now) }
+        requires numbered { Numbered (tree self.now) (count self.now) (node + 1) numbers.now }
+        ensures { Shown self.now (tree self.now node) result };
+
+    ghost one_shape: { (x : Self) (t : Tree) (a b : Shape) → Shown x t a → Shown x t b → a ≡ b };
+
+    ghost one_tree: { (x : Self) (s t : Tree) (a : Shape) → Shown x s a → Shown x t a → s ≡ t };
 }
 
-// The shape of a node of the action formulas, where `numbers` has the later nodes.
-fn action_shape(
-    labels: &[u32],
-    classes: &[u32],
-    actions: &[u32],
-    numbers: &[u32],
-    node: usize,
-) -> Shape
-    requires good_actions { GoodActions (label_count labels.now) actions.now × Classes labels.now classes.now }
-    requires node_bound { node < size actions.now }
-    requires numbered { Numbered (action_tree labels.now actions.now) (size actions.now) (node + 1) numbers.now }
-    ensures { ActionNodeShown labels.now actions.now node result }
-{
-    let kind = words::kind_at(actions, node) as u32;
-    if kind <= 1 {
-        return shaped(kind, 0, 0);
-    }
-    let operand = words::operand_at(actions, node);
-    if kind == 2 {
-        return shaped(kind, classes[operand], 0);
-    }
-    let left = numbers[node + 1];
-    if kind == 5 {
-        return shaped(kind, left, 0);
-    }
-    shaped(kind, left, numbers[operand])
+// ---- the nodes of the action formulas
+
+// `classes` has the labels' multisets.
+#[derive(Clone, Copy)]
+pub struct ActionNodes<'a, 'c> {
+    pub labels: &'a [u32],
+    pub classes: &'c [u32],
+    pub actions: &'a [u32],
+    ghost good: { GoodActions (label_count labels.now) actions.now },
+    ghost known: { Classes labels.now classes.now },
 }
 
-// The shape of a node of the formula as it stands in a body. Its operands are shown by their numbers, its action
-// formula by the number in `acts`.
-pub fn formula_shape(
-    labels: &[u32],
-    system: &[u32],
-    actions: &[u32],
-    formula: &[u32],
-    acts: &[u32],
-    equations: &[u32],
-    numbers: &[u32],
-    node: usize,
-) -> Shape
-    requires good_input { let x = input_of labels.now system.now actions.now formula.now in
-        GoodInput x × (node < size x.formula) × (size x.formula ≤ length numbers.now) }
-    requires action_numbers { let x = input_of labels.now system.now actions.now formula.now in
-        ActionNumbers x acts.now × EquationNumbers x.formula equations.now }
-    ensures { let x = input_of labels.now system.now actions.now formula.now in
-        NodeShown x numbers.now node result }
-{
-    let kind = words::kind_at(formula, node) as u32;
-    if kind <= 1 {
-        return shaped(kind, 0, 0);
+impl<'a, 'c> Nodes for ActionNodes<'a, 'c> {
+    ghost Tree = { Action };
+
+    ghost tree = { λ x. action_tree x.labels.now x.actions.now };
+
+    ghost count = { λ x. size x.actions.now };
+
+    ghost Shown = { λ x. ActionShows x.labels.now x.actions.now };
+
+    ghost Known = { λ x. ⊤ };
+
+    fn count(&self) -> usize {
+        at(self.actions, 0)
     }
-    if 6 <= kind {
-        if kind <= 7 {
-            return shaped(REFERENCE, equations[node], 0);
+
+    fn shape(&self, numbers: &[u32], node: usize) -> Shape {
+        let kind = kind_at(self.actions, node) as u32;
+        let named = operand_at(self.actions, node);
+        match ActionKind::of(kind) {
+            ActionKind::True | ActionKind::False => Shape::new(kind, 0, 0),
+            ActionKind::MultiAction => Shape::new(kind, self.classes[named], 0),
+            ActionKind::Union | ActionKind::Intersection => {
+                Shape::new(kind, numbers[node + 1], numbers[named])
+            }
+            ActionKind::Negation => Shape::new(kind, numbers[node + 1], 0),
         }
-        let fixpoint = words::operand_at(formula, node);
-        return shaped(REFERENCE, equations[fixpoint], 0);
     }
-    let left = numbers[node + 1];
-    let operand = words::operand_at(formula, node);
-    if kind <= 3 {
-        return shaped(kind, left, numbers[operand]);
+
+    ghost one_shape = { λ x. action_one_shape x.labels.now x.actions.now };
+
+    ghost one_tree = { λ x. action_one_tree x.labels.now x.actions.now };
+}
+
+// ---- the nodes of the formula
+
+// `acts` has the numbers of the nodes of the action formulas, `equations` those of the fixpoints' equations.
+#[derive(Clone, Copy)]
+pub struct FormulaNodes<'a, 'n> {
+    pub input: Input<'a>,
+    pub acts: &'n [u32],
+    pub equations: &'a [u32],
+}
+
+impl<'a, 'n> FormulaNodes<'a, 'n> {
+    // The shape of a node as it stands in a body. Its operands are shown by their numbers, its action formula by the
+    // number in `acts`.
+    pub fn shape_in_body(&self, numbers: &[u32], node: usize) -> Shape
+        requires inside { let x = input_in self.now.input in
+            (node < size x.formula) × (size x.formula ≤ length numbers.now) }
+        requires known { let x = input_in self.now.input in
+            ActionNumbers x self.now.acts.now × EquationNumbers x.formula self.now.equations.now }
+        ensures { NodeShown (input_in self.now.input) numbers.now node result }
+    {
+        let formula = self.input.formula;
+        let kind = kind_at(formula, node) as u32;
+        let operand = operand_at(formula, node);
+        match FormulaKind::of(kind) {
+            FormulaKind::True | FormulaKind::False => Shape::new(kind, 0, 0),
+            FormulaKind::And | FormulaKind::Or => {
+                Shape::new(kind, numbers[node + 1], numbers[operand])
+            }
+            FormulaKind::Box | FormulaKind::Diamond => Shape::new(
+                kind,
+                numbers[node + 1],
+                self.acts[operand],
+            ),
+            FormulaKind::Least | FormulaKind::Greatest => {
+                Shape::new(REFERENCE, self.equations[node], 0)
+            }
+            FormulaKind::Reference => Shape::new(kind, self.equations[operand], 0),
+        }
     }
-    shaped(kind, left, acts[operand])
+}
+
+impl<'a, 'n> Nodes for FormulaNodes<'a, 'n> {
+    ghost Tree = { Formula };
+
+    ghost tree = { λ x. formula_tree (input_in x.input) };
+
+    ghost count = { λ x. size x.input.formula.now };
+
+    ghost Shown = { λ x. FormulaShows (input_in x.input) };
+
+    ghost Known = { λ x. ActionNumbers (input_in x.input) x.acts.now
+        × EquationNumbers x.input.formula.now x.equations.now };
+
+    fn count(&self) -> usize {
+        at(self.input.formula, 0)
+    }
+
+    fn shape(&self, numbers: &[u32], node: usize) -> Shape {
+        self.shape_in_body(numbers, node)
+    }
+
+    ghost one_shape = { λ x. formula_one_shape (input_in x.input) };
+
+    ghost one_tree = { λ x. formula_one_tree (input_in x.input) };
 }
 
 // ---- the number of a node
 
-// Is this the shape of a node?
-fn is_shown(shapes: &Shapes, shape: Shape, node: usize) -> bool
-    requires { node < most_nodes }
-    ensures { result ≡ shown_in shapes.now shape node }
+// The number of a node of this shape, given the shapes of the later nodes: the number of the first that has it, or its
+// own.
+fn number_of(later: &[Shape], numbers: &[u32], node: usize, shape: Shape) -> u32
+    requires { (node + 1 + length later.now ≤ length numbers.now) × (node < most_nodes) }
+    ensures { NumberGiven later.now numbers.now node shape result }
 {
-    if shapes[KINDS + node] != shape.kind {
-        return false;
-    }
-    if shapes[LEFTS + node] != shape.left {
-        return false;
-    }
-    shapes[RIGHTS + node] == shape.right
-}
-
-// The first node from `from` up to `to` that has the shape, or `to`.
-fn first_shown(shapes: &Shapes, shape: Shape, from: usize, to: usize) -> usize
-    requires { (from ≤ to) × (to ≤ most_nodes) }
-    ensures { result ≡ seek (shown_in shapes.now shape) from (to - from) }
-{
-    let mut node = from;
-    while node < to {
-        if is_shown(shapes, shape, node) {
-            return node;
-        }
-        node += 1;
-    }
-    node
-}
-
-// The number of a node of this shape, where the tables have the later ones of the `count` nodes.
-fn number_of(shapes: &Shapes, numbers: &[u32], count: usize, node: usize, shape: Shape) -> u32
-    requires { (node < count) × (count ≤ most_nodes) × (count ≤ length numbers.now) }
-    ensures { result ≡ number_in shapes.now numbers.now count node shape }
-{
-    let later = first_shown(shapes, shape, node + 1, count);
-    if later < count {
-        return numbers[later];
-    }
-    node as u32
-}
-
-// Writes the shape and the number of a node, where the tables have the later ones of the `count` nodes.
-fn place_node(shapes: &mut Shapes, numbers: &mut [u32], count: usize, node: usize, shape: Shape)
-    requires { (node < count) × (count ≤ most_nodes) × (count ≤ length numbers.old) }
-    ensures shape_put { ShapePut shapes.old shapes.new node shape }
-    ensures numbers_after { numbers.new ≡
-        set numbers.old node (number_in shapes.old numbers.old count node shape) }
-{
-    let number = number_of(shapes, numbers, count, node, shape);
-    shapes[KINDS + node] = shape.kind;
-    shapes[LEFTS + node] = shape.left;
-    shapes[RIGHTS + node] = shape.right;
-    numbers[node] = number;
-}
-
-// Numbers the nodes of the action formulas, with `shapes` to work in.
-pub fn number_actions(
-    labels: &[u32],
-    classes: &[u32],
-    actions: &[u32],
-    shapes: &mut Shapes,
-    numbers: &mut [u32],
-)
-    requires good_actions { GoodActions (label_count labels.now) actions.now × Classes labels.now classes.now }
-    requires shapes_len { (length shapes.old ≡ shape_words) × (most_nodes ≤ length numbers.old) }
-    ensures numbered { Numbered (action_tree labels.now actions.now)
-        (size actions.now) 0 numbers.new }
-    ensures shapes_len_2 { length shapes.new ≡ shape_words }
-{
-    let count = at(actions, 0);
-    let mut i = count;
-    while 0 < i {
-        let node = i - 1;
-        let shape = action_shape(labels, classes, actions, numbers, node);
-        place_node(shapes, numbers, count, node, shape);
-        i = node;
+    match later.iter().position(|other| *other == shape) {
+        Some(ahead) => numbers[node + 1 + ahead],
+        None => node as u32,
     }
 }
 
-// Numbers the nodes of the formula, with `shapes` to work in.
-pub fn number_formula(
-    labels: &[u32],
-    system: &[u32],
-    actions: &[u32],
-    formula: &[u32],
-    acts: &[u32],
-    equations: &[u32],
-    shapes: &mut Shapes,
-    numbers: &mut [u32],
-)
-    requires good_input { let x = input_of labels.now system.now actions.now formula.now in
-        GoodInput x × ActionNumbers x acts.now × EquationNumbers x.formula equations.now }
-    requires shapes_len { (length shapes.old ≡ shape_words) × (most_nodes ≤ length numbers.old) }
-    ensures { let x = input_of labels.now system.now actions.now formula.now in
-        FormulaNumbers x numbers.new }
+// Numbers the nodes, with `shapes` to work in.
+pub fn number_nodes<T: Nodes>(nodes: &T, shapes: &mut Shapes, numbers: &mut [u32])
+    requires known { T.Known nodes.now }
+    requires room { most_nodes ≤ length numbers.old }
+    ensures { Numbered (T.tree nodes.now) (T.count nodes.now) 0 numbers.new }
 {
-    let count = at(formula, 0);
-    let mut i = count;
-    while 0 < i {
-        let node = i - 1;
-        let shape = formula_shape(
-            labels, system, actions, formula, acts, equations, numbers, node,
-        );
-        place_node(shapes, numbers, count, node, shape);
-        i = node;
+    let count = nodes.count();
+    for node in (0..count).rev() {
+        let shape = nodes.shape(numbers, node);
+        numbers[node] = number_of(&shapes[node + 1..count], numbers, node, shape);
+        shapes[node] = shape;
     }
 }

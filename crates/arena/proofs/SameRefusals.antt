@@ -9,7 +9,7 @@ use native.Mathlib.Omega.{arith}
 use lib.Dec.{ltb, leb}
 use lib.ListN.{length}
 use borrow.Author.Tests.{ne_eqb, le-ltb, lt-leb}
-use Rattle.rules.specs.declared.Check.TheVariants.{Passed}
+use Rattle.std.specs.declared.result.Result.TheVariants.{Ok}
 use Rattle.rules.specs.Lists.{word}
 use Rattle.rules.specs.declared.Room.{Room}
 use Rattle.rules.specs.Words.{Input, most_nodes}
@@ -34,13 +34,13 @@ use Rattle.tables.proofs.Choices.{differ_no}
 -- ---- labels
 
 module _ (ls : List ℕ) (good : GoodLabels ls) where
-  passed_11 : refusal11 ls ≡ Passed
+  passed_11 : refusal11 ls ≡ Ok tt
   unfolding refusal11
   passed_11 =
       let s = good.sized in
       if-false 11 0 (or-none (le-ltb (length ls) 2 (omega arith)) (differ_no s))
 
-  passed_12 : refusal12 ls ≡ Passed
+  passed_12 : refusal12 ls ≡ Ok tt
   unfolding refusal12
   passed_12 =
       if-false 12 0 (or-none (le-ltb 4_096 (label_count ls) good.few) (le-ltb 16_384 (action_count ls) good.small))
@@ -49,7 +49,7 @@ module _ (ls : List ℕ) (good : GoodLabels ls) where
   unfolding bad_label
   labels_right w p q = or-none p q
 
-  passed_13 : refusal13 ls ≡ Passed
+  passed_13 : refusal13 ls ≡ Ok tt
   unfolding refusal13
   passed_13 = from_none 13 2 (2 + action_count ls) (bad_label ls) right
     where
@@ -129,7 +129,7 @@ module _ (ls acts acts' : List ℕ) (good : GoodActions (label_count ls) acts) (
   same_31 : refusal31 acts' ≡ refusal31 acts
   same_31 = passed acts' good'.sized ∙ sym (passed acts good.sized)
     where
-      passed : (ws : List ℕ) → length ws ≡ 1 + 2 * size ws → refusal31 ws ≡ Passed
+      passed : (ws : List ℕ) → length ws ≡ 1 + 2 * size ws → refusal31 ws ≡ Ok tt
       passed ws e =
           unfold refusal31 in
           if-false 31 0 (or-none (ne_eqb (length ws) 0 (λ z. omega arith)) (differ_no e))

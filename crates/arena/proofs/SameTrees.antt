@@ -9,7 +9,7 @@ use native.Mathlib.Decide.{dec_lt}
 use native.Mathlib.Omega.{arith}
 use lib.Dec.{eqb, ltb}
 use lib.ListN.{get_or, length}
-use Rattle.rules.specs.declared.Check.{Check}
+use Rattle.rules.specs.Answers.{Check}
 use Rattle.rules.specs.Lists.{In, largest, occurrences, position, once}
 use Rattle.rules.specs.declared.Room.{Room}
 use Rattle.rules.specs.Words.{Input}

@@ -149,12 +149,3 @@ pub zero_word : (n i : ℕ) → word (replicate n 0) i ≡ 0
 zero_word zero i = refl
 zero_word (suc n) zero = refl
 zero_word (suc n) (suc i) = zero_word n i
-
--- one more
-pub zero_more : (bits : List ℕ) (i : ℕ) → ((k : ℕ) → k < i → word bits k ≡ 0) → i < length bits
-    → (k : ℕ) → k < i + 1 → word (set bits i 0) k ≡ 0
-zero_more bits i z h k l = go (ℕ_discrete k i)
-  where
-    go : Dec (k ≡ i) → word (set bits i 0) k ≡ 0
-    go (yes e) = ap (word (set bits i 0)) e ∙ get_or-set_same bits i 0 0 h
-    go (no n) = get_or-set_other bits i k 0 0 n ∙ z k (omega arith)

@@ -3,13 +3,11 @@ use mathlib.Core.Path.{◌≡◌, refl, sym, ap, ◌∙◌, subst}
 use mathlib.Core.Bool.{Bool, true, false, cond, ◌||◌, false≢true}
 use mathlib.Core.List.{List, [], ◌∷◌, ◌++◌}
 use mathlib.Core.Logic.{inl, inr}
-use Prim.Native.Nat.{ℕ, ◌/◌, ◌≤◌, ◌<◌}
-use native.Mathlib.Omega.{arith}
-use native.Mathlib.Decide.{dec_lt}
-use lib.ListN.{length, replicate, length-replicate, get_or-eq_default}
+use Prim.Native.Nat.{ℕ, ◌/◌}
+use lib.ListN.{replicate, length-replicate}
 use lib.Dec.{eqb}
 use borrow.Author.Tests.{eqb-true, eqb-false}
-use Rattle.rules.specs.Lists.{word, In, has, insert, once}
+use Rattle.rules.specs.Lists.{In, has, insert, once}
 use Rattle.lists.proofs.Members.{has_in, in_has}
 use Rattle.lists.proofs.Inserts.{insert_cases, once_in}
 use Rattle.lists.proofs.Equalities.{number_equality}
@@ -18,23 +16,13 @@ use Rattle.bitmap.proofs.Bits.{none_marked, zero_word}
 
 -- ---- no number
 
-zeros_hold : (n : ℕ) → n ≡ 32_768 → Holds (replicate n 0) []
+pub zeros_hold : (n : ℕ) → n ≡ 32_768 → Holds (replicate n 0) []
 unfolding has
 zeros_hold n e = record { long = length-replicate n 0 ∙ e; marks = none_marked (replicate n 0) (zero_word n) }
 
 -- a new bitmap
 pub all-zeros : Holds (replicate 32_768 0) []
 all-zeros = zeros_hold 32_768 refl
-
--- one whose words were emptied
-pub holds_none : (bits : List ℕ) (n : ℕ) → length bits ≡ 32_768 → 32_768 ≤ n → ((i : ℕ) → i < n → word bits i ≡ 0)
-    → Holds bits []
-unfolding has
-holds_none bits n e h z = record { long = e; marks = none_marked bits (λ i. go i (dec_lt i n)) }
-  where
-    go : (i : ℕ) → Dec (i < n) → word bits i ≡ 0
-    go i (yes k) = z i k
-    go i (no k) = get_or-eq_default bits 0 (omega (arith, e))
 
 -- ---- a number is met
 

@@ -48,9 +48,5 @@ pub fn clear(bits: &mut Bitmap)
     requires { length bits.old ≡ bitmap_words }
     ensures { Holds bits.new [] }
 {
-    let mut index = 0;
-    while index < WORDS {
-        bits[index] = 0;
-        index += 1;
-    }
+    bits.fill(0);
 }

@@ -1,106 +1,109 @@
-// What a run compiles before it walks stands in one lent array of words, which has a stretch for each table. Here is
-// said once where each begins, with a reader for each.
+// What a run compiles before it walks: the table of the items, with an array for each column, the labels' multisets,
+// the first transitions and the byte multiples.
 #![tactic(auto)]
 
-ghost use Rattle.std.specs.Prelude.{◌≡◌, ◌-◌, ◌≤◌, ◌<◌};
+ghost use Rattle.std.specs.Prelude.{◌≡◌, ◌<◌};
 ghost use Rattle.rules.specs.Lists.{word};
-ghost use Rattle.compiled.specs.Stretches.{stretch, word_count, kinds_in, lefts_in, rights_in, priorities_in};
-ghost use Rattle.compiled.specs.Stretches.{classes_in, samples_in, multiples_in};
+ghost use Rattle.node_kinds.specs.Codes.{formula_code};
+ghost use Rattle.compiled.specs.Tables.{kinds_in, lefts_in, rights_in, priorities_in, classes_in, samples_in};
+ghost use Rattle.compiled.specs.Tables.{multiples_in, Blank};
 
+use node_kinds::FormulaKind;
 use player::Priority;
 
-// The items: a word for each in four tables.
-pub const KINDS: usize = 0;
+// As many items as there may be: equations and subformulas.
+pub const ITEMS: usize = 2048;
 
-pub const LEFTS: usize = 2048;
+// As many labels as there may be.
+pub const LABELS: usize = 4096;
 
-pub const RIGHTS: usize = 4096;
+// As many first transitions as are noted: that of every sixteenth state.
+pub const SAMPLES: usize = 4096;
 
-pub const PRIORITIES: usize = 6144;
+// As many values as a byte has.
+pub const BYTES: usize = 256;
 
-// The multiset of each label.
-pub const CLASSES: usize = 8192;
-
-// The first transition of every sixteenth state.
-pub const SAMPLES: usize = 12288;
-
-// The multiple of each byte.
-pub const MULTIPLES: usize = 16384;
-
-pub const WORDS: usize = 16640;
-
-pub type Compiled = [u32; WORDS];
-
-// ---- the items
-
-// The word of an item in the table that begins at `table`.
-fn item_word(compiled: &Compiled, table: usize, item: u32) -> u32
-    requires { (item < 2048) × (table ≤ 6144) }
-    ensures { result ≡ word (stretch table 2048 compiled.now) item }
-{
-    compiled[table + (item as usize)]
+#[derive(Drop)]
+pub struct Compiled {
+    // The items: an entry for each in four columns.
+    pub kinds: [FormulaKind; ITEMS],
+    pub lefts: [u32; ITEMS],
+    pub rights: [u32; ITEMS],
+    pub priorities: [u32; ITEMS],
+    // The multiset of each label.
+    pub classes: [u32; LABELS],
+    // The first transition of every sixteenth state.
+    pub samples: [u32; SAMPLES],
+    // The multiple of each byte.
+    pub multiples: [u32; BYTES],
 }
 
-// The kind of an item.
-pub fn kind_of(compiled: &Compiled, item: u32) -> u32
-    requires { item < 2048 }
-    ensures { result ≡ word (kinds_in compiled.now) item }
-{
-    item_word(compiled, KINDS, item)
-}
+impl Compiled {
+    // The tables before anything is compiled.
+    pub fn blank() -> Compiled
+        ensures { Blank result }
+    {
+        Compiled {
+            kinds: [FormulaKind::True; ITEMS],
+            lefts: [0; ITEMS],
+            rights: [0; ITEMS],
+            priorities: [0; ITEMS],
+            classes: [0; LABELS],
+            samples: [0; SAMPLES],
+            multiples: [0; BYTES],
+        }
+    }
 
-// The left operand of an item.
-pub fn left_of(compiled: &Compiled, item: u32) -> u32
-    requires { item < 2048 }
-    ensures { result ≡ word (lefts_in compiled.now) item }
-{
-    item_word(compiled, LEFTS, item)
-}
+    // The kind of an item.
+    pub fn kind_of(&self, item: u32) -> FormulaKind
+        requires { item < 2048 }
+        ensures { formula_code result ≡ word (kinds_in self.now) item }
+    {
+        self.kinds[item as usize]
+    }
 
-// Its right operand.
-pub fn right_of(compiled: &Compiled, item: u32) -> u32
-    requires { item < 2048 }
-    ensures { result ≡ word (rights_in compiled.now) item }
-{
-    item_word(compiled, RIGHTS, item)
-}
+    // The left operand of an item.
+    pub fn left_of(&self, item: u32) -> u32
+        requires { item < 2048 }
+        ensures { result ≡ word (lefts_in self.now) item }
+    {
+        self.lefts[item as usize]
+    }
 
-// Its priority.
-pub fn priority_of(compiled: &Compiled, item: u32) -> Priority
-    requires { item < 2048 }
-    ensures { result.0 ≡ word (priorities_in compiled.now) item }
-{
-    Priority(item_word(compiled, PRIORITIES, item))
-}
+    // Its right operand.
+    pub fn right_of(&self, item: u32) -> u32
+        requires { item < 2048 }
+        ensures { result ≡ word (rights_in self.now) item }
+    {
+        self.rights[item as usize]
+    }
 
-// ---- the other tables, each lent by itself
+    // Its priority.
+    pub fn priority_of(&self, item: u32) -> Priority
+        requires { item < 2048 }
+        ensures { result.0 ≡ word (priorities_in self.now) item }
+    {
+        Priority(self.priorities[item as usize])
+    }
 
-// The words from `from` up to `to`.
-fn part<'a>(compiled: &'a Compiled, from: usize, to: usize) -> &'a [u32]
-    requires { (from ≤ to) × (to ≤ word_count) }
-    ensures { result.now ≡ stretch from (to - from) compiled.now }
-{
-    let all = &compiled[..];
-    &all[from..to]
-}
+    // The labels' multisets.
+    pub fn classes(&self) -> &[u32]
+        ensures { result.now ≡ classes_in self.now }
+    {
+        &self.classes
+    }
 
-// The table of the labels' multisets.
-pub fn classes<'a>(compiled: &'a Compiled) -> &'a [u32]
-    ensures { result.now ≡ classes_in compiled.now }
-{
-    part(compiled, CLASSES, SAMPLES)
-}
+    // The first transitions.
+    pub fn samples(&self) -> &[u32]
+        ensures { result.now ≡ samples_in self.now }
+    {
+        &self.samples
+    }
 
-// The table of first transitions.
-pub fn samples<'a>(compiled: &'a Compiled) -> &'a [u32]
-    ensures { result.now ≡ samples_in compiled.now }
-{
-    part(compiled, SAMPLES, MULTIPLES)
-}
-
-// The table of byte multiples.
-pub fn multiples<'a>(compiled: &'a Compiled) -> &'a [u32]
-    ensures { result.now ≡ multiples_in compiled.now }
-{
-    part(compiled, MULTIPLES, WORDS)
+    // The byte multiples.
+    pub fn multiples(&self) -> &[u32]
+        ensures { result.now ≡ multiples_in self.now }
+    {
+        &self.multiples
+    }
 }

@@ -1,22 +1,46 @@
-// A check that two kinds of words share: those of a system and those of a game.
+// The search for the first place that is refused: all checks that go over words or nodes look for it here.
 #![tactic(auto)]
 
-ghost use Rattle.std.specs.Prelude.{◌≡◌, ◌<◌, ◌≤◌, length};
+ghost use Rattle.std.specs.Prelude.{◌≡◌, Bool, ℕ, ◌<◌, ◌≤◌, length};
 ghost use Rattle.rules.specs.Refusal.{too_large, fault_from};
 
-use rules::Check;
+use rules::Fault;
+
+// Fault `number` at the first of the places from `first` up to `end` that is bad.
+pub fn first_fault<F: Fn(usize) -> bool>(
+    number: u32,
+    first: usize,
+    end: usize,
+    bad: F,
+) -> Result<(), Fault>
+    requires callable { (place : ℕ) → first ≤ place → place < end → F.pre bad place }
+    requires end_fits { end < 4294967296 }
+    ensures { (test : ℕ → Bool)
+        → ((place : ℕ) (r : Bool) → first ≤ place → place < end → F.post bad place r → r ≡ test place)
+        → result ≡ fault_from number first end test }
+{
+    for place in first..end {
+        if bad(place) {
+            return Err(Fault {
+                number,
+                place: place as u32,
+            });
+        }
+    }
+    Ok(())
+}
 
 // Fault `number` at the first of the words from `first` up to `end` that is not below the bound.
-pub fn check_below(ws: &[u32], first: usize, end: usize, bound: usize, number: u32) -> Check
+#[tactic(auto, unfolding(rules::specs::Refusal::too_large))]
+pub fn check_below(
+    ws: &[u32],
+    first: usize,
+    end: usize,
+    bound: usize,
+    number: u32,
+) -> Result<(), Fault>
     requires { (end ≤ length ws.now) × (end < 4294967296) }
     ensures { result ≡ fault_from number first end (too_large ws.now bound) }
 {
-    let mut place = first;
-    while place < end {
-        if bound <= words::at(ws, place) {
-            return Check::Fault(number, place as u32);
-        }
-        place += 1;
-    }
-    Check::Passed
+    first_fault(number, first, end, |place| bound <= words::at(ws, place))
 }

@@ -13,35 +13,34 @@ pub struct FormulaReader<'a> {
     pub node: usize,
 }
 
-// A reader at the first node.
-pub fn new<'a>(words: &'a [u32]) -> FormulaReader<'a>
-    ensures { (result.words ≡ words.entry) × (result.node ≡ 0) }
-{
-    FormulaReader { words, node: 0 }
-}
-
-// The reader moved to another node of the same formula.
-pub fn moved<'a>(reader: FormulaReader<'a>, node: usize) -> FormulaReader<'a>
-    ensures { (result.words ≡ reader.entry.words) × (result.node ≡ node) }
-{
-    FormulaReader {
-        words: reader.words,
-        node: node,
+impl<'a> FormulaReader<'a> {
+    // A reader at the first node.
+    pub fn new(words: &'a [u32]) -> FormulaReader<'a>
+        ensures { (result.words ≡ words.entry) × (result.node ≡ 0) }
+    {
+        FormulaReader { words, node: 0 }
     }
-}
 
-// The kind of the node at which the reader stands.
-pub fn kind<'a>(reader: FormulaReader<'a>) -> usize
-    requires { has_kind reader.words.now reader.node }
-    ensures { result ≡ kind reader.entry.words.now reader.entry.node }
-{
-    words::kind_at(reader.words, reader.node)
-}
+    // The reader moved to another node of the same formula.
+    pub fn moved(self, node: usize) -> FormulaReader<'a>
+        ensures { (result.words ≡ self.entry.words) × (result.node ≡ node) }
+    {
+        FormulaReader { node, ..self }
+    }
 
-// The operand of that node.
-pub fn operand<'a>(reader: FormulaReader<'a>) -> usize
-    requires { has_operand reader.words.now reader.node }
-    ensures { result ≡ operand reader.entry.words.now reader.entry.node }
-{
-    words::operand_at(reader.words, reader.node)
+    // The kind of the node at which the reader stands.
+    pub fn kind(self) -> usize
+        requires { has_kind self.words.now self.node }
+        ensures { result ≡ kind self.entry.words.now self.entry.node }
+    {
+        words::kind_at(self.words, self.node)
+    }
+
+    // The operand of that node.
+    pub fn operand(self) -> usize
+        requires { has_operand self.words.now self.node }
+        ensures { result ≡ operand self.entry.words.now self.entry.node }
+    {
+        words::operand_at(self.words, self.node)
+    }
 }

@@ -1,2 +1,1 @@
-pub mod Formula
 pub mod References

@@ -1,65 +1,93 @@
--- The refusal 45 of the formula, one law for each answer of the code. Assumes nothing.
+-- Fixpoints, references and enclosing nodes, as the code reads them. Assumes nothing.
 use Prim.Native.Nat.{ℕ, ◌<◌, ◌≤◌}
 use native.Mathlib.Omega.{arith}
-use native.Mathlib.Decide.{dec_lt}
+use native.Mathlib.Decide.{ℕ_discrete}
 use mathlib.Core.Path.{◌≡◌, refl, sym, ap, ◌∙◌}
-use mathlib.Core.Bool.{Bool, true, false, not, ◌&&◌}
+use mathlib.Core.Bool.{Bool, true, false, not, ◌&&◌, true≢false}
 use mathlib.Core.List.{List}
-use lib.Dec.{ltb, leb}
-use borrow.Author.Tests.{lt-ltb, le-ltb, le-leb, lt-leb}
-use Rattle.rules.specs.Table.{size, kind, operand, formula_node, formula_children, reference_of, tree_end, is_before_end}
+use mathlib.Core.Option.{Option, none, some}
+use lib.Dec.{ltb}
+use borrow.Author.Tests.{lt-ltb, le-ltb, ltb-true}
+use Rattle.lists.proofs.Tests.{and-true, and-false}
+use Rattle.rules.specs.Table.{size, kind, operand, formula_node, decode_formula, formula_children, fixpoint_of, reference_of, is_some}
 use Rattle.rules.specs.Formula.{is_fixpoint}
-use Rattle.rules.specs.Refusal.{encloses, wrong_reference, refusal45, fault_from}
+use Rattle.rules.specs.Refusal.{encloses, wrong_reference}
 use Rattle.tables.specs.Ends.{end_of}
-use Rattle.tables.proofs.Decode.{fixpoint_yes, fixpoint_low, fixpoint_high}
-use Rattle.tables.proofs.Operands.{reference_other, reference_test}
+use Rattle.tables.proofs.Decode.{formula_of_kind, reference_none}
+use Rattle.tables.proofs.Operands.{reference_test}
 use Rattle.tables.proofs.Ends.{before_end_finished, before_end_unfinished}
-use Rattle.lists.proofs.Tests.{and-false}
+use Rattle.node_kinds.specs.declared.FormulaKind.{FormulaKind}
+use Rattle.node_kinds.specs.declared.FormulaKind.TheVariants.{True, False, And, Or, Box, Diamond, Least, Greatest, Reference}
+use Rattle.node_kinds.specs.Codes.{formula_code}
 
-pub references_45 : (f : List ℕ) → refusal45 f
-    ≡ fault_from 45 0 (size f) (λ v. wrong_reference f v (reference_of (formula_node f v)))
-unfolding refusal45
-references_45 f = refl
+-- whatever operand a node has, its kind says whether it is a fixpoint, and whether it is a reference
+any_operand : (k : FormulaKind) (o : ℕ)
+    → (is_fixpoint (decode_formula (formula_code k) 0) ≡ is_fixpoint (decode_formula (formula_code k) o))
+    × (is_some (reference_of (decode_formula (formula_code k) 0)) ≡ is_some (reference_of (decode_formula (formula_code k) o)))
+unfolding decode_formula is_fixpoint fixpoint_of reference_of
+any_operand True o = (refl, refl)
+any_operand False o = (refl, refl)
+any_operand And o = (refl, refl)
+any_operand Or o = (refl, refl)
+any_operand Box o = (refl, refl)
+any_operand Diamond o = (refl, refl)
+any_operand Least o = (refl, refl)
+any_operand Greatest o = (refl, refl)
+any_operand Reference o = (refl, refl)
 
-module _ (f : List ℕ) (v k : ℕ) (h : v < size f) (q : k ≡ kind f v) where
-  -- it is no reference
-  pub no_reference : (k ≡ 8 → ⊥) → false ≡ wrong_reference f v (reference_of (formula_node f v))
-  no_reference d = sym (reference_other f v h (λ i. d (q ∙ i)))
+none_wrong : (f : List ℕ) (v : ℕ) (r : Option ℕ) → is_some r ≡ false → false ≡ wrong_reference f v r
+unfolding wrong_reference
+none_wrong f v none e = refl
+none_wrong f v (some u) e = absurd (true≢false e)
 
-  module _ (r : k ≡ 8) (u : ℕ) (o : u ≡ operand f v) where
-    -- it is one, to node u
-    refers : wrong_reference f v (reference_of (formula_node f v)) ≡ not (is_fixpoint (formula_node f u) && encloses f u v)
-    refers = rw o (reference_test f v h (omega arith))
+both : (a b : Bool) → b ≡ true → a ≡ (a && b)
+both true b e = sym e
+both false b e = refl
 
-    pub later : v ≤ u → true ≡ wrong_reference f v (reference_of (formula_node f v))
+module _ (f : List ℕ) (v : ℕ) (h : v < size f) where
+  pub fixpoint_by_kind : (k : FormulaKind) → formula_code k ≡ kind f v
+      → is_fixpoint (decode_formula (formula_code k) 0) ≡ is_fixpoint (formula_node f v)
+  fixpoint_by_kind k e = (any_operand k (operand f v)).0 ∙ ap is_fixpoint (sym (formula_of_kind f v h (formula_code k) (sym e)))
+
+  pub reference_by_kind : (k : FormulaKind) → formula_code k ≡ kind f v
+      → is_some (reference_of (decode_formula (formula_code k) 0)) ≡ is_some (reference_of (formula_node f v))
+  reference_by_kind k e =
+      (any_operand k (operand f v)).1 ∙ ap (λ n. is_some (reference_of n)) (sym (formula_of_kind f v h (formula_code k) (sym e)))
+
+  pub no_reference : is_some (reference_of (formula_node f v)) ≡ false → false ≡ wrong_reference f v (reference_of (formula_node f v))
+  no_reference = none_wrong f v (reference_of (formula_node f v))
+
+  -- it is one, to the node u
+  module _ (t : is_some (reference_of (formula_node f v)) ≡ true) {u : ℕ} (o : u ≡ operand f v) where
+    refers : not (is_fixpoint (formula_node f u) && encloses f u v) ≡ wrong_reference f v (reference_of (formula_node f v))
+    refers = go (ℕ_discrete (kind f v) 8)
+      where
+        go : Dec (kind f v ≡ 8) → not (is_fixpoint (formula_node f u) && encloses f u v) ≡ wrong_reference f v (reference_of (formula_node f v))
+        go (yes e) = ap (λ w. not (is_fixpoint (formula_node f w) && encloses f w v)) o ∙ sym (reference_test f v h e)
+        go (no d) = absurd (true≢false (sym t ∙ ap is_some (reference_none f v h d)))
+
+    pub refers_outside : encloses f u v ≡ false → true ≡ wrong_reference f v (reference_of (formula_node f v))
+    refers_outside e = ap not (sym (and-false (is_fixpoint (formula_node f u)) e)) ∙ refers
+
+    pub refers_inside : encloses f u v ≡ true → not (is_fixpoint (formula_node f u)) ≡ wrong_reference f v (reference_of (formula_node f v))
+    refers_inside e = ap not (both (is_fixpoint (formula_node f u)) (encloses f u v) e) ∙ refers
+
+module _ (f : List ℕ) (u v : ℕ) where
+  pub inside_after : encloses f u v ≡ true → u < v
+  unfolding encloses
+  inside_after e = ltb-true u v (and-true (ltb u v) _ e).0
+
+  pub not_inside : v ≤ u → false ≡ encloses f u v
+  unfolding encloses
+  not_inside l = rw (le-ltb u v l) refl
+
+  -- u stands before v, and its tree ends at e
+  module _ (l : u < v) {e n : ℕ} (i : e ≡ end_of (formula_children f) (size f) u) (s : n ≡ size f) where
+    pub inside_whole : e ≤ n → ltb v e ≡ encloses f u v
     unfolding encloses
-    later l = ap not (sym (and-false (is_fixpoint (formula_node f u)) (rw (le-ltb u v l) refl))) ∙ sym refers
+    inside_whole c =
+        rw (lt-ltb u v l) (ap (ltb v) i ∙ sym (before_end_finished (formula_children f) (size f) v u (omega arith)))
 
-    module _ (l : u < v) (j : ℕ) (i : j ≡ kind f u) where
-      pub low : j < 6 → true ≡ wrong_reference f v (reference_of (formula_node f v))
-      low a = ap (λ x. not (x && encloses f u v)) (sym (fixpoint_low f u (omega arith) (omega arith))) ∙ sym refers
-
-      pub high : 7 < j → true ≡ wrong_reference f v (reference_of (formula_node f v))
-      high a = ap (λ x. not (x && encloses f u v)) (sym (fixpoint_high f u (omega arith) (omega arith))) ∙ sym refers
-
-      -- u is a fixpoint, whose tree ends at e
-      module _ (a : 6 ≤ j) (b : j ≤ 7) (n e : ℕ) (s : n ≡ size f) (t : e ≡ end_of (formula_children f) (size f) u) where
-        pub broken : n < e → true ≡ wrong_reference f v (reference_of (formula_node f v))
-        unfolding encloses
-        broken c =
-            ap not (sym (and-false (is_fixpoint (formula_node f u)) (rw (lt-ltb u v l) (before_end_unfinished (formula_children f) (size f) v u (omega arith))))) ∙ sym refers
-
-        pub whole : e ≤ n → leb e v ≡ wrong_reference f v (reference_of (formula_node f v))
-        unfolding encloses
-        whole c = go (dec_lt v e)
-          where
-            ended : is_before_end v (tree_end (formula_children f) (size f) u) ≡ ltb v e
-            ended = before_end_finished (formula_children f) (size f) v u (omega arith) ∙ ap (ltb v) (sym t)
-
-            inside : (y : Bool) → is_before_end v (tree_end (formula_children f) (size f) u) ≡ y → not y
-                ≡ wrong_reference f v (reference_of (formula_node f v))
-            inside y z = sym (refers ∙ rw (fixpoint_yes f u (omega arith) (omega arith) (omega arith), lt-ltb u v l, z))
-
-            go : Dec (v < e) → leb e v ≡ wrong_reference f v (reference_of (formula_node f v))
-            go (yes d) = lt-leb e v d ∙ inside true (ended ∙ lt-ltb v e d)
-            go (no d) = le-leb e v (omega arith) ∙ inside false (ended ∙ le-ltb v e (omega arith))
+    pub inside_broken : n < e → false ≡ encloses f u v
+    unfolding encloses
+    inside_broken c = rw (lt-ltb u v l) (sym (before_end_unfinished (formula_children f) (size f) v u (omega arith)))

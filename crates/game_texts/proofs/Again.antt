@@ -6,7 +6,7 @@ use mathlib.Core.List.{List, [], ◌++◌, map, append-nil}
 use lib.ListN.{length, get_or, take}
 use lib.Dec.{eqb}
 use Rattle.rules.specs.declared.Answer.TheVariants.{Done}
-use Rattle.rules.specs.declared.Check.TheVariants.{Passed}
+use Rattle.std.specs.declared.result.Result.TheVariants.{Ok}
 use Rattle.rules.specs.declared.Room.{Room}
 use Rattle.rules.specs.Lists.{In, from, once}
 use Rattle.rules.specs.FaultyText.{FaultyReading}
@@ -68,7 +68,7 @@ module _ {r : Room} {bytes : List ℕ} {n : ℕ} (t : SolverText) (c : Readable 
       let (l, i, e) = line_of t c v (omega arith) in
       subst P e (f l i)
 
-  accepted : game_refusal g ≡ Passed
+  accepted : game_refusal g ≡ Ok tt
   unfolding vertex_of
   accepted =
       owned_passes vs waiting_vertex (omega (arith, read_length t c))
@@ -94,7 +94,7 @@ module _ {r : Room} {bytes : List ℕ} {n : ℕ} (t : SolverText) (c : Readable 
       owned : (l : SolverLine) → In l t.lines → (get_or vs l.number waiting_vertex).owner < 2
       owned l i = omega (arith, ap (λ (x : Vertex). x.owner) (read_at_lem t c l i waiting_vertex), (proper l i).owned)
 
-  written : writing_refusal g ≡ Passed
+  written : writing_refusal g ≡ Ok tt
   unfolding writing_refusal
   written =
       then_passed (refusal98 g) accepted

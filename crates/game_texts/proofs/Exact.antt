@@ -9,7 +9,8 @@ use mathlib.Core.Option.{Option, none, some}
 use lib.ListN.{length, length-map}
 use lib.Dec.{eqb, ltb, leb}
 use borrow.Author.Tests.{eqb-true, eqb-false, eq-eqb, ne_eqb, leb-true, le-leb, not-true, not-false}
-use Rattle.rules.specs.declared.Check.TheVariants.{Passed, Fault}
+use Rattle.std.specs.declared.result.Result.TheVariants.{Ok}
+use Rattle.rules.specs.Answers.{fault}
 use Rattle.rules.specs.Lists.{In, Distinct, from, has, every}
 use Rattle.rules.specs.Game.{vertex_count, targets_in}
 use Rattle.rules.specs.Pgsolver.{SolverLine, SolverText, HasForm}
@@ -33,7 +34,7 @@ length_none [] e = refl
 length_none (x ∷ xs) e = absurd (omega arith)
 
 -- every vertex has a successor exactly if 98 passes
-pub not_stuck : (g : List ℕ) → refusal98 g ≡ Passed → (v : ℕ) → v < vertex_count g → 1 ≤ length (targets_in g v)
+pub not_stuck : (g : List ℕ) → refusal98 g ≡ Ok tt → (v : ℕ) → v < vertex_count g → 1 ≤ length (targets_in g v)
 unfolding refusal98 has_successor
 not_stuck g e v h =
     let k = not-true (eqb (length (targets_in g v)) 0)
@@ -41,7 +42,7 @@ not_stuck g e v h =
     let n : ¬ (length (targets_in g v) ≡ 0) = eqb-false (length (targets_in g v)) 0 k in
     omega arith
 
-pub passes98 : (g : List ℕ) → ((v : ℕ) → v < vertex_count g → ¬ (targets_in g v ≡ [])) → refusal98 g ≡ Passed
+pub passes98 : (g : List ℕ) → ((v : ℕ) → v < vertex_count g → ¬ (targets_in g v ≡ [])) → refusal98 g ≡ Ok tt
 unfolding refusal98 has_successor
 passes98 g h = if-false 98 0 (rw (every-all (has_successor g) 0 (vertex_count g) (λ v a b. held v (omega arith))) refl)
   where
@@ -68,15 +69,15 @@ stuck g e =
     let (v, h, k) = not_every (has_successor g) (vertex_count g) e in
     (v, h, length_none (targets_in g v) (eqb-true (length (targets_in g v)) 0 (not-false _ k)))
 
-pub stuck_refused : (g : List ℕ) (v : ℕ) → v < vertex_count g → targets_in g v ≡ [] → refusal98 g ≡ Fault 98 0
+pub stuck_refused : (g : List ℕ) (v : ℕ) → v < vertex_count g → targets_in g v ≡ [] → refusal98 g ≡ fault 98 0
 stuck_refused g v h s = go (every (has_successor g) 0 (vertex_count g)) refl
   where
-    go : (b : Bool) → every (has_successor g) 0 (vertex_count g) ≡ b → refusal98 g ≡ Fault 98 0
+    go : (b : Bool) → every (has_successor g) 0 (vertex_count g) ≡ b → refusal98 g ≡ fault 98 0
     go true e =
         let k : length (targets_in g v) ≡ 0 = ap length s in
         absurd (omega (arith, k, not_stuck g (passing e) v h))
       where
-        passing : every (has_successor g) 0 (vertex_count g) ≡ true → refusal98 g ≡ Passed
+        passing : every (has_successor g) 0 (vertex_count g) ≡ true → refusal98 g ≡ Ok tt
         passing e = unfold refusal98 in if-false 98 0 (ap not e)
     go false e = unfold refusal98 in if-true 98 0 (ap not e)
 
@@ -155,7 +156,7 @@ pub record Passes92 (t : SolverText) : Type 0 where
       → (l.number ≤ t.highest) × ((s : ℕ) → In s l.successors → s ≤ t.highest)
   pub apart : Distinct (numbers_of t.lines)
 
-pub passed92 : (t : SolverText) → refusal92 t ≡ Passed → Passes92 t
+pub passed92 : (t : SolverText) → refusal92 t ≡ Ok tt → Passes92 t
 unfolding refusal92
 passed92 t e =
     let (a, b) = and-true (eqb (length t.lines) (suc t.highest)) _ (not-false _ (if_passed 92 0 _ e)) in
@@ -166,7 +167,7 @@ passed92 t e =
       apart = different_distinct (numbers_of t.lines) d;
     }
 
-pub passes92 : (t : SolverText) → Passes92 t → refusal92 t ≡ Passed
+pub passes92 : (t : SolverText) → Passes92 t → refusal92 t ≡ Ok tt
 unfolding refusal92
 passes92 t p =
     if-false 92 0
@@ -198,7 +199,7 @@ none-missing t p v h = ⊎_elim (λ i. i) (λ n. absurd (more n)) (in_or number_
         let k = no_more (v ∷ numbers_of t.lines) (from 0 (suc t.highest)) (n, p.apart) inside in
         omega (arith, k, from-length 0 (suc t.highest), length-map t.lines (λ l. l.number), p.long)
 
-pub refusal92_exact : (t : SolverText) → (refusal92 t ≡ Passed) ↔ GivenOnce t
+pub refusal92_exact : (t : SolverText) → (refusal92 t ≡ Ok tt) ↔ GivenOnce t
 refusal92_exact t = (λ e. right (passed92 t e), λ n. passes92 t (passing n))
   where
     right : Passes92 t → GivenOnce t

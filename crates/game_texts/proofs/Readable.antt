@@ -10,7 +10,8 @@ use lib.ListN.{length, get_or, length-map}
 use lib.Dec.{ltb}
 use borrow.Author.Tests.{ltb-true, ltb-false, not-false}
 use Rattle.rules.specs.declared.Answer.TheVariants.{Refused}
-use Rattle.rules.specs.declared.Check.TheVariants.{Passed, Fault}
+use Rattle.std.specs.declared.result.Result.TheVariants.{Ok}
+use Rattle.rules.specs.Answers.{fault}
 use Rattle.rules.specs.declared.Room.{Room}
 use Rattle.rules.specs.Lists.{In, from}
 use Rattle.rules.specs.Words.{game_length}
@@ -33,17 +34,17 @@ use Rattle.game_texts.proofs.Numbered.{named, as_many}
 -- the bytes say t, and are not refused in room r with a game slice of n words
 pub record Readable (r : Room) (bytes : List ℕ) (n : ℕ) (t : SolverText) : Type 0 where
   pub parsed : parse bytes ≡ some t
-  pub room : refusal1 r ≡ Passed
+  pub room : refusal1 r ≡ Ok tt
   pub long : n ≡ game_length r
-  pub numbered : refusal92 t ≡ Passed
-  pub sized : refusal93 r t ≡ Passed
+  pub numbered : refusal92 t ≡ Ok tt
+  pub sized : refusal93 r t ≡ Ok tt
 
-pub reading_readable : (r : Room) (bytes : List ℕ) (n : ℕ) → reading_refusal r bytes n ≡ Passed
+pub reading_readable : (r : Room) (bytes : List ℕ) (n : ℕ) → reading_refusal r bytes n ≡ Ok tt
     → (t : SolverText) × Readable r bytes n t
 unfolding reading_refusal text_refusal
 reading_readable r bytes n e = go (parse bytes) refl (first_passed _ e 2)
   where
-    go : (m : Option SolverText) → parse bytes ≡ m → text_refusal r m ≡ Passed → (t : SolverText) × Readable r bytes n t
+    go : (m : Option SolverText) → parse bytes ≡ m → text_refusal r m ≡ Ok tt → (t : SolverText) × Readable r bytes n t
     go none q f = absurd (passed_not_fault (sym f))
     go (some t) q f =
         let (a, b) = then_both (refusal92 t) (refusal93 r t) f in (
@@ -65,7 +66,7 @@ module _ (r : Room) (bytes game : List ℕ) where
   unfolding read_game read_or reading_refusal first_fault text_refusal vertices_in and_then
   readable_done t c = rw (c.parsed, c.room, if-false 2 0 (differ_no c.long), c.numbered, c.sized) refl
 
-  pub reading_refused : (n p : ℕ) → reading_refusal r bytes (length game) ≡ Fault n p
+  pub reading_refused : (n p : ℕ) → reading_refusal r bytes (length game) ≡ fault n p
       → read_game r bytes game ≡ record { answer = Refused n p; game = game }
   unfolding read_game read_or
   reading_refused n p e = rw e refl

@@ -10,8 +10,9 @@ use mathlib.Core.Logic.{◌⊎◌, inl, inr, ⊎_elim, ◌↔◌}
 use mathlib.Core.Option.{Option, none, some}
 use lib.Dec.{ltb, leb}
 use borrow.Author.Tests.{ltb-true, ltb-false, lt-ltb, le-ltb, leb-true, leb-false, not-true}
-use Rattle.rules.specs.declared.Check.{Check}
-use Rattle.rules.specs.declared.Check.TheVariants.{Passed, Fault}
+use Rattle.rules.specs.Answers.{Check}
+use Rattle.std.specs.declared.result.Result.TheVariants.{Ok}
+use Rattle.rules.specs.Answers.{fault}
 use Rattle.rules.specs.declared.Room.{Room}
 use Rattle.rules.specs.Lists.{In, from}
 use Rattle.rules.specs.Words.{game_length, work_length}
@@ -46,18 +47,18 @@ no_form none = true
 no_form (some t) = false
 
 numbers : Option SolverText → Check
-numbers none = Passed
+numbers none = Ok tt
 numbers (some t) = refusal92 t
 
 sizes : Room → Option SolverText → Check
-sizes r none = Passed
+sizes r none = Ok tt
 sizes r (some t) = refusal93 r t
 
 text_checks : (r : Room) (m : Option SolverText)
-    → and_then (text_refusal r m) Passed ≡ first_fault (fault_if 91 0 (no_form m) ∷ numbers m ∷ sizes r m ∷ [])
+    → and_then (text_refusal r m) (Ok tt) ≡ first_fault (fault_if 91 0 (no_form m) ∷ numbers m ∷ sizes r m ∷ [])
 unfolding text_refusal first_fault and_then fault_if no_form numbers sizes
 text_checks r none = refl
-text_checks r (some t) = then_assoc (refusal92 t) (refusal93 r t) Passed
+text_checks r (some t) = then_assoc (refusal92 t) (refusal93 r t) (Ok tt)
 
 -- ---- 92
 
@@ -167,7 +168,7 @@ module _ (r : Room) (bytes : List ℕ) (game : ℕ) where
   unfolding reading_refusal first_fault refusal2
   whole =
       ap (λ (b : Bool). and_then (refusal1 r)
-      (and_then (fault_if 2 0 b) (and_then (text_refusal r (parse bytes)) Passed))) slices
+      (and_then (fault_if 2 0 b) (and_then (text_refusal r (parse bytes)) (Ok tt)))) slices
       ∙ ap (λ c. and_then (refusal1 r) (and_then (refusal2 r game (work_length r)) c)) (text_checks r (parse bytes))
     where
       slices : differ game (game_length r) ≡ (differ game (game_length r) || differ (work_length r) (work_length r))
@@ -185,7 +186,7 @@ module _ (r : Room) (bytes : List ℕ) (game : ℕ) where
       is_none (some t) e = unfold no_form in absurd (true≢false (sym e))
 
   -- a check is sound if it is so for the text that the bytes say
-  of_text : (c : Option SolverText → Check) → c none ≡ Passed
+  of_text : (c : Option SolverText → Check) → c none ≡ Ok tt
       → ((t : SolverText) → HasForm bytes t → Sound F (c (some t)))
       → Sound F (c (parse bytes))
   of_text c e f = go (parse bytes) refl
@@ -254,7 +255,7 @@ module _ (r : Room) (bytes : List ℕ) (game : ℕ) where
 
   -- ---- their numbers
 
-  of_numbered : (k : ℕ) (c : Option SolverText → Check) → c none ≡ Passed → ((t : SolverText) → Numbered k (c (some t)))
+  of_numbered : (k : ℕ) (c : Option SolverText → Check) → c none ≡ Ok tt → ((t : SolverText) → Numbered k (c (some t)))
       → (m : Option SolverText) → Numbered k (c m)
   of_numbered k c e f none = λ n p d. absurd (passed_not_fault (sym e ∙ d))
   of_numbered k c e f (some t) = f t
@@ -285,10 +286,10 @@ module _ (r : Room) (bytes : List ℕ) (game : ℕ) where
 
   -- ---- the theorems
 
-  pub reading_exact : (n p : ℕ) → reading_refusal r bytes game ≡ Fault n p ↔ FirstFaultyReading r bytes game n p
+  pub reading_exact : (n p : ℕ) → reading_refusal r bytes game ≡ fault n p ↔ FirstFaultyReading r bytes game n p
   reading_exact n p = rw whole (first_exact (λ k. k) F checks sound finds rising n p)
 
-  pub reading_passed : reading_refusal r bytes game ≡ Passed ↔ ((n p : ℕ) → ¬ FaultyReading r bytes game n p)
+  pub reading_passed : reading_refusal r bytes game ≡ Ok tt ↔ ((n p : ℕ) → ¬ FaultyReading r bytes game n p)
   reading_passed = rw whole (passed_exact (λ k. k) F checks sound finds rising)
 
   -- there is no fault or a first one

@@ -11,7 +11,7 @@ use lib.ListN.{length, take}
 use lib.Dec.{ltb}
 use borrow.Author.Tests.{lt-ltb, le-ltb}
 use Rattle.rules.specs.declared.Answer.TheVariants.{Done}
-use Rattle.rules.specs.declared.Check.TheVariants.{Passed}
+use Rattle.std.specs.declared.result.Result.TheVariants.{Ok}
 use Rattle.rules.specs.declared.Room.{Room}
 use Rattle.rules.specs.Lists.{zeros, Distinct}
 use Rattle.rules.specs.Words.{game_length, work_length}
@@ -40,9 +40,9 @@ use Rattle.game_texts.proofs.Readable.{Readable, readable_done}
 
 -- ---- it is read back
 
-module _ (g : List ℕ) (passed : writing_refusal g ≡ Passed) (r : Room) (held : Held g r)
-    (room : refusal1 r ≡ Passed) where
-  fits : refusal93 r (text_in g) ≡ Passed
+module _ (g : List ℕ) (passed : writing_refusal g ≡ Ok tt) (r : Room) (held : Held g r)
+    (room : refusal1 r ≡ Ok tt) where
+  fits : refusal93 r (text_in g) ≡ Ok tt
   unfolding refusal93 text_in line_in
   fits =
       if-false 93 0
@@ -83,7 +83,7 @@ module _ (g : List ℕ) (passed : writing_refusal g ≡ Passed) (r : Room) (held
 -- ---- the theorem
 
 room_passed : (r : Room) (game : ℕ) → ((n p : ℕ) → ¬ FaultyRoom r game (work_length r) n p)
-    → (refusal1 r ≡ Passed) × (game ≡ game_length r)
+    → (refusal1 r ≡ Ok tt) × (game ≡ game_length r)
 unfolding refusal1 refusal2
 room_passed r game f = (
   first_passed _ ((passed_exact (λ k. k) (FaultyRoom r game (work_length r)) (room_checks r game (work_length r))
@@ -101,10 +101,10 @@ room_passed r game f = (
 module _ (g text : List ℕ) (r : Room) (game : List ℕ) (sound : (n p : ℕ) → ¬ FaultyWriting g (length text) n p)
     (start : initial_in g ≡ 0) (lent : (n p : ℕ) → ¬ FaultyRoom r (length game) (work_length r) n p)
     (held : Held g r) where
-  checked : writing_check g (length text) ≡ Passed
+  checked : writing_check g (length text) ≡ Ok tt
   checked = (writing_passed g (length text)).1 sound
 
-  accepted : writing_refusal g ≡ Passed
+  accepted : writing_refusal g ≡ Ok tt
   unfolding writing_check
   accepted = (then_both (writing_refusal g) _ checked).0
 

@@ -9,7 +9,7 @@ use mathlib.Core.Logic.{inl, inr}
 use lib.ListN.{length, length-map}
 use lib.Dec.{eqb}
 use borrow.Author.Tests.{eq-eqb, ne_eqb}
-use Rattle.rules.specs.declared.Check.TheVariants.{Passed}
+use Rattle.std.specs.declared.result.Result.TheVariants.{Ok}
 use Rattle.rules.specs.Lists.{word, zeros, In, Distinct, from, once}
 use Rattle.rules.specs.Game.{Edge, Vertex, edge_to, vertex_count, owner_in, priority_in, targets_in}
 use Rattle.rules.specs.Pgsolver.{SolverLine, ProperLine, HasForm}
@@ -97,7 +97,7 @@ each_line g P f l i =
     let (a, b) = in_from v 0 (vertex_count g) m in
     subst P (sym e) (f v (omega arith))
 
-module _ (g : List ℕ) (passed : writing_refusal g ≡ Passed) where
+module _ (g : List ℕ) (passed : writing_refusal g ≡ Ok tt) where
   pub written_good : GoodGame g
   unfolding writing_refusal
   written_good = good_game g (then_both _ _ passed).0

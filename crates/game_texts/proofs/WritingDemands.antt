@@ -8,8 +8,9 @@ use lib.Seq.{take-append_seam, get_or-append-add}
 use lib.Dec.{ltb}
 use borrow.Author.Tests.{ltb-false}
 use Rattle.rules.specs.declared.Answer.TheVariants.{Done, Refused}
-use Rattle.rules.specs.declared.Check.{Check}
-use Rattle.rules.specs.declared.Check.TheVariants.{Passed, Fault}
+use Rattle.rules.specs.Answers.{Check}
+use Rattle.std.specs.declared.result.Result.TheVariants.{Ok, Err}
+use Rattle.rules.specs.Answers.{fault}
 use Rattle.rules.specs.Lists.{word}
 use Rattle.rules.specs.Answers.{fault_if, and_then}
 use Rattle.rules.specs.Game.{padded}
@@ -26,27 +27,27 @@ use Rattle.game_texts.proofs.WritingExact.{writing_exact, writing_passed}
 -- ---- by what the check says
 
 module _ (g text : List ℕ) where
-  pub writing_refused : (n p : ℕ) → writing_check g (length text) ≡ Fault n p
+  pub writing_refused : (n p : ℕ) → writing_check g (length text) ≡ fault n p
       → written_game g text ≡ record { answer = Refused n p; text = text }
   unfolding written_game writing_check written_or text_into and_then
   writing_refused n p e = go (writing_refusal g) e
     where
-      go : (c : Check) → and_then c (fault_if 2 0 (ltb (length text) (length (game_text g)))) ≡ Fault n p
+      go : (c : Check) → and_then c (fault_if 2 0 (ltb (length text) (length (game_text g)))) ≡ fault n p
           → written_or c g text ≡ record { answer = Refused n p; text = text }
-      go Passed e =
+      go (Ok u) e =
           let (a, b, c) = if_fault 2 0 (ltb (length text) (length (game_text g))) e in
           rw a (ap₂ (λ (k q : ℕ). record { answer = Refused k q; text = text }) b c)
-      go (Fault m q) e =
+      go (Err f) e =
           ap₂ (λ (k r : ℕ). record { answer = Refused k r; text = text }) (fault_number e) (fault_place e)
 
-  pub writing_done : writing_check g (length text) ≡ Passed
+  pub writing_done : writing_check g (length text) ≡ Ok tt
       → written_game g text ≡ record { answer = Done (length (game_text g)) 0 0; text = padded (length text) (game_text g) }
   unfolding written_game writing_check written_or text_into
   writing_done e =
       let (a, b) = then_both (writing_refusal g) _ e in
       rw (a, if_passed 2 0 (ltb (length text) (length (game_text g))) b) refl
 
-  pub writing_fits : writing_check g (length text) ≡ Passed → length (game_text g) ≤ length text
+  pub writing_fits : writing_check g (length text) ≡ Ok tt → length (game_text g) ≤ length text
   unfolding writing_check
   writing_fits e = ltb-false (length text) (length (game_text g)) (if_passed 2 0 _ (then_both (writing_refusal g) _ e).1)
 
@@ -71,7 +72,7 @@ padded-front n ws = take-append_seam ws (replicate (n - length ws) 0)
 -- ---- the theorem
 
 module _ (g text : List ℕ) where
-  done_writes : writing_check g (length text) ≡ Passed
+  done_writes : writing_check g (length text) ≡ Ok tt
       → WritesGame g (padded (length text) (game_text g)) (length (game_text g))
   unfolding writing_check
   done_writes e =

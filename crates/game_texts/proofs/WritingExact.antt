@@ -9,8 +9,9 @@ use mathlib.Core.Logic.{◌⊎◌, inl, inr, ◌↔◌}
 use lib.ListN.{length}
 use lib.Dec.{ltb}
 use borrow.Author.Tests.{ltb-true, lt-ltb, not-true}
-use Rattle.rules.specs.declared.Check.{Check}
-use Rattle.rules.specs.declared.Check.TheVariants.{Passed, Fault}
+use Rattle.rules.specs.Answers.{Check}
+use Rattle.std.specs.declared.result.Result.TheVariants.{Ok}
+use Rattle.rules.specs.Answers.{fault}
 use Rattle.rules.specs.Lists.{position, every}
 use Rattle.rules.specs.Answers.{fault_if, and_then, first_fault}
 use Rattle.rules.specs.Game.{vertex_count}
@@ -83,10 +84,10 @@ module _ (g : List ℕ) (text : ℕ) where
 
   -- ---- the theorems
 
-  pub writing_exact : (n p : ℕ) → writing_check g text ≡ Fault n p ↔ FirstFaultyWriting g text n p
+  pub writing_exact : (n p : ℕ) → writing_check g text ≡ fault n p ↔ FirstFaultyWriting g text n p
   writing_exact n p = rw whole (first_exact writing_turn F checks sound finds rising n p)
 
-  pub writing_passed : writing_check g text ≡ Passed ↔ ((n p : ℕ) → ¬ FaultyWriting g text n p)
+  pub writing_passed : writing_check g text ≡ Ok tt ↔ ((n p : ℕ) → ¬ FaultyWriting g text n p)
   writing_passed = rw whole (passed_exact writing_turn F checks sound finds rising)
 
   -- there is no fault or a first one

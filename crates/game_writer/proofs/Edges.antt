@@ -5,19 +5,18 @@ use mathlib.Core.List.{List, [], ◌∷◌, ◌++◌, map}
 use Prim.Native.Nat.{ℕ, zero, suc, ◌+◌, ◌-◌, ◌≤◌, ◌<◌}
 use native.Mathlib.Numerals.{add-one}
 use native.Mathlib.Omega.{arith}
-use lib.ListN.{length, set, length-map}
+use lib.ListN.{length, set}
 use Rattle.rules.specs.Lists.{from, sum}
 use Rattle.rules.specs.Game.{Vertex, edge_count, offsets}
 use Rattle.words.specs.Stretches.{Wrote}
 use Rattle.words.proofs.Stretches.{Writing, start, turn, put, called, done}
 use Rattle.games.specs.Columns.{edge_column, edge_column_of}
-use Rattle.games.proofs.Reading.{length-offsets, length_edge_column}
+use Rattle.games.proofs.Reading.{length_edge_column}
 use Rattle.parity_game.proofs.Stretches.{column_none, column-more}
 use Rattle.settling.specs.Stand.{degree_in, degrees_in}
 use Rattle.game_writer.specs.Shown.{shown_edges, shown_vertex, shown_vertices}
 use Rattle.game_writer.proofs.Vertices.{edges_length}
-use Rattle.game_writer.proofs.Rows.{from_all, from_more, from_none}
-use Rattle.lists.proofs.Ranges.{from-length}
+use Rattle.game_writer.proofs.Rows.{from_all, from_more, from_none, moved}
 
 pub below_none : (w : List ℕ) (v : ℕ) → 0 ≡ degrees_in w v 0
 unfolding degrees_in
@@ -44,10 +43,6 @@ module _ (kinds priorities w : List ℕ) (v e n : ℕ) where
   later_none : (u : ℕ) → n ≤ u → later u ≡ []
   unfolding later
   later_none u h = ap (map (shown_vertex kinds priorities w v e)) (from_none n u h)
-
-  pub later_length : (u : ℕ) → length (later u) ≡ n - u
-  unfolding later
-  later_length u = length-map (from u (n - u)) (shown_vertex kinds priorities w v e) ∙ from-length u (n - u)
 
   count-more : (u : ℕ) → u < n → edge_count (later u) ≡ degree_in w v u + edge_count (later (u + 1))
   unfolding edge_count sum shown_vertex
@@ -94,31 +89,28 @@ module _ (kinds priorities w : List ℕ) (v e n : ℕ) where
 
   -- ---- the offsets
 
-  offsets-length : (b u : ℕ) → length (offsets b (later u)) ≡ suc (n - u)
-  offsets-length b u = length-offsets b (later u) ∙ ap suc (later_length u)
+  -- those of the vertices below u are written, from place `at` on, and b edges stand before vertex u
+  abbrev pub Offsets : (b u at : ℕ) → (out out₀ : List ℕ) → Type 0
+  Offsets b u at out out₀ =
+      Writing (at + u) (offsets b (later u)) out at (offsets 0 (shown_vertices kinds priorities w v e n)) out₀
 
-  offsets-all : length (offsets 0 (shown_vertices kinds priorities w v e n)) ≡ suc n
-  offsets-all = ap (λ (vs : List Vertex). length (offsets 0 vs)) all_later ∙ offsets-length 0 0 ∙ omega arith
+  pub offsets_start : (at : ℕ) (out : List ℕ) → Offsets 0 0 at out out
+  offsets_start at out = let here : at ≡ at + 0 = omega arith in moved here (turn (ap (offsets 0) all_later) start)
 
-  pub offsets_start : {p : ℕ} {out : List ℕ}
-      → Writing p (offsets 0 (later 0)) out p (offsets 0 (shown_vertices kinds priorities w v e n)) out
-  offsets_start = turn (ap (offsets 0) all_later) start
+  pub offsets_put : (b u degree at : ℕ) {out out₀ : List ℕ} → degree ≡ degree_in w v u → u < n → at + n < length out₀
+      → Offsets b u at out out₀ → Offsets (b + degree) (u + 1) at (set out (at + u) b) out₀
+  offsets_put b u degree at {out} {out₀} d h k wr =
+      let here : at + u < length out = omega (arith, wr.long) in
+      let more = offsets_more b u h ∙ ap (λ (x : ℕ). b ∷ offsets (b + x) (later (u + 1))) (sym d) in
+      let next : at + u + 1 ≡ at + (u + 1) = omega arith in
+      moved next (put here (turn more wr))
 
-  -- there is room for the next word, and for the last
-  pub offsets_room : (b u : ℕ) {p at₀ : ℕ} {out out₀ : List ℕ} → u ≤ n → at₀ + n < length out₀
-      → Writing p (offsets b (later u)) out at₀ (offsets 0 (shown_vertices kinds priorities w v e n)) out₀
-      → p < length out
-  offsets_room b u h k w = omega (arith, w.long, w.last, offsets-length b u, offsets-all)
-
-  pub offsets_put : (b u degree : ℕ) {p at₀ : ℕ} {stretch out out₀ : List ℕ}
-      → degree ≡ degree_in w v u → u < n → p < length out → Writing p (offsets b (later u)) out at₀ stretch out₀
-      → Writing (p + 1) (offsets (b + degree) (later (u + 1))) (set out p b) at₀ stretch out₀
-  offsets_put b u degree d h k w =
-      put k (turn (offsets_more b u h ∙ ap (λ (x : ℕ). b ∷ offsets (b + x) (later (u + 1))) (sym d)) w)
-
-  pub offsets_done : (b u : ℕ) {p at₀ : ℕ} {stretch out out₀ : List ℕ} → n ≤ u → p < length out
-      → Writing p (offsets b (later u)) out at₀ stretch out₀ → Wrote at₀ stretch out₀ (set out p b) (p + 1)
-  offsets_done b u h k w = done (put k (turn (offsets_none b u h) w))
+  pub offsets_done : (b u at : ℕ) {out out₀ : List ℕ} → u ≤ n → n ≤ u → at + n < length out₀ → Offsets b u at out out₀
+      → Wrote at (offsets 0 (shown_vertices kinds priorities w v e n)) out₀ (set out (at + n) b) (at + n + 1)
+  offsets_done b u at {out} {out₀} h k l wr =
+      let here : at + n < length out = omega (arith, wr.long) in
+      let same : at + u ≡ at + n = omega arith in
+      done (put here (moved same (turn (offsets_none b u k) wr)))
 
   -- ---- a column of the edges
 

@@ -1,14 +1,13 @@
 -- A word for each of the first n vertices, written from left to right. Assumes nothing.
-use mathlib.Core.Path.{◌≡◌, refl, sym, ap, ◌∙◌}
+use mathlib.Core.Path.{◌≡◌, refl, sym, ap, ◌∙◌, subst}
 use mathlib.Core.List.{List, [], ◌∷◌, map}
 use Prim.Native.Nat.{ℕ, suc, ◌+◌, ◌-◌, ◌≤◌, ◌<◌}
 use native.Mathlib.Numerals.{add-one}
 use native.Mathlib.Omega.{arith}
-use lib.ListN.{length, set, length-map}
+use lib.ListN.{length, set}
 use Rattle.rules.specs.Lists.{from}
 use Rattle.words.specs.Stretches.{Wrote}
 use Rattle.words.proofs.Stretches.{Writing, start, turn, put, done}
-use Rattle.lists.proofs.Ranges.{from-length}
 
 -- ---- the numbers from u up to n
 
@@ -27,22 +26,37 @@ pub from_none : (n u : ℕ) → n ≤ u → from u (n - u) ≡ []
 unfolding from
 from_none n u h = let e : n - u ≡ 0 = omega arith in ap (from u) e
 
--- ---- a word for each of them
+-- the place of the next word, told otherwise
+pub moved : {p q : ℕ} {left out : List ℕ} {at₀ : ℕ} {stretch out₀ : List ℕ} → p ≡ q
+    → Writing p left out at₀ stretch out₀ → Writing q left out at₀ stretch out₀
+moved {left = left} {out} {at₀} {stretch} {out₀} e w = subst (λ (k : ℕ). Writing k left out at₀ stretch out₀) e w
 
-module _ (f : ℕ → ℕ) (n u : ℕ) where
-  pub row-start : {p : ℕ} {out : List ℕ} → Writing p (map f (from 0 (n - 0))) out p (map f (from 0 n)) out
-  row-start = turn (ap (map f) (sym (from_all n))) start
+-- ---- a word for each of them, the first at place `at`
 
-  row_length : (k : ℕ) → length (map f (from u k)) ≡ k
-  row_length k = length-map (from u k) f ∙ from-length u k
+-- those of the numbers below u are written
+abbrev pub Row : (ℕ → ℕ) → (n u at : ℕ) → (out out₀ : List ℕ) → Type 0
+Row f n u at out out₀ = Writing (at + u) (map f (from u (n - u))) out at (map f (from 0 n)) out₀
 
+module _ (f : ℕ → ℕ) (n u at : ℕ) {out out₀ : List ℕ} where
   -- there is room for the next word
-  pub row_room : {p at₀ : ℕ} {out out₀ : List ℕ} → u < n → at₀ + n ≤ length out₀ → Writing p (map f (from u (n - u))) out at₀ (map f (from 0 n)) out₀ → p < length out
-  row_room h k w = omega (arith, w.long, w.last, row_length (n - u), length-map (from 0 n) f ∙ from-length 0 n)
+  pub row_room : u < n → at + n ≤ length out₀ → Row f n u at out out₀ → at + u < length out
+  row_room h k w = omega (arith, w.long, k)
 
-  pub row_put : {p at₀ : ℕ} {stretch out out₀ : List ℕ} (x : ℕ) → x ≡ f u → u < n → p < length out → Writing p (map f (from u (n - u))) out at₀ stretch out₀
-      → Writing (p + 1) (map f (from (u + 1) (n - (u + 1)))) (set out p x) at₀ stretch out₀
-  row_put x e h k w = put k (turn (ap (map f) (from_more n u h) ∙ ap (λ (y : ℕ). y ∷ map f (from (u + 1) (n - (u + 1)))) (sym e)) w)
+  pub row_put : (x : ℕ) → x ≡ f u → u < n → at + n ≤ length out₀ → Row f n u at out out₀
+      → Row f n (u + 1) at (set out (at + u) x) out₀
+  row_put x e h k w =
+      let here : at + u < length out = row_room h k w in
+      let more = ap (map f) (from_more n u h) ∙ ap (λ (y : ℕ). y ∷ map f (from (u + 1) (n - (u + 1)))) (sym e) in
+      let next : at + u + 1 ≡ at + (u + 1) = omega arith in
+      moved next (put here (turn more w))
 
-  pub row_done : {p at₀ : ℕ} {stretch out out₀ : List ℕ} → n ≤ u → Writing p (map f (from u (n - u))) out at₀ stretch out₀ → Wrote at₀ stretch out₀ out p
-  row_done h w = done (turn (ap (map f) (from_none n u h)) w)
+pub row-start : (f : ℕ → ℕ) (n at : ℕ) (out : List ℕ) → Row f n 0 at out out
+row-start f n at out =
+    let here : at ≡ at + 0 = omega arith in
+    moved here (turn (ap (map f) (sym (from_all n))) start)
+
+pub row_done : (f : ℕ → ℕ) (n u at : ℕ) {out out₀ : List ℕ} → u ≤ n → n ≤ u → Row f n u at out out₀
+    → Wrote at (map f (from 0 n)) out₀ out (at + n)
+row_done f n u at h k w =
+    let here : at + u ≡ at + n = omega arith in
+    done (moved here (turn (ap (map f) (from_none n u k)) w))

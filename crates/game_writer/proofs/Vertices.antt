@@ -8,6 +8,8 @@ use native.Mathlib.Omega.{arith}
 use lib.ListN.{length, take, drop, length-map}
 use lib.Dec.{eqb}
 use borrow.Author.Tests.{lt-ltb, le-ltb}
+use Rattle.std.specs.Prelude.{is_some, unwrap_or, Option, Some, None}
+use Rattle.std.specs.Option.{SomeIff}
 use Rattle.player.specs.Player.{player_index}
 use Rattle.player.specs.declared.Player.{Player}
 use Rattle.rules.specs.Lists.{word, from}
@@ -23,14 +25,16 @@ use Rattle.settling.proofs.Buffer.{settled-in, unsettled_in, count_unsettled}
 use Rattle.game_writer.specs.Shown.{item_in, loops_in, shown_player, shown_owner, shown_priority}
 use Rattle.game_writer.specs.Shown.{buffer_end, shown_edge, shown_edges, shown_vertex}
 
--- ---- whether it is settled, as code reads it
+-- ---- whether it is settled and how many edges it has, as code reads it: `degree` is none before it is settled
 
 module _ (w : List ℕ) (v u held : ℕ) (e : held ≡ word (region 6 v w) u) where
-  pub settled_read : (¬ (held ≡ 0)) → settled_in w v u ≡ true
-  settled_read d = settled-in w v u (omega arith)
+  pub settled_read : (degree : Option ℕ) → SomeIff degree (1 ≤ held) (held - 1) → is_some degree ≡ settled_in w v u
+  settled_read (Some d) s = sym (settled-in w v u (omega (arith, s.0)))
+  settled_read None s = sym (unsettled_in w v u (omega (arith, s)))
 
-  pub waits_read : held ≡ 0 → settled_in w v u ≡ false
-  waits_read z = unsettled_in w v u (omega arith)
+  pub count_read : (degree : Option ℕ) → SomeIff degree (1 ≤ held) (held - 1) → unwrap_or degree 0 ≡ degree_in w v u
+  count_read (Some d) s = omega (arith, s.1)
+  count_read None s = omega (arith, s)
 
 -- ---- the words of owner and priority
 
@@ -47,10 +51,6 @@ module _ (kinds w : List ℕ) (v u : ℕ) where
   pub player_read : (item : ℕ) (o : Player) → item ≡ item_in w v u → o ≡ kind_owner (word kinds item) → o ≡ shown_player kinds w v u
   unfolding shown_player
   player_read item o e f = f ∙ ap (λ (i : ℕ). kind_owner (word kinds i)) e
-
-  pub owner_read : (item : ℕ) (o : Player) (r : ℕ) → settled_in w v u ≡ true → item ≡ item_in w v u
-      → o ≡ kind_owner (word kinds item) → r ≡ player_index o → r ≡ shown_owner kinds w v u
-  owner_read item o r d e f g = g ∙ ap player_index (player_read item o e f) ∙ sym (owner-settled d)
 
 -- the first edge, as code reads it
 module _ (w : List ℕ) (v e u : ℕ) where
@@ -79,11 +79,6 @@ module _ (kinds priorities w : List ℕ) (v e u : ℕ) where
   priority_ranked d n = rw (d, n) refl
 
   -- as code reads it
-  pub stuck_read : (item : ℕ) (o : Player) (r : ℕ) → settled_in w v u ≡ true → loops_in w v e u ≡ true
-      → item ≡ item_in w v u → o ≡ kind_owner (word kinds item) → r ≡ stuck_priority o
-      → r ≡ shown_priority kinds priorities w v e u
-  stuck_read item o r d l i f g = g ∙ ap stuck_priority (player_read kinds w v u item o i f) ∙ sym (priority_stuck d l)
-
   pub ranked_read : (item : ℕ) → settled_in w v u ≡ true → loops_in w v e u ≡ false → item ≡ item_in w v u
       → word priorities item ≡ shown_priority kinds priorities w v e u
   ranked_read item d n i = ap (word priorities) i ∙ sym (priority_ranked d n)

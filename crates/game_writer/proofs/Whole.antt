@@ -1,15 +1,18 @@
 -- The whole game: what it asks for, and its stretches one after the other. Assumes nothing.
 use mathlib.Core.Path.{◌≡◌, refl, sym, ap, ◌∙◌}
-use mathlib.Core.List.{List, [], ◌∷◌, map}
-use Prim.Native.Nat.{ℕ, ◌+◌, ◌*◌, ◌≤◌, ◌<◌}
+use mathlib.Core.List.{List, [], ◌∷◌, ◌++◌, map}
+use Prim.Native.Nat.{ℕ, ◌+◌, ◌-◌, ◌*◌, ◌≤◌, ◌<◌}
 use native.Mathlib.Omega.{arith}
-use lib.ListN.{length, drop, length-map}
+use lib.ListN.{length, take, drop, replicate, length-map}
 use Rattle.rules.specs.Lists.{from}
-use Rattle.rules.specs.Game.{vertex_columns, edge_columns, all_edges, columns}
+use Rattle.rules.specs.Game.{Vertex, vertex_columns, edge_columns, edge_count, offsets, all_edges, columns, game_of, padded}
 use Rattle.games.specs.Columns.{vertex_column}
 use Rattle.games.proofs.Reading.{length_edges}
 use Rattle.parity_game.proofs.Stretches.{columns_room}
-use Rattle.words.proofs.Stretches.{Writing}
+use Rattle.words.specs.Stretches.{Wrote}
+use Rattle.words.proofs.Stretches.{Writing, called}
+use Rattle.parity_game.proofs.Calls.{behind_header, behind_columns, behind_offsets, header_done, offsets_fit, edges_fit}
+use Rattle.parity_game.proofs.Calls.{last_done, game_done}
 use Rattle.settling.specs.Stand.{degrees_in}
 use Rattle.game_writer.specs.Shown.{shown_owner, shown_priority, shown_vertex, shown_word, shown_vertices}
 use Rattle.game_writer.specs.Shown.{Showing, Showable}
@@ -23,14 +26,6 @@ showing s =
     record {
       placed = s.placed;
       edged = record { stretch = λ u h d. omega (arith, s.few, s.stretches u h d) };
-    }
-
--- what is asked for n vertices is asked for those up to u
-pub showing_to : {w : List ℕ} {v e n : ℕ} (u : ℕ) → u < n → Showing w v e n → Showing w v e (u + 1)
-showing_to u h s =
-    record {
-      placed = record { known = omega (arith, s.placed.known); most = s.placed.most; whole = s.placed.whole };
-      edged = record { stretch = λ t l. s.edged.stretch t (omega arith) };
     }
 
 -- ---- the stretches
@@ -95,3 +90,39 @@ module _ (kinds priorities w : List ℕ) (v e : ℕ) where
         columns_room edge_columns (all_edges (shown_vertices kinds priorities w v e n)) c h (omega (arith, many)) wr,
         many,
       )
+
+-- ---- the calls that write the game, one after the other: the header, the columns of the vertices, the offsets, the
+-- columns of the edges, zeros
+
+module _ (kinds priorities : List ℕ) (out : List ℕ) {w : List ℕ} {v e n m : ℕ} (s : Showable w v e n m (length out)) where
+  abbrev pub whole : List Vertex
+  whole = shown_vertices kinds priorities w v e n
+
+  many : n ≡ length whole
+  many = sym (shown_length kinds priorities w v e n)
+
+  most : m ≡ edge_count whole
+  most = sym s.total ∙ sym (total kinds priorities w v e n)
+
+  module _ {a : ℕ} {out₁ : List ℕ} (l : length out₁ ≡ length out) (header : Wrote 0 (n ∷ m ∷ 0 ∷ []) out out₁ a) where
+    headed : Writing a (behind_header whole) out₁ 0 (game_of 0 whole) out
+    headed = header_done whole n m many most l header
+
+    module _ {b : ℕ} {out₂ : List ℕ} (l₂ : length out₂ ≡ length out₁) (places : Wrote a (columns vertex_columns whole) out₁ out₂ b) where
+      placed : Writing b (behind_columns whole) out₂ 0 (game_of 0 whole) out
+      placed = called l₂ places headed
+
+      pub offsets_room : b + n < length out₂
+      offsets_room = omega (arith, offsets_fit whole n m many most s.room placed)
+
+      module _ {d : ℕ} {out₃ : List ℕ} (l₃ : length out₃ ≡ length out₂) (begin : Wrote b (offsets 0 whole) out₂ out₃ d) where
+        begun : Writing d (behind_offsets whole) out₃ 0 (game_of 0 whole) out
+        begun = called l₃ begin placed
+
+        pub edges_room : d + length edge_columns * degrees_in w v n ≤ length out₃
+        edges_room = rw s.total (edges_fit whole n m many most s.room begun)
+
+        pub written : {f : ℕ} {out₄ out₅ : List ℕ} → length out₄ ≡ length out₃
+            → Wrote d (columns edge_columns (all_edges whole)) out₃ out₄ f
+            → out₅ ≡ take f out₄ ++ replicate (length out₄ - f) 0 → out₅ ≡ padded (length out) (game_of 0 whole)
+        written l₄ edges zeros = game_done (last_done l₄ edges begun) zeros

@@ -10,8 +10,9 @@ use lib.ListN.{length, get_or, take}
 use lib.Seq.{take_all}
 use lib.Dec.{ltb, leb}
 use borrow.Author.Tests.{lt-ltb, le-ltb, lt-leb, ne_eqb}
-use Rattle.rules.specs.declared.Check.{Check}
-use Rattle.rules.specs.declared.Check.TheVariants.{Passed, Fault}
+use Rattle.rules.specs.Answers.{Check}
+use Rattle.std.specs.declared.result.Result.TheVariants.{Ok}
+use Rattle.rules.specs.Answers.{fault}
 use Rattle.rules.specs.Lists.{word, In}
 use Rattle.rules.specs.Answers.{fault_if, and_then, first_fault}
 use Rattle.rules.specs.Game.{Edge, Vertex, edge_to, game_words, edge_count, all_edges, game_of, vertex_count, edges_in}
@@ -33,7 +34,7 @@ all_edges_lem P (v ∷ vs) d f e m =
     ⊎_elim (f 0 (omega arith) e) (all_edges_lem P vs d (λ u h. f (suc u) (omega arith)) e)
     (in_either e v.edges (all_edges vs) m)
 
-third_check : (a b c : Check) → a ≡ Passed → b ≡ Passed → first_fault (a ∷ b ∷ c ∷ []) ≡ c
+third_check : (a b c : Check) → a ≡ Ok tt → b ≡ Ok tt → first_fault (a ∷ b ∷ c ∷ []) ≡ c
 unfolding first_fault and_then
 third_check a b c e f = rw (e, f) (then_last c)
 
@@ -63,7 +64,7 @@ module _ (vs : List Vertex) (d : Vertex) (some : 1 ≤ length vs) (few : length 
   owner : (v : ℕ) → v < length vs → owner_in g v ≡ (get_or vs v d).owner
   owner v h = subst (λ (l : List ℕ). owner_in l v ≡ (get_or vs v d).owner) plain (vertex_read 0 vs [] 0 v d (omega arith) h)
 
-  passes_51 : refusal51 g ≡ Passed
+  passes_51 : refusal51 g ≡ Ok tt
   unfolding above_room refusal51
   passes_51 =
       let long = length_read 0 vs in
@@ -93,7 +94,7 @@ module _ (vs : List Vertex) (d : Vertex) (some : 1 ≤ length vs) (few : length 
       let q : word g w ≡ edge_count (take (suc v) vs) = sym (ap (word g) f) ∙ offset (suc v) (omega (arith, counts)) in
       le-ltb (word g w) (word g (w - 1)) (omega (arith, count_rises vs v))
 
-  passes_52 : refusal52 g ≡ Passed
+  passes_52 : refusal52 g ≡ Ok tt
   unfolding refusal52
   passes_52 =
       lower_passed _ (if-false 52 (offsets_at g) (differ_no begins_0))
@@ -115,7 +116,7 @@ module _ (vs : List Vertex) (d : Vertex) (some : 1 ≤ length vs) (few : length 
       (in_at (all_edges vs) p (edge_to 0) (omega (arith, length_edges vs))) in
       lt-leb (vertex_count g) (word g w) (omega (arith, counts))
 
-  starts-inside : fault_if 53 2 (leb (vertex_count g) (initial_in g)) ≡ Passed
+  starts-inside : fault_if 53 2 (leb (vertex_count g) (initial_in g)) ≡ Ok tt
   starts-inside = if-false 53 2 (lt-leb (vertex_count g) (initial_in g) (omega (arith, counts, initial)))
 
   owner-word : (w : ℕ) → vertex_column_at g 0 ≤ w → w < vertex_column_at g 1 → word g w ≡ (get_or vs (w - 3) d).owner
@@ -124,7 +125,7 @@ module _ (vs : List Vertex) (d : Vertex) (some : 1 ≤ length vs) (few : length 
       ap (word g) e ∙ owner (w - 3) (omega (arith, counts))
 
   -- every vertex has an owner
-  pub owned_passes : ((v : ℕ) → v < length vs → (get_or vs v d).owner < 2) → game_refusal (game_of 0 vs) ≡ Passed
+  pub owned_passes : ((v : ℕ) → v < length vs → (get_or vs v d).owner < 2) → game_refusal (game_of 0 vs) ≡ Ok tt
   unfolding game_refusal refusal53
   owned_passes all =
       third_check (refusal51 g) (refusal52 g) (refusal53 g) passes_51 passes_52
@@ -136,7 +137,7 @@ module _ (vs : List Vertex) (d : Vertex) (some : 1 ≤ length vs) (few : length 
 
   -- vertex u is the first without one
   pub first_unowned : (u : ℕ) → u < length vs → (get_or vs u d).owner ≡ 2 → ((v : ℕ) → v < u → (get_or vs v d).owner < 2)
-      → game_refusal (game_of 0 vs) ≡ Fault 53 (3 + u)
+      → game_refusal (game_of 0 vs) ≡ fault 53 (3 + u)
   unfolding game_refusal refusal53
   first_unowned u h e before =
       let i : 3 + u < vertex_column_at g 1 = omega (arith, counts) in

@@ -12,6 +12,7 @@ use std::io;
 use std::io::{Read, Write};
 
 // Reads until the buffer is full or the input ends. Answers how many bytes it then holds of the input, at its front.
+// Kept (rule): read_exact refuses an input that ends earlier, and take(n).read_to_end(v) puts the bytes on the heap.
 fn read_full<R: Read>(input: &mut R, buffer: &mut [u8]) -> io::Result<usize>
     ensures bound { ReadsAtMost result buffer.new }
     ensures bytes { IfOk result
@@ -29,12 +30,6 @@ fn read_full<R: Read>(input: &mut R, buffer: &mut [u8]) -> io::Result<usize>
     Ok(count)
 }
 
-fn size(bytes: u32) -> usize
-    ensures { result ≡ bytes }
-{
-    bytes as usize
-}
-
 // What is printed of an input, of which the buffer holds as much as `gate_buffer` asks for, at the front of a slice
 // that every text fits in, which is never refused. Answers how many bytes.
 fn put_text(buffer: &Buffer, count: usize, text: &mut [u8]) -> usize
@@ -43,9 +38,9 @@ fn put_text(buffer: &Buffer, count: usize, text: &mut [u8]) -> usize
         → take result text.new ≡ printed input) × (result ≤ length text.new) }
 {
     match gate_text::gate_buffer(buffer, count, text) {
-        Answer::Done(bytes, vertices, edges) => size(bytes),
-        Answer::Cut(steps, vertices, edges) => 0,
-        Answer::Refused(number, place) => 0,
+        Answer::Done(bytes, _, _) => bytes as usize,
+        Answer::Cut(_, _, _) => 0,
+        Answer::Refused(_, _) => 0,
     }
 }
 

@@ -14,8 +14,7 @@ use borrow.Author.Tests.{lt-ltb, le-ltb}
 use Rattle.rules.specs.Lists.{word, sum}
 use Rattle.rules.specs.Refusal.{differ}
 use Rattle.rules.specs.Program.{word_of, joined, words_of, gate_words, disagree}
-use Rattle.gate_text.specs.declared.Decoded.TheVariants.{Read, Unreadable}
-use Rattle.gate_text.specs.Reading.{agreeing, accepted, decoded}
+use Rattle.gate_text.specs.Reading.{agreeing, accepted}
 use Rattle.words.specs.Bytes.{word_at}
 
 -- ---- one word after the other
@@ -123,19 +122,13 @@ module _ (bytes : List ℕ) where
   accepted_words ws e k l false f = rw (e, le-ltb 2_048 (length ws) k, le-ltb (length ws) 4 l, f) refl
 
   module _ (ws : List ℕ) (n : ℕ) (whole : 4 * n ≡ length bytes) (few : length bytes ≤ 8_192) (some_words : 16 ≤ length bytes) (fit : 2_048 ≤ length ws) where
-    agreed : words_of bytes ≡ some (take n ws) → (t : Bool) → t ≡ eqb n (4 + sum (take 4 ws)) → accepted bytes ≡ cond t (some (take n ws)) none
-    agreed e t f =
+    -- they are taken where the four lengths agree with them
+    pub agreed : words_of bytes ≡ some (take n ws) → (t : Bool) → t ≡ eqb n (4 + sum (take 4 ws)) → (u : Bool) → t ≡ u
+        → accepted bytes ≡ cond u (some (take n ws)) none
+    agreed e t f u h =
         let m : length (take n ws) ≡ n = length-take-le n ws (omega arith) in
         let q : take 4 (take n ws) ≡ take 4 ws = take-take 4 n ws (omega arith) in
-        accepted_words (take n ws) e (omega arith) (omega arith) t (rw (m, q) (sym f))
-
-    pub decoded_read : words_of bytes ≡ some (take n ws) → (t : Bool) → t ≡ eqb n (4 + sum (take 4 ws)) → t ≡ true → decoded (Read n) ws ≡ accepted bytes
-    unfolding decoded
-    decoded_read e t f h = sym (agreed e t f ∙ rw h refl)
-
-    pub decoded_not : words_of bytes ≡ some (take n ws) → (t : Bool) → t ≡ eqb n (4 + sum (take 4 ws)) → t ≡ false → decoded Unreadable ws ≡ accepted bytes
-    unfolding decoded
-    decoded_not e t f h = sym (agreed e t f ∙ rw h refl)
+        accepted_words (take n ws) e (omega arith) (omega arith) u (rw (m, q) (sym f ∙ h))
 
 -- ---- the four lengths
 

@@ -14,8 +14,9 @@ use Rattle.player.specs.declared.Player.{Player}
 use Rattle.player.specs.declared.Player.TheVariants.{Even, Odd}
 use Rattle.rules.specs.declared.Answer.{Answer}
 use Rattle.rules.specs.declared.Answer.TheVariants.{Done, Cut, Refused}
-use Rattle.rules.specs.declared.Check.{Check}
-use Rattle.rules.specs.declared.Check.TheVariants.{Passed, Fault}
+use Rattle.rules.specs.Answers.{Check}
+use Rattle.std.specs.declared.result.Result.TheVariants.{Ok, Err}
+use Rattle.rules.specs.Answers.{fault}
 use Rattle.rules.specs.Lists.{In}
 use Rattle.rules.specs.declared.Room.{Room}
 use Rattle.rules.specs.Words.{Input, game_length, work_length}
@@ -155,11 +156,11 @@ module _ (rank : Ranking) (x : Input) (r : Room) (k : ℕ) (game work : List ℕ
   within_room n = go (refusal x r (length game) (length work)) refl (exceeds r vs) refl
     where
       go : (c : Check) → refusal x r (length game) (length work) ≡ c → (t : Bool) → exceeds r vs ≡ t → (vertex_count o.game ≤ r.vertices) × (edges_in o.game ≤ r.edges)
-      go (Fault i p) e t f =
-          absurd (subst (λ (u : Outcome). Accepted u.answer) (run_refused rank x r k game work i p e) n)
-      go Passed e true f =
+      go (Err g) e t f =
+          absurd (subst (λ (u : Outcome). Accepted u.answer) (run_refused rank x r k game work g.number g.place e) n)
+      go (Ok u) e true f =
           absurd (subst (λ (u : Outcome). Accepted u.answer) (run-exceeds rank x r k game work e f) n)
-      go Passed e false f =
+      go (Ok u) e false f =
           let q = run_fits rank x r k game work e f in
           let a : vertex_count o.game ≡ length vs = ap (λ (u : Outcome). vertex_count u.game) q in
           let b : edges_in o.game ≡ edge_count vs = ap (λ (u : Outcome). edges_in u.game) q in
@@ -208,14 +209,14 @@ module _ (rank : Ranking) (x : Input) (r : Room) (k : ℕ) (game work : List ℕ
     where
       go : (c : Check) → refusal x r (length game) (length work) ≡ c → (t : Bool) → exceeds r vs ≡ t
           → SmallAnswer o.answer
-      go (Fault n p) f t g =
-          let (a, b) = refused_small x r (length game) (length work) n p f in
-          let e : o.answer ≡ Refused n p = ap (λ (u : Outcome). u.answer) (run_refused rank x r k game work n p f) in
+      go (Err d) f t g =
+          let (a, b) = refused_small x r (length game) (length work) d.number d.place f in
+          let e : o.answer ≡ Refused d.number d.place = ap (λ (u : Outcome). u.answer) (run_refused rank x r k game work d.number d.place f) in
           subst SmallAnswer (sym e) (omega arith, omega arith)
-      go Passed f true g =
+      go (Ok u) f true g =
           let e : o.answer ≡ Refused 60 0 = ap (λ (u : Outcome). u.answer) (run-exceeds rank x r k game work f g) in
           subst SmallAnswer (sym e) (omega arith, omega arith)
-      go Passed f false g =
+      go (Ok u) f false g =
           let l = fits rank x r k game work g in
           let m : ℕ = length vs - length st.waiting in
           let e : o.answer ≡ built_answer st.waiting m (length vs) (edge_count vs) =
@@ -248,10 +249,10 @@ module _ (x : Input) where
     where
       go : (c : Check) → refusal x gate_room (length gate_game) (length gate_work) ≡ c → (i : ℕ)
           → by_depth x i < 4_294_967_296
-      go (Fault m p) e i =
-          let q = run_refused by_depth x gate_room gate_steps gate_game gate_work m p e in
+      go (Err f) e i =
+          let q = run_refused by_depth x gate_room gate_steps gate_game gate_work f.number f.place e in
           absurd (subst (λ (u : Outcome). Accepted u.answer) q n)
-      go Passed e i =
+      go (Ok u) e i =
           let good = accepted_words x gate_room (length gate_game) (length gate_work) e in
           by_depth_fits (size x.actions) x good.formula i
 

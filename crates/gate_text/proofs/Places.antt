@@ -6,7 +6,8 @@ use mathlib.Core.Logic.{inl, inr}
 use Prim.Native.Nat.{ℕ, ◌≤◌, ◌<◌}
 use native.Mathlib.Omega.{arith}
 use native.Mathlib.Decide.{dec_lt}
-use Rattle.rules.specs.declared.Check.TheVariants.{Fault}
+use Rattle.std.specs.declared.result.Result.TheVariants.{Ok, Err}
+use Rattle.rules.specs.Answers.{fault}
 use Rattle.rules.specs.declared.Room.{Room}
 use Rattle.rules.specs.Words.{Input}
 use Rattle.rules.specs.Labels.{label_count, action_count}
@@ -85,7 +86,7 @@ not_later : (n p m q : ℕ) → m < n → ¬ NoLater (λ k. k) n p m q
 not_later n p m q h (inl l) = absurd (omega arith)
 not_later n p m q h (inr e) = absurd (omega (arith, e.0))
 
-module _ (x : Input) (r : Room) (game work n p : ℕ) (refused : refusal x r game work ≡ Fault n p) where
+module _ (x : Input) (r : Room) (game work n p : ℕ) (refused : refusal x r game work ≡ fault n p) where
   -- a limit that has an earlier number holds
   limited : (m a b : ℕ) → m < n → (a < b → Faulty x r game work m 0) → b ≤ a
   limited m a b h f = go (dec_lt a b)

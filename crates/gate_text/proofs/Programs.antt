@@ -19,14 +19,11 @@ use Rattle.rules.specs.Refusal.{differ}
 use Rattle.rules.specs.Run.{Outcome}
 use Rattle.rules.specs.Texts.{line}
 use Rattle.rules.specs.Program.{words_of, gate_words, disagree, slices_of, gate_run, refused_text, report, reported}
-use Rattle.rules.specs.Program.{printed_words, printed, gate_text_length}
-use Rattle.gate_text.specs.declared.Decoded.{Decoded}
-use Rattle.gate_text.specs.declared.Decoded.TheVariants.{Read, Unreadable}
-use Rattle.gate_text.specs.Reading.{agreeing, accepted, decoded, word_count}
+use Rattle.rules.specs.Program.{printed_words, printed}
+use Rattle.gate_text.specs.Reading.{agreeing, accepted}
 use Rattle.gate_text.specs.Shown.{Shown}
 use Rattle.gate_text.proofs.Decoding.{sum_four, refused_long}
 use Rattle.gate_text.proofs.NeverCut.{gate_shown}
-use Rattle.gate_text.proofs.Fits.{reported_fits, gate_fits}
 use Rattle.lists.proofs.Tests.{or-false}
 
 -- ---- what is read
@@ -77,7 +74,7 @@ module _ (ws : List ℕ) (l s a : ℕ) (labels : l ≡ word ws 0) (system : s �
 
 -- ---- what is printed
 
-accepted_some : (bytes ws : List ℕ) → accepted bytes ≡ some ws → (disagree ws ≡ false) × (printed bytes ≡ reported (gate_run (slices_of ws)))
+pub accepted_some : (bytes ws : List ℕ) → accepted bytes ≡ some ws → (disagree ws ≡ false) × (printed bytes ≡ reported (gate_run (slices_of ws)))
 unfolding accepted agreeing printed printed_words
 accepted_some bytes ws e = go (words_of bytes) e
   where
@@ -91,7 +88,7 @@ accepted_some bytes ws e = go (words_of bytes) e
             let u : us ≡ ws = cc in
             (ap disagree (sym u) ∙ d, rw d (ap (λ (vs : List ℕ). reported (gate_run (slices_of vs))) u))
 
-accepted_none : (bytes : List ℕ) → accepted bytes ≡ none → line refused_text (2 ∷ 0 ∷ []) ≡ printed bytes
+pub accepted_none : (bytes : List ℕ) → accepted bytes ≡ none → line refused_text (2 ∷ 0 ∷ []) ≡ printed bytes
 unfolding accepted agreeing printed printed_words
 accepted_none bytes e = go (words_of bytes) e
   where
@@ -114,38 +111,11 @@ front-printed input front e = ap printed (sym e) ∙ go (dec_lt 8_193 (length in
         ∙ accepted_none input (refused_long input (omega arith))
     go (no d) = ap printed (take_all 8_193 input (omega arith))
 
-module _ (bytes ws : List ℕ) (d : Decoded) (same : decoded d ws ≡ accepted bytes) where
-  read_some : (n : ℕ) → d ≡ Read n → accepted bytes ≡ some (take n ws)
-  unfolding decoded
-  read_some n e = sym same ∙ ap (λ (k : Decoded). decoded k ws) e
-
-  pub read_agrees : (n : ℕ) → d ≡ Read n → disagree (take n ws) ≡ false
-  read_agrees n e = (accepted_some bytes (take n ws) (read_some n e)).0
-
-  pub read_printed : (n : ℕ) → d ≡ Read n → reported (gate_run (slices_of (take n ws))) ≡ printed bytes
-  read_printed n e = sym (accepted_some bytes (take n ws) (read_some n e)).1
-
-  pub unreadable_printed : d ≡ Unreadable → line (114 ∷ 101 ∷ 102 ∷ 117 ∷ 115 ∷ 101 ∷ 100 ∷ []) (2 ∷ 0 ∷ []) ≡ printed bytes
-  unfolding decoded refused_text
-  unreadable_printed e = accepted_none bytes (sym same ∙ ap (λ (k : Decoded). decoded k ws) e)
-
-  pub unreadable_room : d ≡ Unreadable → (size : ℕ) → gate_text_length ≤ size
-      → 0 + length (line (114 ∷ 101 ∷ 102 ∷ 117 ∷ 115 ∷ 101 ∷ 100 ∷ []) (2 ∷ 0 ∷ [])) ≤ size
-  unreadable_room e size h = omega (arith, ap length (unreadable_printed e), gate_fits bytes)
-
-pub read_count : (d : Decoded) (n : ℕ) → d ≡ Read n → word_count d ≤ 2_048 → n ≤ 2_048
-unfolding word_count
-read_count d n e h = subst (λ (k : Decoded). word_count k ≤ 2_048) e h
-
 -- ---- a run, as the code leaves it
 module _ (x : Input) (a : Answer) (game work : List ℕ) (same : ◌≡◌ {A = Outcome} (record { answer = a; game = game; work = work }) (gate_run x)) where
   pub run-printed : report a game ≡ reported (gate_run x)
   unfolding reported
   run-printed = ap reported same
-
-  -- it fits a slice in which every text fits
-  pub run_room : (size : ℕ) → gate_text_length ≤ size → length (report a game) ≤ size
-  run_room size h = omega (arith, ap length run-printed, reported_fits x)
 
   pub game_shown : Accepted a → Shown game
   game_shown = subst (λ (o : Outcome). Accepted o.answer → Shown o.game) (sym same) (gate_shown x)

@@ -1,9 +1,7 @@
 -- What is printed of an answer, by its case. Assumes nothing.
-use mathlib.Core.Path.{◌≡◌, refl, sym, ap, subst}
+use mathlib.Core.Path.{◌≡◌, refl, sym, subst}
 use mathlib.Core.List.{List, [], ◌∷◌, ◌++◌}
-use Prim.Native.Nat.{ℕ, ◌≤◌}
-use lib.ListN.{length}
-use native.Mathlib.Omega.{arith}
+use Prim.Native.Nat.{ℕ}
 use Rattle.rules.specs.declared.Answer.{Answer}
 use Rattle.rules.specs.declared.Answer.TheVariants.{Done, Cut, Refused}
 use Rattle.rules.specs.Answers.{Accepted}
@@ -33,7 +31,3 @@ done_printed a s v e h = subst Accepted (sym h) tt
 
 pub cut_printed : (a : Answer) (s v e : ℕ) → a ≡ Cut s v e → Accepted a
 cut_printed a s v e h = subst Accepted (sym h) tt
-
--- what is equal to a text fits where that text fits
-pub room : {s text : List ℕ} {size : ℕ} → s ≡ text → length text ≤ size → length s ≤ size
-room e h = omega (arith, ap length e)

@@ -1,9 +1,7 @@
 -- Which words the thin program runs (document 01, "with more than 2,048 words in all, a broken last word or lengths
 -- that disagree it prints `refused 2 0`"). Assumes nothing: these are definitions.
-use Rattle.std.specs.Prelude.{ℕ, cond, List, take}
+use Rattle.std.specs.Prelude.{ℕ, cond, List}
 use Rattle.std.proofs.Math.Option.{Option, none, some}
-use Rattle.gate_text.specs.declared.Decoded.{Decoded}
-use Rattle.gate_text.specs.declared.Decoded.TheVariants.{Read, Unreadable}
 use Rattle.rules.specs.Program.{words_of, disagree}
 
 unfoldable pub agreeing : Option (List ℕ) → Option (List ℕ)
@@ -13,12 +11,3 @@ agreeing (some ws) = cond (disagree ws) none (some ws)
 -- the words of these bytes, none where they are refused
 unfoldable pub accepted : List ℕ → Option (List ℕ)
 accepted bytes = agreeing (words_of bytes)
-
--- what an answer says of the words that a slice holds
-unfoldable pub decoded : Decoded → List ℕ → Option (List ℕ)
-decoded (Read n) ws = some (take n ws)
-decoded Unreadable ws = none
-
-unfoldable pub word_count : Decoded → ℕ
-word_count (Read n) = n
-word_count Unreadable = 0

@@ -1,27 +1,22 @@
 // The thin program's text: the words that its input holds, and the lines that it prints.
 #![tactic(auto)]
 
-ghost use Rattle.std.specs.Prelude.{◌≡◌, List, ◌++◌, false, ℕ, ◌+◌, ◌*◌, ◌%◌, ◌≤◌, ◌<◌, length, take, eqb};
-ghost use Rattle.std.proofs.Math.Option.{some};
+ghost use Rattle.std.specs.Prelude.{◌≡◌, List, ◌∷◌, ◌++◌, false, ℕ, ◌+◌, ◌*◌, ◌%◌, ◌≤◌, ◌<◌};
+ghost use Rattle.std.specs.Prelude.{length, take, eqb, MatchOption};
+ghost use Rattle.std.proofs.Math.Option.{none, some};
 ghost use Rattle.rules.specs.Lists.{sum};
 ghost use Rattle.rules.specs.Answers.{Accepted};
 ghost use Rattle.rules.specs.Game.{vertex_count};
-ghost use Rattle.rules.specs.Texts.{line, Written};
-ghost use Rattle.rules.specs.Program.{words_of, disagree, slices_of, gate_run, vertex_line, vertex_lines, report, reported};
-ghost use Rattle.rules.specs.Program.{printed, gate_text_length, program_text};
+ghost use Rattle.rules.specs.Texts.{decimal, line, Written};
+ghost use Rattle.rules.specs.Program.{words_of, disagree, slices_of, gate_run, vertex_line, vertex_lines, report};
+ghost use Rattle.rules.specs.Program.{reported, printed, program_text};
 ghost use Rattle.rules.specs.Words.{Input, input_of};
-ghost use Rattle.words.specs.Stretches.{Wrote};
-ghost use Rattle.gate_text.specs.Reading.{accepted, decoded, word_count};
+ghost use Rattle.text_writer.specs.Appending.{Room, Appended};
+ghost use Rattle.gate_text.specs.Reading.{accepted};
 ghost use Rattle.gate_text.specs.Shown.{Shown};
 
 use rules::Answer;
-
-// What the bytes are: so many words, or nothing that can be run.
-#[derive(Clone, Copy)]
-enum Decoded {
-    Read(usize),
-    Unreadable,
-}
+use text_writer::Text;
 
 // ---- reading
 
@@ -32,10 +27,8 @@ fn read_words(bytes: &[u8], words: &mut [u32]) -> usize
         × (words_of bytes.now ≡ some (take result words.new)) }
 {
     let count = bytes.len() / 4;
-    let mut i = 0;
-    while i < count {
+    for i in 0..count {
         words[i] = words::word_at(bytes, 4 * i);
-        i += 1;
     }
     count
 }
@@ -52,128 +45,121 @@ fn lengths_agree(words: &[u32], count: usize) -> bool
     count == 4 + labels + system + actions + formula
 }
 
-// The words of the bytes go to the front of `words`, unless the program refuses them.
-fn decode(bytes: &[u8], words: &mut [u32]) -> Decoded
+// The words of the bytes go to the front of `words`: so many, or none where the program refuses the bytes.
+fn decode(bytes: &[u8], words: &mut [u32]) -> Option<usize>
     requires { 2048 ≤ length words.old }
-    ensures { (decoded result words.new ≡ accepted bytes.now) × (word_count result ≤ 2048) }
+    ensures { MatchOption result (accepted bytes.now ≡ none)
+        (λ count. (accepted bytes.now ≡ some (take count words.new)) × (count ≤ 2048)) }
 {
     let size = bytes.len();
     if size % 4 != 0 {
-        return Decoded::Unreadable;
+        return None;
     }
     if 8192 < size {
-        return Decoded::Unreadable;
+        return None;
     }
     if size < 16 {
-        return Decoded::Unreadable;
+        return None;
     }
     let count = read_words(bytes, words);
-    let agree = lengths_agree(words, count);
-    if agree {
-        return Decoded::Read(count);
+    if lengths_agree(words, count) {
+        return Some(count);
     }
-    Decoded::Unreadable
+    None
 }
 
-// ---- a game's lines: each function appends to the text and answers the place past what it wrote
+// ---- a game's lines: each function appends to the text
 
 // A vertex's line: its number, owner, priority, targets.
-fn put_vertex(text: &mut [u8], start: usize, game: &[u32], vertex: usize) -> usize
+#[tactic(auto, using(text_writer::proofs::Lines::line_length, text_writer::proofs::Lines::spaced_length))]
+fn put_words(text: &mut Text<'_>, vertex: usize, owner: usize, priority: usize, targets: &[u32])
+    requires { Room text.old (line (decimal vertex) (owner ∷ priority ∷ targets.now)) }
+    ensures { Appended (line (decimal vertex) (owner ∷ priority ∷ targets.now)) text.old text.new }
+{
+    text.put_decimal(vertex);
+    text.put_number(owner);
+    text.put_number(priority);
+    text.put_numbers(targets);
+    text.put_byte(10);
+}
+
+// The same, of a game.
+fn put_vertex(text: &mut Text<'_>, game: &[u32], vertex: usize)
     requires shown { Shown game.now }
     requires vertex_bound { vertex < vertex_count game.now }
-    requires vertex_in_bounds { start + length (vertex_line game.now vertex) ≤ length text.old }
-    ensures { Wrote start (vertex_line game.now vertex) text.old text.new result }
+    requires room { Room text.old (vertex_line game.now vertex) }
+    ensures { Appended (vertex_line game.now vertex) text.old text.new }
 {
     let owner = parity_game::vertex_word(game, 0, vertex);
     let priority = parity_game::vertex_word(game, 1, vertex);
     let first = parity_game::edges_from(game, 0, vertex);
     let end = parity_game::edges_from(game, 0, vertex + 1);
-    let past_number = text_writer::put_decimal(text, start, vertex);
-    let past_owner = text_writer::put_number(text, past_number, owner);
-    let past_priority = text_writer::put_number(text, past_owner, priority);
-    let past_targets = text_writer::put_numbers(text, past_priority, game, first, end);
-    text_writer::put_byte(text, past_targets, 10)
+    put_words(text, vertex, owner, priority, &game[first..end]);
 }
 
 // The lines of all vertices.
-fn put_vertices(text: &mut [u8], start: usize, game: &[u32]) -> usize
+fn put_vertices(text: &mut Text<'_>, game: &[u32])
     requires shown { Shown game.now }
-    requires game_in_bounds { start + length (vertex_lines game.now 0 (vertex_count game.now)) ≤ length text.old }
-    ensures { Wrote start (vertex_lines game.now 0 (vertex_count game.now))
-        text.old text.new result }
+    requires room { Room text.old (vertex_lines game.now 0 (vertex_count game.now)) }
+    ensures { Appended (vertex_lines game.now 0 (vertex_count game.now)) text.old text.new }
 {
     let count = words::at(game, 0);
-    let mut vertex = 0;
-    let mut place = start;
-    while vertex < count {
-        place = put_vertex(text, place, game, vertex);
-        vertex += 1;
+    for vertex in 0..count {
+        put_vertex(text, game, vertex);
     }
-    place
 }
 
 // A first line and the game's lines.
-fn put_game(text: &mut [u8], name: &[u8], numbers: &[u32], game: &[u32]) -> usize
+fn put_game(text: &mut Text<'_>, name: &[u8], numbers: &[u32], game: &[u32])
     requires shown { Shown game.now }
-    requires game_in_bounds { length (line name.now numbers.now ++ vertex_lines game.now 0 (vertex_count game.now))
-        ≤ length text.old }
-    ensures { Wrote 0 (line name.now numbers.now
-        ++ vertex_lines game.now 0 (vertex_count game.now))
-        text.old text.new result }
+    requires room { Room text.old (line name.now numbers.now ++ vertex_lines game.now 0 (vertex_count game.now)) }
+    ensures { Appended (line name.now numbers.now ++ vertex_lines game.now 0 (vertex_count game.now))
+        text.old text.new }
 {
-    let past_line = text_writer::put_line(text, 0, name, numbers);
-    put_vertices(text, past_line, game)
+    text.put_line(name, numbers);
+    put_vertices(text, game);
 }
 
 // What is printed of a run: its answer, and the game that it left.
-fn print(answer: Answer, game: &[u32], text: &mut [u8]) -> usize
-    requires game_in_bounds { length (report answer game.now) ≤ length text.old }
+fn print(answer: Answer, game: &[u32], text: &mut Text<'_>)
+    requires room { Room text.old (report answer game.now) }
     requires shown { Accepted answer → Shown game.now }
-    ensures { Wrote 0 (report answer game.now) text.old text.new result }
+    ensures { Appended (report answer game.now) text.old text.new }
 {
     match answer {
         Answer::Done(steps, vertices, edges) => {
-            put_game(text, b"done", &[steps, vertices, edges], game)
+            put_game(text, b"done", &[steps, vertices, edges], game);
         }
         Answer::Cut(steps, vertices, edges) => {
-            put_game(text, b"cut", &[steps, vertices, edges], game)
+            put_game(text, b"cut", &[steps, vertices, edges], game);
         }
-        Answer::Refused(number, place) => text_writer::put_line(
-            text,
-            0,
-            b"refused",
-            &[number, place],
-        ),
+        Answer::Refused(number, place) => text.put_line(b"refused", &[number, place]),
     }
 }
 
 // ---- the whole program
 
 // A run in room for 512 vertices and 1,024 edges, of at most 512 steps, and what is printed of it.
-fn run_input(
-    labels: &[u32],
-    system: &[u32],
-    actions: &[u32],
-    formula: &[u32],
-    text: &mut [u8],
-) -> usize
-    requires { gate_text_length ≤ length text.old }
+fn run_input(labels: &[u32], system: &[u32], actions: &[u32], formula: &[u32], text: &mut Text<'_>)
+    requires { let x = input_of labels.now system.now actions.now formula.now in
+        Room text.old (reported (gate_run x)) }
     ensures { let x = input_of labels.now system.now actions.now formula.now in
-        Wrote 0 (reported (gate_run x)) text.old text.new result }
+        Appended (reported (gate_run x)) text.old text.new }
 {
     let mut game = [0u32; 3588];
     let mut work = [0u32; 6144];
     let answer = translate::translate(
         labels, system, actions, formula, 512, 1024, 512, &mut game, &mut work,
     );
-    print(answer, &game, text)
+    print(answer, &game, text);
 }
 
 // The run of the words: four lengths, then the four slices, one after the other.
-fn run_words(ws: &[u32], text: &mut [u8]) -> usize
-    requires { (disagree ws.now ≡ false) × (gate_text_length ≤ length text.old) }
-    ensures { Wrote 0 (reported (gate_run (slices_of ws.now)))
-        text.old text.new result }
+#[tactic(auto, using(crate::proofs::Programs::four_words, crate::proofs::Programs::all_words))]
+fn run_words(ws: &[u32], text: &mut Text<'_>)
+    requires agree { disagree ws.now ≡ false }
+    requires room { Room text.old (reported (gate_run (slices_of ws.now))) }
+    ensures { Appended (reported (gate_run (slices_of ws.now))) text.old text.new }
 {
     let labels_end = 4 + words::at(ws, 0);
     let system_end = labels_end + words::at(ws, 1);
@@ -184,19 +170,18 @@ fn run_words(ws: &[u32], text: &mut [u8]) -> usize
         &ws[system_end..actions_end],
         &ws[actions_end..],
         text,
-    )
+    );
 }
 
-// What the program writes, of what it reads, goes to the front of the text slice. Answers how many bytes were written.
-fn put_program(bytes: &[u8], text: &mut [u8]) -> usize
-    requires { gate_text_length ≤ length text.old }
-    ensures { Wrote 0 (printed bytes.now) text.old text.new result }
+// What the program writes, of what it reads.
+fn put_program(bytes: &[u8], text: &mut Text<'_>)
+    requires { Room text.old (printed bytes.now) }
+    ensures { Appended (printed bytes.now) text.old text.new }
 {
     let mut ws = [0u32; 2048];
-    let read = decode(bytes, &mut ws);
-    match read {
-        Decoded::Read(count) => run_words(&ws[..count], text),
-        Decoded::Unreadable => text_writer::put_line(text, 0, b"refused", &[2, 0]),
+    match decode(bytes, &mut ws) {
+        Some(count) => run_words(&ws[..count], text),
+        None => text.put_line(b"refused", &[2, 0]),
     }
 }
 
@@ -209,8 +194,9 @@ pub fn gate(bytes: &[u8], text: &mut [u8]) -> Answer
     if text.len() < 16384 {
         return Answer::Refused(2, 0);
     }
-    let size = put_program(bytes, text);
-    text_writer::finish(text, size)
+    let mut written = Text::new(text);
+    put_program(bytes, &mut written);
+    written.finish()
 }
 
 // The thin program reads so many bytes of its input: one more than the largest input has, so that a longer one is

@@ -16,25 +16,6 @@ ghost use Rattle.rules.specs.PgsolverReading.{Readback, read_game};
 ghost use Rattle.rules.specs.PgsolverCalls.{WritingDemand, ReadingDemand};
 ghost use Rattle.satisfaction.specs.Claims.{NoFalsePass};
 
-use rules::Answer;
-
-// The four words of an answer.
-fn put_answer(res: Answer, answer: &mut [u32; 4])
-    ensures { answer.new ≡ said res }
-{
-    match res {
-        Answer::Done(steps, vertices, edges) => {
-            *answer = [0, steps, vertices, edges];
-        }
-        Answer::Cut(steps, vertices, edges) => {
-            *answer = [1, steps, vertices, edges];
-        }
-        Answer::Refused(number, place) => {
-            *answer = [2, number, place, 0];
-        }
-    }
-}
-
 // The run: see `translate` of the crate translate, whose contract this is of the answer that the lent words say.
 #[unsafe(no_mangle)]
 pub extern "C" fn hingrezh_translate(
@@ -66,7 +47,7 @@ pub extern "C" fn hingrezh_translate(
     let result = translate::translate(
         labels, system, actions, formula, vertices, edges, limit, game, work,
     );
-    put_answer(result, answer);
+    *answer = result.into();
 }
 
 // The restriction: see `compute_reachable` of the crate reachability, whose contract this is of the answer that the
@@ -91,7 +72,7 @@ pub extern "C" fn hingrezh_compute_reachable(
         out.new map.new work.new) }
 {
     let result = reachability::compute_reachable(game, out, map, work);
-    put_answer(result, answer);
+    *answer = result.into();
 }
 
 // A game as PGSolver text: see `write_pgsolver` of the crate pgsolver_writer, whose contract this is of the answer that
@@ -105,7 +86,7 @@ pub extern "C" fn hingrezh_write_pgsolver(game: &[u32], text: &mut [u8], answer:
         WritingDemand game.now text.old a text.new) }
 {
     let result = pgsolver_writer::write_pgsolver(game, text);
-    put_answer(result, answer);
+    *answer = result.into();
 }
 
 // A game from PGSolver text: see `read_pgsolver` of the crate pgsolver_reader, whose contract this is of the answer that
@@ -127,5 +108,5 @@ pub extern "C" fn hingrezh_read_pgsolver(
         ReadingDemand (room_of vertices edges) text.now game.old a game.new) }
 {
     let result = pgsolver_reader::read_pgsolver(text, vertices, edges, game);
-    put_answer(result, answer);
+    *answer = result.into();
 }

@@ -1,6 +1,6 @@
 -- The checks of the words in the groups in which the code makes them. Assumes nothing: these are definitions.
 use Rattle.std.specs.Prelude.{ℕ, List, [], ◌∷◌, ◌++◌}
-use Rattle.rules.specs.declared.Check.{Check}
+use Rattle.rules.specs.Answers.{Check}
 use Rattle.rules.specs.Refusal.{refusal11, refusal12, refusal13, refusal21, refusal22, refusal23, refusal24, refusal25, refusal26, refusal31, refusal32, refusal33, refusal34, refusal41, refusal42, refusal43, refusal44, refusal45}
 use Rattle.rules.specs.Refusal.{names_no_tree}
 

@@ -2,67 +2,67 @@
 #![tactic(auto)]
 
 ghost use Rattle.std.specs.Prelude.{◌≡◌, ◌<◌, length};
+ghost use Rattle.std.specs.declared.result.Result.TheVariants.{Ok};
 ghost use Rattle.rules.specs.Words.{input_of};
 ghost use Rattle.rules.specs.Answers.{and_then, first_fault};
 ghost use Rattle.rules.specs.Refusal.{refusal1, refusal2, input_refusal, refusal};
 ghost use Rattle.inputs.specs.Groups.{formula_checks};
+ghost use Rattle.inputs.specs.Accepting.{checked};
 
-use rules::{Check, Room};
+use lent_input::Input;
+use rules::{Fault, Room};
 
 // 1: the room is out of range. 2: the game slice or the work slice, of these lengths, is not as long as the room asks.
-fn check_room(room: Room, game_len: usize, work_len: usize) -> Check
+#[tactic(auto, unfolding(rules::specs::Answers::and_then, rules::specs::Answers::fault_if, rules::specs::Refusal::differ, rules::specs::Refusal::refusal2, rules::specs::Words::game_length, rules::specs::Words::work_length))]
+fn check_room(room: Room, game_len: usize, work_len: usize) -> Result<(), Fault>
     ensures { result ≡ and_then (refusal1 room) (refusal2 room game_len work_len) }
 {
-    let ranged = parity_game::check_room(room);
-    match ranged {
-        Check::Fault(number, place) => Check::Fault(number, place),
-        Check::Passed => {
-            let vertices = room.vertices as usize;
-            let edges = room.edges as usize;
-            if game_len != parity_game::game_words(vertices, edges) {
-                return Check::Fault(2, 0);
-            }
-            if work_len != 8 * vertices + 2 * edges {
-                return Check::Fault(2, 0);
-            }
-            Check::Passed
-        }
+    parity_game::check_room(room)?;
+    let vertices = room.vertices as usize;
+    let edges = room.edges as usize;
+    if game_len != parity_game::game_words(vertices, edges)
+        || work_len != 8 * vertices + 2 * edges
+    {
+        return Err(Fault {
+            number: 2,
+            place: 0,
+        });
     }
+    Ok(())
 }
 
 // 31 to 45: the action formulas, then the formula.
-fn check_formulas(labels: &[u32], actions: &[u32], formula: &[u32]) -> Check
+#[tactic(auto, unfolding(rules::specs::Answers::first_fault, rules::specs::Answers::and_then))]
+fn check_formulas(labels: &[u32], actions: &[u32], formula: &[u32]) -> Result<(), Fault>
     requires { 0 < length labels.now }
     ensures { result
         ≡ first_fault (formula_checks labels.now actions.now formula.now) }
 {
-    let checked = action_words::check_actions(labels, actions);
-    match checked {
-        Check::Fault(number, place) => Check::Fault(number, place),
-        Check::Passed => formula_words::check_formula(actions, formula),
-    }
+    action_words::check_actions(labels, actions)?;
+    formula_words::check_formula(actions, formula)
 }
 
 // 11 to 45: the labels, the system and the formulas.
-fn check_words(labels: &[u32], system: &[u32], actions: &[u32], formula: &[u32]) -> Check
+#[tactic(auto, unfolding(rules::specs::Refusal::input_refusal, rules::specs::Answers::first_fault, rules::specs::Answers::and_then))]
+fn check_words(
+    labels: &[u32],
+    system: &[u32],
+    actions: &[u32],
+    formula: &[u32],
+) -> Result<(), Fault>
     ensures { result ≡ input_refusal
         (input_of labels.now system.now actions.now formula.now) }
 {
-    let first = label_words::check_labels(labels);
-    match first {
-        Check::Fault(number, place) => Check::Fault(number, place),
-        Check::Passed => {
-            let second = system_words::check_system(labels, system);
-            match second {
-                Check::Fault(number, place) => Check::Fault(number, place),
-                Check::Passed => check_formulas(labels, actions, formula),
-            }
-        }
-    }
+    label_words::check_labels(labels)?;
+    system_words::check_system(labels, system)?;
+    check_formulas(labels, actions, formula)
 }
 
 // All that is checked before a run begins: the room with the lengths of the game slice and the work slice, then the
 // words.
+// Kept (no plainer): the four slices are parameters here, since an `Input` of them is made only once they passed; a
+// struct of the same four fields without its invariant would be taken apart by each of the calls below.
+#[tactic(auto, unfolding(rules::specs::Refusal::refusal, rules::specs::Answers::first_fault, rules::specs::Answers::and_then))]
 pub fn check(
     labels: &[u32],
     system: &[u32],
@@ -71,14 +71,37 @@ pub fn check(
     room: Room,
     game_len: usize,
     work_len: usize,
-) -> Check
+) -> Result<(), Fault>
     ensures { result ≡ refusal
         (input_of labels.now system.now actions.now formula.now)
         room game_len work_len }
 {
-    let checked = check_room(room, game_len, work_len);
-    match checked {
-        Check::Fault(number, place) => Check::Fault(number, place),
-        Check::Passed => check_words(labels, system, actions, formula),
-    }
+    check_room(room, game_len, work_len)?;
+    check_words(labels, system, actions, formula)
+}
+
+// The words that passed all of these checks, as an input of which the checks are known.
+pub fn accept<'a>(
+    labels: &'a [u32],
+    system: &'a [u32],
+    actions: &'a [u32],
+    formula: &'a [u32],
+    room: Room,
+    game_len: usize,
+    work_len: usize,
+) -> Result<Input<'a>, Fault>
+    ensures checked { checked result ≡ refusal
+        (input_of labels.entry.now system.entry.now actions.entry.now formula.entry.now)
+        room game_len work_len }
+    ensures same { (input : Input) → result ≡ Ok input
+        → (input.labels.now ≡ labels.entry.now) × (input.system.now ≡ system.entry.now)
+        × (input.actions.now ≡ actions.entry.now) × (input.formula.now ≡ formula.entry.now) }
+{
+    check(labels, system, actions, formula, room, game_len, work_len)?;
+    Ok(Input {
+        labels,
+        system,
+        actions,
+        formula,
+    })
 }

@@ -18,17 +18,17 @@ use Rattle.rules.specs.Items.{Item, items, item_number}
 use Rattle.rules.specs.Pairs.{item_at, priority}
 use Rattle.tables.specs.Good.{GoodInput}
 use Rattle.trees.proofs.Equations.{equation_node, body_below, fixpoint_body}
-use Rattle.trees.proofs.Readings.{least_bit_most}
-use Rattle.compiled.specs.Stretches.{word_count, kinds_in, lefts_in, rights_in}
-use Rattle.compiled.proofs.Laws.{stretch-length}
+use Rattle.compiled.specs.declared.Compiled.{Compiled}
+use Rattle.compiled.specs.Tables.{kinds_in, lefts_in, rights_in}
 use Rattle.arena.specs.Arena.{BodyNode}
 use Rattle.arena.proofs.ItemNumbers.{items_few, item_equation, item_subformula, item_below, item_past, item_carried, first_body}
 use Rattle.arena.proofs.Priorities.{equation_priority, other_priority}
+use Rattle.modal_equation_system.specs.declared.EquationTable.{EquationTable}
 use Rattle.modal_equation_system.specs.System.{formula_only, body_in, least_in, Listed, RankedBy}
 use Rattle.alike_nodes.specs.Nodes.{Last, Later, EquationNumbers, FormulaShown}
 use Rattle.alike_nodes.proofs.Showing.{formula_shown_map}
 use Rattle.item_table.specs.Entries.{operator_kind, ActionAt, ItemShown, ShownAt, ItemTable, Ranks, ItemNumbers, FirstShown}
-use Rattle.item_table.specs.Entries.{ShownIn, PrioritiesOnly}
+use Rattle.item_table.specs.Entries.{ShownIn, KindsRoom, ItemsOnly, PrioritiesOnly}
 use Rattle.item_table.proofs.Numbers.{zeros-word, first_most}
 
 -- ---- one entry is written
@@ -60,7 +60,7 @@ module _ (x : Input) (good : GoodInput x) where
   pub first-none : (kinds lefts rights : List ℕ) → FirstShown x 0 kinds lefts rights
   first-none kinds lefts rights = record { shown = λ q h. absurd (omega arith) }
 
-  module _ (table numbers : List ℕ) (listed : Listed x.formula table) (known : ItemNumbers x numbers) (i : ℕ) (h : i < equation_count x.formula) where
+  module _ (table : EquationTable) (numbers : List ℕ) (listed : Listed x.formula table) (known : ItemNumbers x numbers) (i : ℕ) (h : i < equation_count x.formula) where
     -- the body of an equation is a body node
     body_node : BodyNode x.formula (equation_of x.formula i).body
     body_node = (inside (equation_node x.formula i h), body_below (size x.actions) x.formula good.formula i h)
@@ -78,9 +78,6 @@ module _ (x : Input) (good : GoodInput x) where
 
     pub body_small : (w : ℕ) → w ≡ body_in table i → w < 1_024
     body_small w e = let (p, q) = body_node in omega (arith, listed.body i h, good.formula.few)
-
-    pub operator_bit : least_in table i ≤ 1
-    operator_bit = omega (arith, least_bit_most (equation_of x.formula i).operator, listed.operator i h)
 
     equation_shown : (w o : ℕ) → w ≡ body_in table i → o ≡ least_in table i → ItemShown x (item_at x i) (7 - o) (word numbers w) 0
     unfolding body_tree
@@ -171,8 +168,8 @@ module _ (x : Input) (good : GoodInput x) where
   -- ---- priorities, and the whole table
 
   -- the links of the fixpoints stand at the front of the table
-  pub listed_numbers : (table : List ℕ) → Listed x.formula table → EquationNumbers x.formula table
-  listed_numbers table l = record { room = omega (arith, l.long, good.formula.few); number = λ v h p q. (l.link v h).own p q }
+  pub listed_numbers : (table : EquationTable) → length table.links ≡ 1_024 → Listed x.formula table → EquationNumbers x.formula table.links
+  listed_numbers table long l = record { room = omega (arith, good.formula.few); number = λ v h p q. (l.link v h).own p q }
 
   -- by a ranking that looks at the formula alone: the ranks of the equations, and 0 past them
   pub ranks_made : (rank : Ranking) → ((i : ℕ) → rank (formula_only x.formula) i ≡ rank x i)
@@ -200,22 +197,31 @@ module _ (x : Input) (good : GoodInput x) where
         entry = s.shown;
       }
 
-pub ranked_between : (rank : Ranking) (f : List ℕ) (n : ℕ) (before before' after after' : List ℕ)
-    → before ≡ before'
-    → after' ≡ after
-    → RankedBy rank f n before after
-    → RankedBy rank f n before' after'
-ranked_between rank f n before before' after after' e d r = rw d (subst (λ (l : List ℕ). RankedBy rank f n l after) e r)
-
 -- the table of items stays where only priorities are written
-pub table_kept : (x : Input) (good : GoodInput x) (t u : List ℕ) → length t ≡ word_count
+pub table_kept : (x : Input) (good : GoodInput x) (t u : Compiled)
+    → KindsRoom t
     → ShownIn x (length (items x)) t
     → PrioritiesOnly t u
     → ItemTable x (kinds_in u) (lefts_in u) (rights_in u)
-table_kept x good t u e s p =
+table_kept x good t u k s p =
+    let r = p.rooms in
     rw (p.kinds, p.lefts, p.rights)
     (table_made x good (kinds_in t) (lefts_in t) (rights_in t)
-    (omega (arith, stretch-length 0 2048 t (omega arith)))
-    (omega (arith, stretch-length 2048 2048 t (omega arith)))
-    (omega (arith, stretch-length 4096 2048 t (omega arith)))
+    (omega (arith, k))
+    (omega (arith, r.lefts, ap length p.lefts))
+    (omega (arith, r.rights, ap length p.rights))
     s)
+
+-- ---- what was written
+
+pub only_none : (t : Compiled) → ItemsOnly t t
+only_none t = record { sized = refl; classes = refl; samples = refl; multiples = refl }
+
+pub only_more : (t u v : Compiled) → ItemsOnly t u → ItemsOnly u v → ItemsOnly t v
+only_more t u v a b =
+    record {
+      sized = b.sized ∙ a.sized;
+      classes = b.classes ∙ a.classes;
+      samples = b.samples ∙ a.samples;
+      multiples = b.multiples ∙ a.multiples;
+    }

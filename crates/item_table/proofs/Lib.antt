@@ -1,4 +1,4 @@
 pub mod Steps
 pub mod Numbers
 pub mod Filling
-pub mod Parts
+pub mod Sources

@@ -22,7 +22,7 @@ use Rattle.arena.specs.Arena.{BodyNode, subformulas_before}
 use Rattle.arena.proofs.ItemNumbers.{items_count, items_few, item_past}
 use Rattle.arena.proofs.Numbering.{before_none, before_all, before_in, before_begins, before_old, before_new, number_new, length_new}
 use Rattle.alike_nodes.specs.Nodes.{Last, Numbered}
-use Rattle.alike_nodes.proofs.Showing.{last_one}
+use Rattle.alike_nodes.specs.Laws.{last_one}
 use Rattle.item_table.specs.Entries.{ItemNumbers, NodeNumbered}
 
 -- ---- the first body node

@@ -2,10 +2,9 @@
 -- kind that code tests; its priority. Assumes nothing.
 use mathlib.Core.Path.{◌≡◌, refl, sym, ap, ap₂}
 use mathlib.Core.List.{List, [], ◌∷◌, map}
-use Prim.Native.Nat.{ℕ, zero, suc, ◌≤◌, ◌<◌, ◌%◌}
+use Prim.Native.Nat.{ℕ, ◌≤◌, ◌<◌}
 use native.Mathlib.Omega.{arith}
 use lib.ListN.{length}
-use Rattle.player.specs.declared.Player.TheVariants.{Even, Odd}
 use Rattle.rules.specs.Lists.{word}
 use Rattle.rules.specs.Words.{Input}
 use Rattle.rules.specs.Table.{size}
@@ -30,33 +29,6 @@ operator-owner : (o : Operator) (k : ℕ) → k ≡ operator_kind o → operator
 unfolding operator_owner kind_owner
 operator-owner least k e = rw e refl
 operator-owner greatest k e = rw e refl
-
--- the same by the last bit of the kind
-pub even_kind : (k : ℕ) → k % 2 ≡ 0 → kind_owner k ≡ Odd
-unfolding kind_owner
-even_kind zero h = refl
-even_kind (suc zero) h = absurd (omega arith)
-even_kind (suc (suc zero)) h = refl
-even_kind (suc (suc (suc zero))) h = absurd (omega arith)
-even_kind (suc (suc (suc (suc zero)))) h = refl
-even_kind (suc (suc (suc (suc (suc zero))))) h = absurd (omega arith)
-even_kind (suc (suc (suc (suc (suc (suc zero)))))) h = refl
-even_kind (suc (suc (suc (suc (suc (suc (suc zero))))))) h = absurd (omega arith)
-even_kind (suc (suc (suc (suc (suc (suc (suc (suc zero)))))))) h = refl
-even_kind (suc (suc (suc (suc (suc (suc (suc (suc (suc k))))))))) h = refl
-
-pub odd_kind : (k : ℕ) → k ≤ 8 → k % 2 ≡ 1 → kind_owner k ≡ Even
-unfolding kind_owner
-odd_kind zero b h = absurd (omega arith)
-odd_kind (suc zero) b h = refl
-odd_kind (suc (suc zero)) b h = absurd (omega arith)
-odd_kind (suc (suc (suc zero))) b h = refl
-odd_kind (suc (suc (suc (suc zero)))) b h = absurd (omega arith)
-odd_kind (suc (suc (suc (suc (suc zero))))) b h = refl
-odd_kind (suc (suc (suc (suc (suc (suc zero)))))) b h = absurd (omega arith)
-odd_kind (suc (suc (suc (suc (suc (suc (suc zero))))))) b h = refl
-odd_kind (suc (suc (suc (suc (suc (suc (suc (suc zero)))))))) b h = absurd (omega arith)
-odd_kind (suc (suc (suc (suc (suc (suc (suc (suc (suc k))))))))) b h = absurd (omega arith)
 
 -- ---- by items
 

@@ -1,6 +1,6 @@
 -- The table of items: for each item number three words that show the item; and the table of their priorities. A run
 -- reads nothing else of the formula, a step only the first. Assumes nothing: these are definitions.
-use Rattle.std.specs.Prelude.{◌≡◌, ◌⊎◌, List, [], ◌∷◌, ℕ, ◌+◌, ◌≤◌, ◌<◌, length, get_or, set, drop}
+use Rattle.std.specs.Prelude.{◌≡◌, ◌⊎◌, List, [], ◌∷◌, ℕ, ◌+◌, ◌≤◌, ◌<◌, length, get_or, set}
 use Rattle.player.specs.declared.Player.{Player}
 use Rattle.player.specs.declared.Player.TheVariants.{Even, Odd}
 use Rattle.rules.specs.Lists.{word}
@@ -11,9 +11,11 @@ use Rattle.rules.specs.Formula.{Operator, least, greatest, formula_tree, body_tr
 use Rattle.rules.specs.Depth.{Ranking}
 use Rattle.rules.specs.Items.{Item, equation, subformula, items, item_number}
 use Rattle.rules.specs.Pairs.{item_at, priority}
-use Rattle.compiled.specs.Stretches.{kinds_in, lefts_in, rights_in}
-use Rattle.alike_nodes.specs.declared.Shape.{Shape}
+use Rattle.node_kinds.specs.Codes.{formula_code}
+use Rattle.compiled.specs.declared.Compiled.{Compiled}
+use Rattle.compiled.specs.Tables.{kinds_in, lefts_in, rights_in, priorities_in, classes_in, samples_in, multiples_in}
 use Rattle.alike_nodes.specs.Nodes.{FormulaShown}
+use Rattle.item_table.specs.declared.ItemWords.{ItemWords}
 
 -- "6 least, 7 greatest"
 abbrev pub operator_kind : Operator → ℕ
@@ -73,27 +75,42 @@ NodeNumbered before after node class next result =
 pub record FirstShown (x : Input) (n : ℕ) (kinds lefts rights : List ℕ) : Type 0 where
   pub shown : (q : ℕ) → q < n → ShownAt x kinds lefts rights q
 
--- ---- in the array of what a run compiles
+-- ---- in what a run compiles
 
--- the words of the first n items, in their stretches, show them
-abbrev pub ShownIn : Input → (n : ℕ) → List ℕ → Type 0
-ShownIn x n t = FirstShown x n (kinds_in t) (lefts_in t) (rights_in t)
+-- the words of the first n items show them
+abbrev pub ShownIn : Input → (n : ℕ) → Compiled → Type 0
+ShownIn x n c = FirstShown x n (kinds_in c) (lefts_in c) (rights_in c)
 
--- only the words of the items, with their priorities, were written: what stands behind them stayed
-pub record ItemsOnly (before after : List ℕ) : Type 0 where
-  pub sized : length after ≡ length before
-  pub behind : drop 8_192 after ≡ drop 8_192 before
+-- only the tables of the items, with their priorities, were written: the others stayed
+pub record ItemsOnly (before after : Compiled) : Type 0 where
+  pub sized : length (kinds_in after) ≡ length (kinds_in before)
+  pub classes : classes_in after ≡ classes_in before
+  pub samples : samples_in after ≡ samples_in before
+  pub multiples : multiples_in after ≡ multiples_in before
+
+-- each item has a kind
+abbrev pub KindsRoom : Compiled → Type 0
+KindsRoom c = length (kinds_in c) ≡ 2_048
+
+-- and a word in each other table
+pub record Rooms (c : Compiled) : Type 0 where
+  pub lefts : length (lefts_in c) ≡ 2_048
+  pub rights : length (rights_in c) ≡ 2_048
+  pub priorities : length (priorities_in c) ≡ 2_048
 
 -- the words that show item q were put
-pub record EntryPut (before after : List ℕ) (q : ℕ) (s : Shape) : Type 0 where
-  pub kinds : kinds_in after ≡ set (kinds_in before) q s.kind
-  pub lefts : lefts_in after ≡ set (lefts_in before) q s.left
-  pub rights : rights_in after ≡ set (rights_in before) q s.right
+pub record EntryPut (before after : Compiled) (q : ℕ) (w : ItemWords) : Type 0 where
+  pub kinds : kinds_in after ≡ set (kinds_in before) q (formula_code w.kind)
+  pub lefts : lefts_in after ≡ set (lefts_in before) q w.left
+  pub rights : rights_in after ≡ set (rights_in before) q w.right
+  pub kinds_room : KindsRoom before
+  pub rooms : Rooms before
   pub only : ItemsOnly before after
 
 -- only the priorities were written
-pub record PrioritiesOnly (before after : List ℕ) : Type 0 where
+pub record PrioritiesOnly (before after : Compiled) : Type 0 where
   pub kinds : kinds_in after ≡ kinds_in before
   pub lefts : lefts_in after ≡ lefts_in before
   pub rights : rights_in after ≡ rights_in before
+  pub rooms : Rooms after
   pub only : ItemsOnly before after

@@ -1,25 +1,26 @@
 // The formula compiled once into a table of items, which the steps of a run read.
 #![tactic(auto)]
 
-ghost use Rattle.std.specs.Prelude.{◌≡◌, ◌≤◌, ◌<◌, length};
-ghost use Rattle.rules.specs.Lists.{zeros};
-ghost use Rattle.rules.specs.Words.{most_nodes, Input, input_of};
+ghost use Rattle.std.specs.Prelude.{◌≡◌, ◌-◌, ◌≤◌, ◌<◌, length};
+ghost use Rattle.rules.specs.Lists.{one, zeros};
+ghost use Rattle.rules.specs.Words.{most_nodes};
 ghost use Rattle.rules.specs.Formula.{equation_count, first_body_node};
 ghost use Rattle.rules.specs.Depth.{by_depth};
 ghost use Rattle.rules.specs.Items.{items};
-ghost use Rattle.tables.specs.Good.{GoodInput};
 ghost use Rattle.labels.specs.Classes.{Classes};
-ghost use Rattle.compiled.specs.Stretches.{word_count, kinds_in, lefts_in, rights_in, priorities_in, classes_in};
-ghost use Rattle.modal_equation_system.specs.System.{Good, Listed, RankedBy};
-ghost use Rattle.alike_nodes.specs.Nodes.{ActionNumbers, FormulaNumbers, EquationNumbers};
+ghost use Rattle.lent_input.specs.Inputs.{input_in};
+ghost use Rattle.node_kinds.specs.Codes.{formula_code};
+ghost use Rattle.compiled.specs.Tables.{kinds_in, lefts_in, rights_in, priorities_in, classes_in};
+ghost use Rattle.modal_equation_system.specs.System.{Good, RankedBy};
+ghost use Rattle.alike_nodes.specs.Nodes.{ActionNumbers, FormulaNumbers};
 ghost use Rattle.item_table.specs.Entries.{ItemTable, Ranks, ItemNumbers, NodeNumbered};
-ghost use Rattle.item_table.specs.Entries.{ShownIn, EntryPut, ItemsOnly, PrioritiesOnly};
+ghost use Rattle.item_table.specs.Entries.{ShownIn, KindsRoom, EntryPut, ItemsOnly, PrioritiesOnly};
 
-use alike_nodes::{SHAPES, Shape, formula_shape, number_actions, number_formula};
-use compiled::{CLASSES, Compiled, KINDS, LEFTS, PRIORITIES, RIGHTS};
-use modal_equation_system::{
-    EquationTable, TABLE, body_of, fixpoints_at, list_equations, list_priorities, operator_of,
-};
+use alike_nodes::{ActionNodes, FormulaNodes, Shape, number_nodes};
+use compiled::Compiled;
+use lent_input::Input;
+use modal_equation_system::{EquationTable, Equations, is_fixpoint_at};
+use node_kinds::FormulaKind;
 use words::{NODES, at, clear};
 
 // ---- numbers
@@ -29,11 +30,12 @@ fn first_body_node(formula: &[u32]) -> usize
     requires { Good formula.now }
     ensures { result ≡ first_body_node formula.now }
 {
-    fixpoints_at(formula, 0)
+    usize::from(is_fixpoint_at(formula, 0))
 }
 
 // A node gets the number of its class, or the next one if its class has none (0) yet. Returns the number after those
 // given.
+// Kept (no plainer): 0 stands for no number, since item 0 is an equation, and the table is read as numbers.
 fn number_node(numbers: &mut [u32], node: usize, class: usize, next: usize) -> usize
     requires { (node < length numbers.old) × (class < length numbers.old) × (next ≤ 2048) }
     ensures { NodeNumbered numbers.old numbers.new node class next result }
@@ -48,233 +50,186 @@ fn number_node(numbers: &mut [u32], node: usize, class: usize, next: usize) -> u
     next + 1
 }
 
-// Numbers the items: the equations come first, then the subformulas by the lowest node that carries them. The words of
-// `nodes` stand for the nodes' trees. Returns how many items there are.
-fn number_items(
-    labels: &[u32],
-    system: &[u32],
-    actions: &[u32],
-    formula: &[u32],
-    nodes: &[u32],
-    count: usize,
-    numbers: &mut [u32],
-) -> usize
-    requires good_input { let x = input_of labels.now system.now actions.now formula.now in
-        GoodInput x × FormulaNumbers x nodes.now }
-    requires count_value { let x = input_of labels.now system.now actions.now formula.now in
-        (count ≡ equation_count x.formula) × (most_nodes ≤ length numbers.old) }
-    ensures { let x = input_of labels.now system.now actions.now formula.now in
-        (result ≡ length (items x)) × ItemNumbers x numbers.new }
-{
-    clear(numbers);
-    let size = at(formula, 0);
-    let mut next = count;
-    let mut node = first_body_node(formula);
-    while node < size {
-        let class = at(nodes, node);
-        next = number_node(numbers, node, class, next);
-        node += 1;
-    }
-    next
-}
-
-// Numbers the nodes of the action formulas, those of the formula, and the items. Returns how many items there are.
-fn number_all(
-    labels: &[u32],
-    system: &[u32],
-    actions: &[u32],
-    formula: &[u32],
-    compiled: &Compiled,
-    equations: &[u32],
-    count: usize,
-    acts: &mut [u32],
-    numbers: &mut [u32],
-) -> usize
-    requires good_input { let x = input_of labels.now system.now actions.now formula.now in
-        GoodInput x × Classes x.labels (classes_in compiled.now) }
-    requires equation_numbers { let x = input_of labels.now system.now actions.now formula.now in
-        EquationNumbers x.formula equations.now × (count ≡ equation_count x.formula) }
-    requires most_nodes_in_bounds { (most_nodes ≤ length acts.old) × (most_nodes ≤ length numbers.old) }
-    ensures value { let x = input_of labels.now system.now actions.now formula.now in
-        (result ≡ length (items x)) × ItemNumbers x numbers.new }
-    ensures action_numbers { let x = input_of labels.now system.now actions.now formula.now in
-        ActionNumbers x acts.new }
-{
-    let mut shapes = [0u32; SHAPES];
-    let mut nodes = [0u32; NODES];
-    let classes = compiled::classes(compiled);
-    number_actions(labels, classes, actions, &mut shapes, acts);
-    number_formula(
-        labels,
-        system,
-        actions,
-        formula,
-        acts,
-        equations,
-        &mut shapes,
-        &mut nodes,
-    );
-    number_items(labels, system, actions, formula, &nodes, count, numbers)
-}
-
 // ---- the table
 
+// What an item's entry says of it.
+#[derive(Clone, Copy)]
+struct ItemWords {
+    kind: FormulaKind,
+    left: u32,
+    right: u32,
+}
+
 // Writes the words that show an item.
-fn put_entry(compiled: &mut Compiled, item: usize, shape: Shape)
+fn put_entry(compiled: &mut Compiled, item: usize, words: ItemWords)
     requires { item < 2048 }
-    ensures { EntryPut compiled.old compiled.new item shape }
+    ensures { EntryPut compiled.old compiled.new item words }
 {
-    compiled[KINDS + item] = shape.kind;
-    compiled[LEFTS + item] = shape.left;
-    compiled[RIGHTS + item] = shape.right;
+    compiled.kinds[item] = words.kind;
+    compiled.lefts[item] = words.left;
+    compiled.rights[item] = words.right;
 }
 
-// Puts the equations into the table: kind 6 for a least one, 7 for a greatest, with the item of its body at the left.
-fn put_equations(
-    labels: &[u32],
-    system: &[u32],
-    actions: &[u32],
-    formula: &[u32],
-    table: &EquationTable,
-    numbers: &[u32],
-    count: usize,
-    compiled: &mut Compiled,
-)
-    requires good_input { let x = input_of labels.now system.now actions.now formula.now in
-        GoodInput x × Listed x.formula table.now × ItemNumbers x numbers.now }
-    requires count_value { let x = input_of labels.now system.now actions.now formula.now in
-        (count ≡ equation_count x.formula) × (length compiled.old ≡ word_count) }
-    ensures { let x = input_of labels.now system.now actions.now formula.now in
-        ShownIn x count compiled.new
-        × ItemsOnly compiled.old compiled.new }
+// The kind of an equation.
+fn kind_of_equation(is_least: bool) -> FormulaKind
+    ensures { formula_code result ≡ 7 - one is_least }
 {
-    let mut equation: usize = 0;
-    while equation < count {
-        let body = body_of(table, equation);
-        let operator = operator_of(table, equation);
-        let shape = Shape {
-            kind: 7 - operator,
-            left: numbers[body],
-            right: 0,
-        };
-        put_entry(compiled, equation, shape);
-        equation += 1;
+    if is_least {
+        FormulaKind::Least
+    } else {
+        FormulaKind::Greatest
     }
-}
-
-// Puts the subformulas into the table, after the equations: each node writes the entry of its item.
-fn put_subformulas(
-    labels: &[u32],
-    system: &[u32],
-    actions: &[u32],
-    formula: &[u32],
-    acts: &[u32],
-    equations: &[u32],
-    numbers: &[u32],
-    compiled: &mut Compiled,
-)
-    requires good_input { let x = input_of labels.now system.now actions.now formula.now in
-        GoodInput x × ActionNumbers x acts.now }
-    requires equation_numbers { let x = input_of labels.now system.now actions.now formula.now in
-        EquationNumbers x.formula equations.now × ItemNumbers x numbers.now }
-    requires compiled_len { let x = input_of labels.now system.now actions.now formula.now in
-        (length compiled.old ≡ word_count) × ShownIn x (equation_count x.formula) compiled.old }
-    ensures { let x = input_of labels.now system.now actions.now formula.now in
-        ShownIn x (length (items x)) compiled.new
-        × ItemsOnly compiled.old compiled.new }
-{
-    let size = at(formula, 0);
-    let mut node = first_body_node(formula);
-    while node < size {
-        let item = at(numbers, node);
-        let shape = formula_shape(
-            labels, system, actions, formula, acts, equations, numbers, node,
-        );
-        put_entry(compiled, item, shape);
-        node += 1;
-    }
-}
-
-// Numbers the nodes and puts all items into the table, with `acts` and `numbers` to work in. Returns how many items
-// there are.
-fn make_items(
-    labels: &[u32],
-    system: &[u32],
-    actions: &[u32],
-    formula: &[u32],
-    table: &EquationTable,
-    count: usize,
-    acts: &mut [u32],
-    numbers: &mut [u32],
-    out: &mut Compiled,
-) -> usize
-    requires good_input { let x = input_of labels.now system.now actions.now formula.now in
-        GoodInput x × Classes x.labels (classes_in out.old) × (length out.old ≡ word_count) }
-    requires listed { let x = input_of labels.now system.now actions.now formula.now in
-        Listed x.formula table.now × (count ≡ equation_count x.formula) }
-    requires most_nodes_in_bounds { (most_nodes ≤ length acts.old) × (most_nodes ≤ length numbers.old) }
-    ensures value { let x = input_of labels.now system.now actions.now formula.now in
-        result ≡ length (items x) }
-    ensures shown_in { let x = input_of labels.now system.now actions.now formula.now in
-        ShownIn x (length (items x)) out.new }
-    ensures items_only { ItemsOnly out.old out.new }
-{
-    let items = number_all(
-        labels, system, actions, formula, out, table, count, acts, numbers,
-    );
-    put_equations(labels, system, actions, formula, table, numbers, count, out);
-    put_subformulas(labels, system, actions, formula, acts, table, numbers, out);
-    items
 }
 
 // Puts the priorities into the table: those of the equations, by depth, 0 elsewhere.
-fn put_priorities(formula: &[u32], table: &EquationTable, count: usize, compiled: &mut [u32])
-    requires listed { Listed formula.now table.now × (count ≡ equation_count formula.now) }
-    requires compiled_len { length compiled.old ≡ word_count }
-    ensures ranked_by { RankedBy by_depth formula.now count
+fn put_priorities(equations: &Equations<'_>, compiled: &mut Compiled)
+    ensures ranked_by { RankedBy by_depth equations.now.formula.now equations.now.count
         (zeros (priorities_in compiled.old)) (priorities_in compiled.new) }
     ensures priorities_only { PrioritiesOnly compiled.old compiled.new }
 {
-    clear(&mut compiled[PRIORITIES..CLASSES]);
-    list_priorities(formula, table, count, &mut compiled[PRIORITIES..CLASSES]);
+    clear(&mut compiled.priorities);
+    equations.list_priorities(&mut compiled.priorities);
 }
 
-// Compiles the formula: fills the tables of the items and of their priorities (by depth), and leaves what stands behind
-// them. The table of the labels' multisets is among that, and is read. Returns how many items there are.
-pub fn compile(
-    labels: &[u32],
-    system: &[u32],
-    actions: &[u32],
-    formula: &[u32],
-    compiled: &mut Compiled,
-) -> usize
-    requires good_input { let x = input_of labels.now system.now actions.now formula.now in
-        GoodInput x × Classes x.labels (classes_in compiled.old) }
-    requires compiled_len { length compiled.old ≡ word_count }
-    ensures value { let x = input_of labels.now system.now actions.now formula.now in
-        result ≡ length (items x) }
-    ensures item_table { let x = input_of labels.now system.now actions.now formula.now in
-        ItemTable x
+// ---- what the items are made from: an input, and the equations of its formula
+
+#[derive(Clone, Copy)]
+struct Source<'a> {
+    input: Input<'a>,
+    equations: Equations<'a>,
+    ghost same: { equations.formula.now ≡ input.formula.now },
+}
+
+impl<'a> Source<'a> {
+    // Numbers the items: the equations come first, then the subformulas by the lowest node that carries them. The words
+    // of `nodes` stand for the nodes' trees. Returns how many items there are.
+    fn number_items(&self, nodes: &[u32], numbers: &mut [u32]) -> usize
+        requires formula_numbers { FormulaNumbers (input_in self.now.input) nodes.now }
+        requires room { most_nodes ≤ length numbers.old }
+        ensures { let x = input_in self.now.input in
+            (result ≡ length (items x)) × ItemNumbers x numbers.new }
+    {
+        clear(numbers);
+        let formula = self.input.formula;
+        let mut next = self.equations.count;
+        for node in first_body_node(formula)..at(formula, 0) {
+            let class = at(nodes, node);
+            next = number_node(numbers, node, class, next);
+        }
+        next
+    }
+
+    // Numbers the nodes of the action formulas, those of the formula, and the items. Returns how many items there are.
+    fn number_all(&self, compiled: &Compiled, acts: &mut [u32], numbers: &mut [u32]) -> usize
+        requires classes { Classes self.now.input.labels.now (classes_in compiled.now) }
+        requires room { (most_nodes ≤ length acts.old) × (most_nodes ≤ length numbers.old) }
+        ensures value { let x = input_in self.now.input in
+            (result ≡ length (items x)) × ItemNumbers x numbers.new }
+        ensures action_numbers { ActionNumbers (input_in self.now.input) acts.new }
+    {
+        let mut shapes = [Shape::NONE; NODES];
+        let mut nodes = [0u32; NODES];
+        let action_nodes = ActionNodes {
+            labels: self.input.labels,
+            classes: compiled.classes(),
+            actions: self.input.actions,
+        };
+        number_nodes(&action_nodes, &mut shapes, acts);
+        let formula_nodes = FormulaNodes {
+            input: self.input,
+            acts,
+            equations: &self.equations.table.links,
+        };
+        number_nodes(&formula_nodes, &mut shapes, &mut nodes);
+        self.number_items(&nodes, numbers)
+    }
+
+    // Puts the equations into the table, least or greatest, with the item of its body at the left.
+    fn put_equations(&self, numbers: &[u32], compiled: &mut Compiled)
+        requires { ItemNumbers (input_in self.now.input) numbers.now }
+        ensures { ShownIn (input_in self.now.input) self.now.equations.count compiled.new
+            × ItemsOnly compiled.old compiled.new × KindsRoom compiled.new }
+    {
+        let table = self.equations.table;
+        for equation in 0..self.equations.count {
+            let body = table.body_of(equation);
+            let words = ItemWords {
+                kind: kind_of_equation(table.is_least(equation)),
+                left: numbers[body],
+                right: 0,
+            };
+            put_entry(compiled, equation, words);
+        }
+    }
+
+    // Puts the subformulas into the table, after the equations: each node writes the entry of its item.
+    fn put_subformulas(&self, acts: &[u32], numbers: &[u32], compiled: &mut Compiled)
+        requires action_numbers { ActionNumbers (input_in self.now.input) acts.now }
+        requires item_numbers { ItemNumbers (input_in self.now.input) numbers.now }
+        requires shown { let x = input_in self.now.input in
+            ShownIn x (equation_count x.formula) compiled.old }
+        ensures { let x = input_in self.now.input in
+            ShownIn x (length (items x)) compiled.new
+            × ItemsOnly compiled.old compiled.new }
+    {
+        let formula = self.input.formula;
+        let nodes = FormulaNodes {
+            input: self.input,
+            acts,
+            equations: &self.equations.table.links,
+        };
+        for node in first_body_node(formula)..at(formula, 0) {
+            let shape = nodes.shape_in_body(numbers, node);
+            let words = ItemWords {
+                kind: FormulaKind::of(shape.kind),
+                left: shape.left,
+                right: shape.right,
+            };
+            put_entry(compiled, at(numbers, node), words);
+        }
+    }
+
+    // Numbers the nodes and puts all items into the table, with `acts` and `numbers` to work in. Returns how many items
+    // there are.
+    fn make_items(&self, acts: &mut [u32], numbers: &mut [u32], out: &mut Compiled) -> usize
+        requires classes { Classes self.now.input.labels.now (classes_in out.old) }
+        requires room { (most_nodes ≤ length acts.old) × (most_nodes ≤ length numbers.old) }
+        ensures value { result ≡ length (items (input_in self.now.input)) }
+        ensures shown_in { let x = input_in self.now.input in ShownIn x (length (items x)) out.new }
+        ensures kinds_room { KindsRoom out.new }
+        ensures items_only { ItemsOnly out.old out.new }
+    {
+        let items = self.number_all(out, acts, numbers);
+        self.put_equations(numbers, out);
+        self.put_subformulas(acts, numbers, out);
+        items
+    }
+}
+
+// Compiles the formula: fills the tables of the items and of their priorities (by depth), and leaves the others. The
+// table of the labels' multisets is among these, and is read. Returns how many items there are.
+pub fn compile(input: &Input<'_>, compiled: &mut Compiled) -> usize
+    requires { Classes input.now.labels.now (classes_in compiled.old) }
+    ensures value { result ≡ length (items (input_in input.now)) }
+    ensures item_table { ItemTable (input_in input.now)
         (kinds_in compiled.new) (lefts_in compiled.new) (rights_in compiled.new) }
-    ensures ranks { let x = input_of labels.now system.now actions.now formula.now in
-        Ranks by_depth x (priorities_in compiled.new) }
+    ensures ranks { Ranks by_depth (input_in input.now) (priorities_in compiled.new) }
     ensures items_only { ItemsOnly compiled.old compiled.new }
 {
-    let mut table = [0u32; TABLE];
+    let mut table = EquationTable::blank();
     let mut acts = [0u32; NODES];
     let mut numbers = [0u32; NODES];
-    let count = list_equations(formula, &mut table);
-    let items = make_items(
-        labels,
-        system,
-        actions,
-        formula,
-        &table,
+    let count = table.list_equations(input.formula);
+    let equations = Equations {
+        formula: input.formula,
+        table: &table,
         count,
-        &mut acts,
-        &mut numbers,
-        compiled,
-    );
-    put_priorities(formula, &table, count, compiled);
+    };
+    let source = Source {
+        input: *input,
+        equations,
+    };
+    let items = source.make_items(&mut acts, &mut numbers, compiled);
+    put_priorities(&equations, compiled);
     items
 }

@@ -7,37 +7,25 @@ ghost use Rattle.rules.specs.Answers.{first_fault};
 ghost use Rattle.rules.specs.Labels.{action_count};
 ghost use Rattle.rules.specs.Refusal.{bad_label, refusal11, refusal12, refusal13};
 
-use rules::Check;
+use rules::Fault;
 
 // The label number at word `place` is L or more, or less than the one before it.
+#[tactic(auto, unfolding(rules::specs::Refusal::bad_label))]
 fn bad_label(labels: &[u32], place: usize) -> bool
     requires { (2 ≤ place) × (place < length labels.now) }
     ensures { result ≡ bad_label labels.now place }
 {
-    if labels[0] <= labels[place] {
-        return true;
-    }
-    if 2 < place {
-        labels[place] < labels[place - 1]
-    } else {
-        false
-    }
+    labels[0] <= labels[place] || 2 < place && labels[place] < labels[place - 1]
 }
 
 // 13: the label numbers, of words with the right length.
-fn check_numbers(labels: &[u32]) -> Check
+#[tactic(auto, unfolding(rules::specs::Refusal::refusal13))]
+fn check_numbers(labels: &[u32]) -> Result<(), Fault>
     requires { (length labels.now ≡ 2 + 2 * action_count labels.now) × (action_count labels.now ≤ most_actions) }
     ensures { result ≡ refusal13 labels.now }
 {
     let end = 2 + words::at(labels, 1);
-    let mut p = 2;
-    while p < end {
-        if bad_label(labels, p) {
-            return Check::Fault(13, p as u32);
-        }
-        p += 1;
-    }
-    Check::Passed
+    faults::first_fault(13, 2, end, |place| bad_label(labels, place))
 }
 
 // The most labels, and the most actions that they have together.
@@ -46,22 +34,22 @@ const MOST_LABELS: usize = 4_096;
 const MOST_ACTIONS: usize = 16_384;
 
 // 11, 12, 13: the label words.
-pub fn check_labels(labels: &[u32]) -> Check
+#[tactic(auto, unfolding(rules::specs::Answers::first_fault, rules::specs::Answers::and_then, rules::specs::Answers::fault_if, rules::specs::Refusal::differ, rules::specs::Refusal::refusal11, rules::specs::Refusal::refusal12))]
+pub fn check_labels(labels: &[u32]) -> Result<(), Fault>
     ensures { result ≡ first_fault (refusal11 labels.now ∷ refusal12 labels.now
         ∷ refusal13 labels.now ∷ []) }
 {
-    if labels.len() < 2 {
-        return Check::Fault(11, 0);
+    if labels.len() < 2 || labels.len() != 2 + 2 * words::at(labels, 1) {
+        return Err(Fault {
+            number: 11,
+            place: 0,
+        });
     }
-    let actions = words::at(labels, 1);
-    if labels.len() != 2 + 2 * actions {
-        return Check::Fault(11, 0);
-    }
-    if MOST_LABELS < words::at(labels, 0) {
-        return Check::Fault(12, 0);
-    }
-    if MOST_ACTIONS < actions {
-        return Check::Fault(12, 0);
+    if MOST_LABELS < words::at(labels, 0) || MOST_ACTIONS < words::at(labels, 1) {
+        return Err(Fault {
+            number: 12,
+            place: 0,
+        });
     }
     check_numbers(labels)
 }

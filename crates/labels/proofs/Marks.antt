@@ -7,12 +7,13 @@ use native.Mathlib.Decide.{ℕ_discrete}
 use native.Mathlib.Nat.{mod-lt}
 use native.Mathlib.Omega.{arith}
 use lib.Dec.{eqb}
-use lib.ListN.{length, set}
-use lib.Seq.{get_or-set_same, get_or-set_other}
+use lib.ListN.{length, set, take}
+use lib.Seq.{get_or-set_same, get_or-set_other, get_or-take, length-take-le}
 use borrow.Author.Tests.{eq-eqb, ne_eqb}
 use Rattle.rules.specs.Lists.{word, one, tally}
 use Rattle.rules.specs.Labels.{action_at, same_label}
 use Rattle.lists.proofs.Products.{wide, scaled_fits}
+use Rattle.lists.proofs.Tallies.{tally_cong}
 use Rattle.labels.specs.Stretches.{times_in}
 use Rattle.labels.specs.Marks.{stirred, weight, sum_over, weight_in, MarkOf, Marked}
 use Rattle.labels.proofs.Counts.{tally_next, tally_none}
@@ -82,6 +83,13 @@ module _ (ls starts marks : List ℕ) where
   marked_before l k h z u = rw (get_or-set_other {A = ℕ} marks l z k 0 (omega arith)) (h z (omega arith))
 
 -- ---- how many of the first marks are m
+
+-- the first marks by themselves
+pub marked_front : (marks : List ℕ) (m n : ℕ) → n ≤ length marks
+    → tally (λ i. eqb (word (take n marks) i) m) 0 (length (take n marks)) ≡ tally (λ i. eqb (word marks i) m) 0 n
+marked_front marks m n h =
+    ap (tally (λ i. eqb (word (take n marks) i) m) 0) (length-take-le n marks h)
+    ∙ tally_cong _ _ 0 n (λ i u v. ap (λ z. eqb z m) (get_or-take n marks i 0 (omega arith)))
 
 module _ (marks : List ℕ) (m : ℕ) where
   pub marked_none : 0 ≡ tally (λ i. eqb (word marks i) m) 0 0

@@ -2,7 +2,7 @@
 // which labels of one multiset share: only where marks are equal the actions are counted.
 #![tactic(auto)]
 
-ghost use Rattle.std.specs.Prelude.{◌≡◌, ◌+◌, ◌%◌, ◌^◌, ◌≤◌, ◌<◌, eqb, length};
+ghost use Rattle.std.specs.Prelude.{◌≡◌, ◌%◌, ◌^◌, ◌≤◌, ◌<◌, eqb, length};
 ghost use Rattle.rules.specs.Lists.{word, tally};
 ghost use Rattle.rules.specs.Labels.{label_count, action_count, label_at, action_at, same_label, multiset};
 ghost use Rattle.tables.specs.Good.{GoodLabels};
@@ -22,92 +22,109 @@ struct Places {
     to: usize,
 }
 
-// The label at a place.
-fn label_at(labels: &[u32], place: usize) -> u32
-    requires good_labels { GoodLabels labels.now }
-    requires place_bound { place < action_count labels.now }
-    ensures { result ≡ label_at labels.now place }
-{
-    labels[2 + place]
+// The words of the labels, which have passed the checks, lent.
+#[derive(Clone, Copy)]
+struct Labels<'a> {
+    words: &'a [u32],
+    ghost good: { GoodLabels words.now },
 }
 
-// The action at a place.
-fn action_at(labels: &[u32], place: usize) -> u32
-    requires good_labels { GoodLabels labels.now }
-    requires place_bound { place < action_count labels.now }
-    ensures { result ≡ action_at labels.now place }
-{
-    let count = labels[1] as usize;
-    labels[2 + count + place]
-}
+impl<'a> Labels<'a> {
+    // How many labels there are.
+    fn count(self) -> u32
+        ensures { result ≡ label_count self.entry.words.now }
+    {
+        self.words[0]
+    }
 
-// How often `action` occurs from place `from` up to `to`. The loop never ends early and counts in 32 bits, the size of
-// an action, so that the compiler can compare several actions at once.
-fn times_in(labels: &[u32], from: usize, to: usize, action: u32) -> u32
-    requires good_labels { GoodLabels labels.now }
-    requires from_le_to { (from ≤ to) × (to ≤ action_count labels.now) }
-    ensures { result ≡ times_in labels.now from to action }
-{
-    let mut times: u32 = 0;
-    let mut i = from;
-    while i < to {
-        let found = action_at(labels, i);
-        if found == action {
-            times += 1;
+    // How many actions they have in all.
+    fn action_count(self) -> usize
+        ensures { result ≡ action_count self.entry.words.now }
+    {
+        self.words[1] as usize
+    }
+
+    // The label at a place.
+    fn label_at(self, place: usize) -> u32
+        requires { place < action_count self.words.now }
+        ensures { result ≡ label_at self.entry.words.now place }
+    {
+        self.words[2 + place]
+    }
+
+    // The action at a place.
+    fn action_at(self, place: usize) -> u32
+        requires { place < action_count self.words.now }
+        ensures { result ≡ action_at self.entry.words.now place }
+    {
+        self.words[2 + self.action_count() + place]
+    }
+
+    // How often `action` occurs at the places. The loop never ends early and counts in 32 bits, the size of an action,
+    // so that the compiler can compare several actions at once.
+    fn times_in(self, places: Places, action: u32) -> u32
+        requires { Within self.words.now places }
+        ensures { result ≡ times_in self.entry.words.now places.from places.to action }
+    {
+        let mut times: u32 = 0;
+        for place in places.from..places.to {
+            if self.action_at(place) == action {
+                times += 1;
+            }
         }
-        i += 1;
+        times
     }
-    times
-}
 
-// Does each action at the places `own` occur there as often as at the places `other`?
-fn covers(labels: &[u32], own: Places, other: Places) -> bool
-    requires good_labels { GoodLabels labels.now }
-    requires within { Within labels.now own × Within labels.now other }
-    ensures { result ≡ covered_in labels.now own other }
-{
-    let mut i = own.from;
-    while i < own.to {
-        let action = action_at(labels, i);
-        let here = times_in(labels, own.from, own.to, action);
-        let there = times_in(labels, other.from, other.to, action);
-        if here != there {
-            return false;
+    // Does each action at the places `own` occur there as often as at the places `other`?
+    fn covers(self, own: Places, other: Places) -> bool
+        requires { Within self.words.now own × Within self.words.now other }
+        ensures { result ≡ covered_in self.entry.words.now own other }
+    {
+        for place in own.from..own.to {
+            let action = self.action_at(place);
+            let here = self.times_in(own, action);
+            let there = self.times_in(other, action);
+            if here != there {
+                return false;
+            }
         }
-        i += 1;
+        true
     }
-    true
-}
 
-// The place past the actions of a label, which begin at `from`.
-fn stretch_end(labels: &[u32], from: usize, label: u32) -> usize
-    requires good_labels { GoodLabels labels.now }
-    requires starts { Starts labels.now label from }
-    ensures { Stretch labels.now label from result }
-{
-    let count = labels[1] as usize;
-    let mut i = from;
-    while i < count {
-        let found = label_at(labels, i);
-        if found != label {
-            return i;
+    // The place past the actions of a label, which begin at `from`.
+    fn stretch_end(self, from: usize, label: u32) -> usize
+        requires { Starts self.words.now label from }
+        ensures { Stretch self.entry.words.now label from result }
+    {
+        let count = self.action_count();
+        for place in from..count {
+            if self.label_at(place) != label {
+                return place;
+            }
         }
-        i += 1;
+        count
     }
-    i
-}
 
-// Are two labels, whose places are given, the same multiset? If both have equally many actions, it is enough to count
-// those of the first.
-fn same_label(labels: &[u32], label: u32, own: Places, another: u32, other: Places) -> bool
-    requires good_labels { GoodLabels labels.now }
-    requires stretch_of { StretchOf labels.now label own × StretchOf labels.now another other }
-    ensures { result ≡ same_label labels.now label another }
-{
-    if own.to - own.from != other.to - other.from {
-        return false;
+    // Are two labels, whose places are given, the same multiset? If both have equally many actions, it is enough to
+    // count those of the first.
+    fn same_label(self, label: u32, own: Places, another: u32, other: Places) -> bool
+        requires { StretchOf self.words.now label own × StretchOf self.words.now another other }
+        ensures { result ≡ same_label self.entry.words.now label another }
+    {
+        own.to - own.from == other.to - other.from && self.covers(own, other)
     }
-    covers(labels, own, other)
+
+    // The mark of the label that stands at the places.
+    fn mark_of(self, places: Places) -> u32
+        requires { Within self.words.now places }
+        ensures { result ≡ weight_in self.entry.words.now places.from places.to % 2 ^ 32 }
+    {
+        let mut sum: u64 = 0;
+        for place in places.from..places.to {
+            sum += weight_of(self.action_at(place));
+        }
+        (sum % 4294967296) as u32
+    }
 }
 
 // ---- marks
@@ -120,133 +137,114 @@ fn weight_of(action: u32) -> u64
     stirred * stirred / 4294967296
 }
 
-// The mark of the label that stands from `from` up to `to`.
-fn mark_of(labels: &[u32], from: usize, to: usize) -> u32
-    requires good_labels { GoodLabels labels.now }
-    requires from_le_to { (from ≤ to) × (to ≤ action_count labels.now) }
-    ensures { result ≡ weight_in labels.now from to % 2 ^ 32 }
-{
-    let mut sum: u64 = 0;
-    let mut i = from;
-    while i < to {
-        sum += weight_of(action_at(labels, i));
-        i += 1;
-    }
-    (sum % 4294967296) as u32
-}
-
 // Writes where each label starts, and its mark.
-fn mark_labels(labels: &[u32], starts: &mut LabelStarts, marks: &mut [u32])
-    requires good_labels { GoodLabels labels.now }
-    requires starts_len { (length starts.old ≡ 4_096) × (label_count labels.now ≤ length marks.old) }
-    ensures { Marked labels.now starts.new marks.new
-        (label_count labels.now) }
+// Kept (rule): two arrays side by side. The marks stand in the lent table that becomes that of the multisets, so that a
+// run needs no memory for them.
+fn mark_labels(labels: Labels<'_>, starts: &mut LabelStarts, marks: &mut [u32])
+    requires { label_count labels.words.now ≤ length marks.old }
+    ensures { Marked labels.entry.words.now starts.new marks.new (label_count labels.entry.words.now) }
 {
-    let count = labels[0];
-    let mut label: u32 = 0;
     let mut from: usize = 0;
-    while label < count {
-        let to = stretch_end(labels, from, label);
-        let mark = mark_of(labels, from, to);
-        let at = label as usize;
-        starts[at] = from as u32;
-        marks[at] = mark;
+    for label in 0..labels.count() {
+        let to = labels.stretch_end(from, label);
+        let mark = labels.mark_of(Places { from, to });
+        starts[label as usize] = from as u32;
+        marks[label as usize] = mark;
         from = to;
-        label += 1;
     }
 }
 
-// How often a mark is among the first `count` marks. The loop never ends early, as in `times_in`.
-fn times_marked(marks: &[u32], count: usize, mark: u32) -> u32
-    requires { (count ≤ length marks.now) × (count ≤ 4_096) }
-    ensures { result ≡ tally (λ i. eqb (word marks.now i) mark) 0 count }
+// How often a mark is among the marks. The loop never ends early, as in `times_in`.
+fn times_marked(marks: &[u32], mark: u32) -> u32
+    requires { length marks.now ≤ 4_096 }
+    ensures { result ≡ tally (λ i. eqb (word marks.now i) mark) 0 (length marks.now) }
 {
     let mut times: u32 = 0;
-    let mut i: usize = 0;
-    while i < count {
-        if marks[i] == mark {
+    for other in marks {
+        if *other == mark {
             times += 1;
         }
-        i += 1;
     }
     times
 }
 
 // ---- classes
 
-// Is a lower label the same multiset as `label`, whose places and mark are given?
-fn same_as(
-    labels: &[u32],
-    starts: &LabelStarts,
-    marks: &[u32],
-    lower: u32,
-    label: u32,
-    places: Places,
-    mark: u32,
-) -> bool
-    requires good_labels { GoodLabels labels.now × (lower < 4_096) × (lower < length marks.now) }
-    requires mark_of { MarkOf labels.now lower (word starts.now lower) (word marks.now lower) }
-    requires stretch_of { StretchOf labels.now label places × MarkOf labels.now label places.from mark }
-    ensures { result ≡ same_label labels.now lower label }
-{
-    let at = lower as usize;
-    if marks[at] != mark {
-        return false;
-    }
-    let from = starts[at] as usize;
-    let to = stretch_end(labels, from, lower);
-    let own = Places { from, to };
-    same_label(labels, lower, own, label, places)
+// The labels, with where each starts and its mark.
+#[derive(Clone, Copy)]
+struct MarkedLabels<'a> {
+    labels: Labels<'a>,
+    starts: &'a LabelStarts,
+    marks: &'a [u32],
 }
 
-// The lowest label with the multiset of `label`.
-fn lowest_same(labels: &[u32], starts: &LabelStarts, marks: &[u32], label: u32) -> u32
-    requires { MarkedUpTo labels.now starts.now marks.now label }
-    ensures { result ≡ multiset labels.now label }
-{
-    let at = label as usize;
-    let mark = marks[at];
-    let from = starts[at] as usize;
-    let to = stretch_end(labels, from, label);
-    let places = Places { from, to };
-    let mut lower: u32 = 0;
-    while lower < label {
-        if same_as(labels, starts, marks, lower, label, places, mark) {
-            return lower;
+impl<'a> MarkedLabels<'a> {
+    // The places of a label.
+    fn places_of(self, label: u32) -> Places
+        requires { MarkedUpTo self.labels.words.now self.starts.now self.marks.now label }
+        ensures { StretchOf self.entry.labels.words.now label result
+            × (result.from ≡ word self.entry.starts.now label) }
+    {
+        let from = self.starts[label as usize] as usize;
+        let to = self.labels.stretch_end(from, label);
+        Places { from, to }
+    }
+
+    // Is a lower label the same multiset as `label`, whose places are given?
+    fn same_as(self, lower: u32, label: u32, places: Places) -> bool
+        requires lower_label { lower < label }
+        requires marked { MarkedUpTo self.labels.words.now self.starts.now self.marks.now label }
+        requires stretch { StretchOf self.labels.words.now label places }
+        ensures { result ≡ same_label self.entry.labels.words.now lower label }
+    {
+        self.marks[lower as usize] == self.marks[label as usize]
+            && self
+                .labels
+                .same_label(lower, self.places_of(lower), label, places)
+    }
+
+    // The lowest label with the multiset of `label`.
+    fn lowest_same(self, label: u32) -> u32
+        requires { MarkedUpTo self.labels.words.now self.starts.now self.marks.now label }
+        ensures { result ≡ multiset self.entry.labels.words.now label }
+    {
+        let places = self.places_of(label);
+        for lower in 0..label {
+            if self.same_as(lower, label, places) {
+                return lower;
+            }
         }
-        lower += 1;
+        label
     }
-    lower
-}
 
-// The multiset of a label: the label itself if none before it has its mark.
-fn class_of(labels: &[u32], starts: &LabelStarts, marks: &[u32], label: u32) -> u32
-    requires { MarkedUpTo labels.now starts.now marks.now label }
-    ensures { result ≡ multiset labels.now label }
-{
-    let at = label as usize;
-    let mark = marks[at];
-    if times_marked(marks, at, mark) == 0 {
-        return label;
+    // The multiset of a label: the label itself if none before it has its mark.
+    fn class_of(self, label: u32) -> u32
+        requires { MarkedUpTo self.labels.words.now self.starts.now self.marks.now label }
+        ensures { result ≡ multiset self.entry.labels.words.now label }
+    {
+        let at = label as usize;
+        if times_marked(&self.marks[..at], self.marks[at]) == 0 {
+            return label;
+        }
+        self.lowest_same(label)
     }
-    lowest_same(labels, starts, marks, label)
 }
 
 // Turns the table of marks into that of multisets, from the last label to the first: each needs the marks of the labels
 // before it.
-fn classes_of_marks(labels: &[u32], starts: &LabelStarts, classes: &mut [u32])
-    requires good_labels { GoodLabels labels.now }
-    requires labels_in_bounds { label_count labels.now ≤ length classes.old }
-    requires marked { Marked labels.now starts.now classes.old (label_count labels.now) }
-    ensures { Classes labels.now classes.new }
+fn classes_of_marks(labels: Labels<'_>, starts: &LabelStarts, classes: &mut [u32])
+    requires labels_in_bounds { label_count labels.words.now ≤ length classes.old }
+    requires marked { Marked labels.words.now starts.now classes.old (label_count labels.words.now) }
+    ensures { Classes labels.entry.words.now classes.new }
 {
-    let mut left = labels[0];
-    while left > 0 {
-        let label = left - 1;
-        let class = class_of(labels, starts, classes, label);
-        let at = label as usize;
-        classes[at] = class;
-        left = label;
+    for label in (0..labels.count()).rev() {
+        let marked = MarkedLabels {
+            labels,
+            starts,
+            marks: classes,
+        };
+        let class = marked.class_of(label);
+        classes[label as usize] = class;
     }
 }
 
@@ -256,6 +254,7 @@ pub fn label_classes(labels: &[u32], classes: &mut [u32])
     requires labels_in_bounds { label_count labels.now ≤ length classes.old }
     ensures { Classes labels.now classes.new }
 {
+    let labels = Labels { words: labels };
     let mut starts = [0u32; LABELS];
     mark_labels(labels, &mut starts, classes);
     classes_of_marks(labels, &starts, classes);

@@ -87,8 +87,5 @@ module _ (ls acts : List ℕ) (good : GoodActions (label_count ls) acts) (v : �
       pub intersection_by_right : k ≡ 4 → left ≡ true → (right : Bool) → right ≡ Answer o → right ≡ Answer v
       intersection_by_right p y right z = z ∙ ap (λ (b : Bool). b && Answer o) (sym y) ∙ intersection_is p
 
-    -- a known kind that is none of the others is a negation
-    pub at_negation : (left : Bool) → left ≡ Answer (v + 1) → 3 ≤ k → (¬ (k ≡ 3)) → (¬ (k ≡ 4)) → not left ≡ Answer v
-    at_negation left first p x y =
-        let five : k ≡ 5 = omega (arith, (good.nodes v h).known, is) in
-        ap not (first ∙ ap Answer (add-one v)) ∙ sym (negation_matches (label_count ls) acts good ls v h m (sym is ∙ five))
+    pub at_negation : (left : Bool) → left ≡ Answer (v + 1) → k ≡ 5 → not left ≡ Answer v
+    at_negation left first p = ap not (first ∙ ap Answer (add-one v)) ∙ sym (negation_matches (label_count ls) acts good ls v h m (sym is ∙ p))

@@ -8,6 +8,7 @@ ghost use Rattle.rules.specs.Actions.{action_tree, matches};
 ghost use Rattle.tables.specs.Good.{GoodActions};
 ghost use Rattle.labels.specs.Classes.{Classes};
 
+use node_kinds::ActionKind;
 use words::at;
 
 // Does the action formula at a node match a label? `multiset` is what `classes` has for the label: the lowest label
@@ -20,23 +21,29 @@ pub fn match_action_formula(actions: &[u32], classes: &[u32], multiset: usize, n
         → GoodActions (label_count labels) actions.now
         → result ≡ matches multiset (action_tree labels actions.now node) }
 {
-    let kind = words::kind_at(actions, node);
-    if kind == 0 {
-        return true;
+    let kind = ActionKind::of(words::kind_at(actions, node) as u32);
+    match kind {
+        ActionKind::True => true,
+        ActionKind::False => false,
+        ActionKind::MultiAction => at(classes, words::operand_at(actions, node)) == multiset,
+        ActionKind::Union => {
+            match_action_formula(actions, classes, multiset, node + 1)
+                || match_action_formula(
+                    actions,
+                    classes,
+                    multiset,
+                    words::operand_at(actions, node),
+                )
+        }
+        ActionKind::Intersection => {
+            match_action_formula(actions, classes, multiset, node + 1)
+                && match_action_formula(
+                    actions,
+                    classes,
+                    multiset,
+                    words::operand_at(actions, node),
+                )
+        }
+        ActionKind::Negation => !match_action_formula(actions, classes, multiset, node + 1),
     }
-    if kind == 1 {
-        return false;
-    }
-    let operand = words::operand_at(actions, node);
-    if kind == 2 {
-        return at(classes, operand) == multiset;
-    }
-    let left = match_action_formula(actions, classes, multiset, node + 1);
-    if kind == 3 {
-        return left || match_action_formula(actions, classes, multiset, operand);
-    }
-    if kind == 4 {
-        return left && match_action_formula(actions, classes, multiset, operand);
-    }
-    !left
 }

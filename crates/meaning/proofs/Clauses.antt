@@ -6,7 +6,7 @@ use mathlib.Core.List.{List, [], ◌∷◌}
 use Prim.Native.Nat.{ℕ, ◌<◌}
 use lib.Dec.{ltb}
 use borrow.Author.Tests.{ltb-true}
-use Rattle.rules.specs.declared.Check.TheVariants.{Passed}
+use Rattle.std.specs.declared.result.Result.TheVariants.{Ok}
 use Rattle.rules.specs.declared.Room.{Room}
 use Rattle.rules.specs.Lists.{In}
 use Rattle.rules.specs.Words.{Input, input_of, room_of, game_length, work_length}
@@ -37,7 +37,7 @@ here = input_of (words "2 2, 0 1, 7 8") (words "3 4 0, 2 1 1, 0 0 0 1, 1 2 1 0")
 abbrev room : Room
 room = room_of 1 1
 
-passed : refusal here room (game_length room) (work_length room) ≡ Passed
+passed : refusal here room (game_length room) (work_length room) ≡ Ok tt
 unfolding every_rule
 passed = refl
 

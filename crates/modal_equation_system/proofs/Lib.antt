@@ -1,3 +1,4 @@
+pub mod Good
 pub mod Listing
 pub mod Reading
 pub mod Ranking

@@ -1,24 +1,31 @@
 -- Listing the equations node by node: which entries the table has before node v, and how they grow. Assumes nothing.
-use mathlib.Core.Path.{◌≡◌, refl, sym, ap, subst, ◌∙◌}
-use mathlib.Core.Bool.{Bool, true, false, cond}
-use mathlib.Core.List.{List, [], ◌∷◌, ◌++◌}
+use mathlib.Core.Path.{◌≡◌, refl, sym, ap, ◌∙◌}
+use mathlib.Core.Bool.{Bool, true, false, cond, not}
+use mathlib.Core.List.{List, [], ◌∷◌, ◌++◌, map}
 use Prim.Native.Nat.{ℕ, zero, suc, ◌+◌, ◌-◌, ◌≤◌, ◌<◌}
 use native.Mathlib.Decide.{dec_lt, ℕ_discrete}
 use native.Mathlib.Omega.{arith}
 use native.Mathlib.Numerals.{add-one}
-use lib.ListN.{length, get_or, set, length-set, length-append, get_or-append}
+use lib.ListN.{length, get_or, set, length-append, get_or-append}
 use lib.Seq.{get_or-set_same, get_or-set_other, get_or-append_seam}
 use lib.Dec.{eqb}
 use borrow.Author.Tests.{eq-eqb, ne_eqb}
+use denote.Enum.Bare.{sameb}
+use mir.Val.{bool_byte}
+use Rattle.node_kinds.specs.contracts.FormulaKind.{the_type}
+use Rattle.std.proofs.lemmas.List.{map-set, length-map}
 use Rattle.rules.specs.Lists.{word, one}
 use Rattle.rules.specs.Table.{size, kind, operand, formula_node}
 use Rattle.rules.specs.Formula.{least, greatest, Equation, is_fixpoint, placeholder, equations_before, equations, equation_count, equation_of, equation_number}
 use Rattle.rules.specs.Depth.{least_bit}
+use Rattle.node_kinds.specs.Codes.{formula_code}
+use Rattle.node_kinds.specs.declared.FormulaKind.{FormulaKind}
+use Rattle.node_kinds.specs.declared.FormulaKind.TheVariants.{True, False, And, Or, Box, Diamond, Least, Greatest, Reference}
 use Rattle.trees.proofs.Fixpoints.{fixpoint_kind, fixpoint_at, no_fixpoint_below, no_fixpoint_above}
 use Rattle.trees.proofs.Equations.{number_start, number_start_placeholder, number_more, number_same, equations_least, equations_greatest, equations_below, equations_above, number_monotone, count_number, count_limit}
-use Rattle.words.specs.Node.{has_kind, has_operand}
-use Rattle.modal_equation_system.specs.System.{Good, link_in, kind_in, body_in, least_in, with_node, with_equation, Link, Linked, Listed}
-use Rattle.modal_equation_system.specs.Listing.{missing, Shows, Listing, Counts, Linkable, LinkBy, NodeOf}
+use Rattle.modal_equation_system.specs.declared.EquationTable.{EquationTable}
+use Rattle.modal_equation_system.specs.System.{named, Good, link_in, kind_in, body_in, least_in, Link, Linked, Listed}
+use Rattle.modal_equation_system.specs.Listing.{names_fixpoint, missing, Shows, Listing, Linkable, LinkBy}
 
 -- ---- how many equations come before a node
 
@@ -35,20 +42,6 @@ number_next f v = go (is_fixpoint (formula_node f v)) refl
     go : (t : Bool) → is_fixpoint (formula_node f v) ≡ t → equation_number f (suc v) ≡ equation_number f v + one t
     go true e = omega (arith, number_more f v e)
     go false e = omega (arith, number_same f v e)
-
--- ---- what is read off the table after words are written into it
-
-kept : (t : List ℕ) (p x q y r : ℕ) → (r ≡ p → ⊥) → (r ≡ q → ⊥) → word (set (set t p x) q y) r ≡ word t r
-kept t p x q y r d e = get_or-set_other {A = ℕ} (set t p x) q r y 0 e ∙ get_or-set_other {A = ℕ} t p r x 0 d
-
-written_first : (t : List ℕ) (p x q y : ℕ) → p < length t → (p ≡ q → ⊥) → word (set (set t p x) q y) p ≡ x
-written_first t p x q y h e = get_or-set_other {A = ℕ} (set t p x) q p y 0 e ∙ get_or-set_same {A = ℕ} t p x 0 h
-
-written_last : (t : List ℕ) (p x q y : ℕ) → q < length t → word (set (set t p x) q y) q ≡ y
-written_last t p x q y h = get_or-set_same {A = ℕ} (set t p x) q y 0 (omega (arith, h, length-set t p x))
-
-set-length : (t : List ℕ) (p x q y : ℕ) → length (set (set t p x) q y) ≡ length t
-set-length t p x q y = length-set (set t p x) q y ∙ length-set t p x
 
 -- ---- a field of each equation, shown one after the other
 
@@ -98,165 +91,168 @@ shows_first field f shown e = go (is_fixpoint (formula_node f 0))
 
 -- ---- a node of the formula: how many equations it begins, where its words stand, and its link
 
-pub counts_fixpoints : (f : List ℕ) (v r : ℕ) → v < size f → Counts (kind f v) r → r ≡ one (is_fixpoint (formula_node f v))
-counts_fixpoints f v r h c = go (dec_lt (kind f v) 6) (dec_lt (kind f v) 8)
-  where
-    go : Dec (kind f v < 6) → Dec (kind f v < 8) → r ≡ one (is_fixpoint (formula_node f v))
-    go (yes p) d = c.below (omega arith) ∙ sym (ap one (no_fixpoint_below f v h (omega arith)))
-    go (no p) (yes q) = c.fixpoint (omega arith) (omega arith) ∙ sym (ap one (fixpoint_at f v h (omega arith) (omega arith)))
-    go (no p) (no q) = c.above (omega arith) ∙ sym (ap one (no_fixpoint_above f v h (omega arith)))
-
-pub counts_few : (k r : ℕ) → Counts k r → r ≤ 1
-counts_few k r c = go (dec_lt k 6) (dec_lt k 8)
-  where
-    go : Dec (k < 6) → Dec (k < 8) → r ≤ 1
-    go (yes p) d = omega (arith, c.below (omega arith))
-    go (no p) (yes q) = omega (arith, c.fixpoint (omega arith) (omega arith))
-    go (no p) (no q) = omega (arith, c.above (omega arith))
+-- a node of a kind that names a fixpoint is one
+pub fixpoint_named : (f : List ℕ) (v : ℕ) → v < size f → (k : FormulaKind) → formula_code k ≡ kind f v
+    → names_fixpoint k ≡ is_fixpoint (formula_node f v)
+fixpoint_named f v h True e = sym (no_fixpoint_below f v h (omega arith))
+fixpoint_named f v h False e = sym (no_fixpoint_below f v h (omega arith))
+fixpoint_named f v h And e = sym (no_fixpoint_below f v h (omega arith))
+fixpoint_named f v h Or e = sym (no_fixpoint_below f v h (omega arith))
+fixpoint_named f v h Box e = sym (no_fixpoint_below f v h (omega arith))
+fixpoint_named f v h Diamond e = sym (no_fixpoint_below f v h (omega arith))
+fixpoint_named f v h Least e = sym (fixpoint_at f v h (omega arith) (omega arith))
+fixpoint_named f v h Greatest e = sym (fixpoint_at f v h (omega arith) (omega arith))
+fixpoint_named f v h Reference e = sym (no_fixpoint_above f v h (omega arith))
 
 module _ (f : List ℕ) (good : Good f) (v : ℕ) (h : v < size f) where
-  pub kind_stands : has_kind f v
-  kind_stands = omega (arith, good.formula.sized)
-
-  pub operand_stands : has_operand f v
-  operand_stands = omega (arith, good.formula.sized)
-
   -- numbers of equations fit a word
   pub number_fits : equation_number f v ≤ 1_024
-  number_fits = omega (arith, number_monotone f v (size f) (omega arith), count_number f, count_limit good.actions f good.formula)
+  number_fits = omega (arith, number_monotone f v (size f) (omega arith), count_number f, count_limit (named f) f good.formula)
 
   -- a reference has the link of its fixpoint, which stands before it
-  fixpoint_link : (t : List ℕ) → Linked f v t → 8 ≤ kind f v → link_in t (operand f v) ≡ equation_number f (operand f v)
+  fixpoint_link : (t : EquationTable) → Linked f v t → 8 ≤ kind f v → link_in t (operand f v) ≡ equation_number f (operand f v)
   fixpoint_link t linked p =
       let (a, b) = (good.formula.nodes v h).refers p in
       let (c, d) = fixpoint_kind f (operand f v) b in
       (linked (operand f v) a).own c d
 
-module _ (f : List ℕ) (v k o i : ℕ) (table : List ℕ) (n : NodeOf f v k o) (s : Listing f v i table) where
-  linked_outer : 8 ≤ k → link_in table o ≡ equation_number f o
-  linked_outer p = rw n.pointed (fixpoint_link f n.good v n.inside table s.link (omega (arith, n.kinded)))
+module _ (f : List ℕ) (good : Good f) (v : ℕ) (h : v < size f) (i : ℕ) (table : EquationTable) (s : Listing f v i table) where
+  linked_outer : 8 ≤ kind f v → link_in table (operand f v) ≡ equation_number f (operand f v)
+  linked_outer p = fixpoint_link f good v h table s.link p
 
-  outer_before : 8 ≤ k → o < v
-  outer_before p = omega (arith, n.pointed, ((n.good.formula.nodes v n.inside).refers (omega (arith, n.kinded))).0)
+  outer_before : 8 ≤ kind f v → operand f v < v
+  outer_before p = ((good.formula.nodes v h).refers p).0
 
   -- the numbers of a step fit a word and the table
-  pub node_few : v < 1_024
-  node_few = omega (arith, n.inside, n.good.formula.few)
-
   pub number_few : i ≤ 1_024
-  number_few = omega (arith, s.count, number_fits f n.good v n.inside)
+  number_few = omega (arith, s.count, number_fits f good v h)
 
-  pub kind_few : k ≤ 8
-  kind_few = omega (arith, n.kinded, (n.good.formula.nodes v n.inside).known)
-
-  pub linkable : Linkable table k o i
-  linkable =
+  pub linkable : (k o : ℕ) → k ≡ kind f v → o ≡ operand f v → Linkable table k o i
+  linkable k o e g =
       record {
-        right = λ p q. omega (arith, n.pointed, n.good.formula.few, (n.good.formula.nodes v n.inside).right (omega (arith, n.kinded)) (omega (arith, n.kinded)));
+        right = λ p q. omega (arith, good.formula.few, (good.formula.nodes v h).right (omega arith) (omega arith));
         own = omega (arith, number_few);
-        outer = λ p. (omega (arith, outer_before p, node_few), omega (arith, linked_outer p, number_fits f n.good o (omega (arith, outer_before p, n.inside))));
+        outer = λ p. omega (arith, good.formula.few, outer_before (omega arith));
       }
 
   -- the link that the table and these numbers give is the node's
-  link_node : (l : ℕ) → LinkBy table k o i l → Link f v l
-  link_node l b =
+  link_node : (k o l : ℕ) → k ≡ kind f v → o ≡ operand f v → LinkBy table k o i l → Link f v l
+  link_node k o l e g b =
       record {
-        right = λ p q. b.right (omega (arith, n.kinded)) (omega (arith, n.kinded)) ∙ n.pointed;
-        own = λ p q. b.own (omega (arith, n.kinded)) (omega (arith, n.kinded)) ∙ s.count;
-        outer = λ p. b.outer (omega (arith, n.kinded)) ∙ linked_outer (omega (arith, n.kinded)) ∙ ap (equation_number f) n.pointed;
+        right = λ p q. b.right (omega arith) (omega arith) ∙ g;
+        own = λ p q. b.own (omega arith) (omega arith) ∙ s.count;
+        outer = λ p. b.outer (omega arith) ∙ ap (link_in table) g ∙ linked_outer p;
       }
+
+-- ---- a word is written
+
+at_set : (ws : List ℕ) (i x : ℕ) → i < length ws → word (set ws i x) i ≡ x
+at_set ws i x h = get_or-set_same {A = ℕ} ws i x 0 h
+
+past_set : (ws : List ℕ) (i x u : ℕ) → (u ≡ i → ⊥) → word (set ws i x) u ≡ word ws u
+past_set ws i x u d = get_or-set_other {A = ℕ} ws i u x 0 d
 
 -- ---- the listing: it begins, goes on by a node, and ends
 
-pub listing_first : (f : List ℕ) (i : ℕ) (t table : List ℕ) → i ≡ 1 - one (is_fixpoint (formula_node f 0)) → length t ≡ 4_098 → table ≡ with_equation t 0 0 1
-    → Listing f 0 i table
+not_byte : (b : Bool) → bool_byte (not b) ≡ 1 - one b
+not_byte true = refl
+not_byte false = refl
+
+pub listing_first : (f : List ℕ) (i : ℕ) (t : EquationTable) (b : Bool) → i ≡ bool_byte (not b) → b ≡ is_fixpoint (formula_node f 0)
+    → length t.bodies ≡ 1_025 → length t.least ≡ 1_025
+    → Listing f 0 i (record { links = t.links; kinds = t.kinds; bodies = set t.bodies 0 0; least = set t.least 0 true })
 unfolding least_bit
-listing_first f i t table e z w =
-    rw w
-    (record {
-      count = e ∙ sym (number_first f);
+listing_first f i t first e g bodies_long least_long =
+    record {
+      count = e ∙ not_byte first ∙ ap (λ (a : Bool). 1 - one a) g ∙ sym (number_first f);
       link = λ u h. absurd (omega arith);
       kinds = λ u h. absurd (omega arith);
-      body = shows_first (λ e. e.body) f (body_in (with_equation t 0 0 1)) (written_first t 2_048 0 3_073 1 (omega arith) (λ e. omega arith));
-      operator = shows_first (λ e. least_bit e.operator) f (least_in (with_equation t 0 0 1)) (written_last t 2_048 0 3_073 1 (omega arith));
-      long = set-length t 2_048 0 3_073 1 ∙ z;
-    })
+      body = shows_first (λ e. e.body) f (λ j. word (set t.bodies 0 0) j) (at_set t.bodies 0 0 (omega arith));
+      operator = shows_first (λ e. least_bit e.operator) f (λ j. word (map one (set t.least 0 true)) j)
+          (rw (map-set one t.least 0 true) (at_set (map one t.least) 0 1 (omega (arith, length-map t.least one))));
+    }
 
-six_bit : (k x : ℕ) → x ≡ one (eqb k 6) → k ≡ 6 → x ≡ least_bit least
-unfolding least_bit
-six_bit k x e h = e ∙ ap one (eq-eqb k 6 h)
+-- ---- a node is listed
 
-seven_bit : (k x : ℕ) → x ≡ one (eqb k 6) → k ≡ 7 → x ≡ least_bit greatest
-unfolding least_bit
-seven_bit k x e h = e ∙ ap one (ne_eqb k 6 (λ (q : k ≡ 6). omega arith))
+pub byte_of : (b : Bool) → bool_byte b ≡ one b
+byte_of true = refl
+byte_of false = refl
 
--- the words of node v are written, and those of equation i
-module _ (f : List ℕ) (v i : ℕ) (table : List ℕ) (l k bit : ℕ) (h : v < size f) (few : v < 1_024) (room : i < 1_025) (s : Listing f v i table) where
-  abbrev noded : List ℕ
-  noded = with_node table v l k
+least_bit_of : (k : FormulaKind) (b : Bool) → b ≡ sameb the_type k Least → one b ≡ one (eqb (formula_code k) 6)
+least_bit_of True b e = ap one e
+least_bit_of False b e = ap one e
+least_bit_of And b e = ap one e
+least_bit_of Or b e = ap one e
+least_bit_of Box b e = ap one e
+least_bit_of Diamond b e = ap one e
+least_bit_of Least b e = ap one e
+least_bit_of Greatest b e = ap one e
+least_bit_of Reference b e = ap one e
 
-  abbrev listed : List ℕ
-  listed = with_equation noded i (suc v) bit
+-- the words of node v and of equation i are written
+module _ (f : List ℕ) (good : Good f) (v : ℕ) (h : v < size f) (i : ℕ) (t : EquationTable) (s : Listing f v i t)
+    (k : FormulaKind) (e : formula_code k ≡ kind f v) (link : ℕ) (bit : Bool)
+    (links_long : length t.links ≡ 1_024) (kinds_long : length t.kinds ≡ 1_024)
+    (bodies_long : length t.bodies ≡ 1_025) (least_long : length t.least ≡ 1_025)
+  where
+    abbrev listed : EquationTable
+    listed = record { links = set t.links v link; kinds = set t.kinds v k; bodies = set t.bodies i (suc v); least = set t.least i bit }
 
-  noded_long : length noded ≡ 4_098
-  noded_long = set-length table v l (1_024 + v) k ∙ s.long
+    links_next : Link f v link → Linked f (suc v) listed
+    links_next l u b = go (ℕ_discrete u v)
+      where
+        go : Dec (u ≡ v) → Link f u (link_in listed u)
+        go (yes q) = rw (q, at_set t.links v link (omega (arith, good.formula.few))) l
+        go (no d) = rw (past_set t.links v link u d) (s.link u (omega arith))
 
-  -- an equation's words leave the nodes' alone, and a node's the equations'
-  nodes-kept : (u : ℕ) → u < 2_048 → word listed u ≡ word noded u
-  nodes-kept u b = kept noded (2_048 + i) (suc v) (3_073 + i) bit u (λ p. omega arith) (λ p. omega arith)
+    kinds_next : (u : ℕ) → u < suc v → kind_in listed u ≡ kind f u
+    kinds_next u b = rw (map-set formula_code t.kinds v k) (go (ℕ_discrete u v))
+      where
+        go : Dec (u ≡ v) → word (set (map formula_code t.kinds) v (formula_code k)) u ≡ kind f u
+        go (yes q) = rw q (at_set (map formula_code t.kinds) v (formula_code k) (omega (arith, good.formula.few, length-map t.kinds formula_code)) ∙ e)
+        go (no d) = past_set (map formula_code t.kinds) v (formula_code k) u d ∙ s.kinds u (omega arith)
 
-  bodies_kept : Stays (equation_number f v) (body_in table) (body_in listed)
-  bodies_kept j b =
-      let q = s.count in
-      kept noded (2_048 + i) (suc v) (3_073 + i) bit (2_048 + j) (λ p. omega arith) (λ p. omega arith)
-      ∙ kept table v l (1_024 + v) k (2_048 + j) (λ p. omega arith) (λ p. omega arith)
+    bodies_kept : Stays (equation_number f v) (body_in t) (body_in listed)
+    bodies_kept j b = past_set t.bodies i (suc v) j (λ (q : j ≡ i). omega (arith, s.count))
 
-  operators_kept : Stays (equation_number f v) (least_in table) (least_in listed)
-  operators_kept j b =
-      let q = s.count in
-      kept noded (2_048 + i) (suc v) (3_073 + i) bit (3_073 + j) (λ p. omega arith) (λ p. omega arith)
-      ∙ kept table v l (1_024 + v) k (3_073 + j) (λ p. omega arith) (λ p. omega arith)
+    body_written : body_in listed (equation_number f v) ≡ suc v
+    body_written =
+        let few : i < length t.bodies = omega (arith, number_few f good v h i t s) in
+        ap (body_in listed) (sym s.count) ∙ at_set t.bodies i (suc v) few
 
-  body_written : body_in listed (equation_number f v) ≡ suc v
-  body_written = ap (body_in listed) (sym s.count) ∙ written_first noded (2_048 + i) (suc v) (3_073 + i) bit (omega (arith, room, noded_long)) (λ p. omega arith)
+    operators_kept : Stays (equation_number f v) (least_in t) (least_in listed)
+    operators_kept j b = rw (map-set one t.least i bit) (past_set (map one t.least) i (one bit) j (λ (q : j ≡ i). omega (arith, s.count)))
 
-  operator_written : least_in listed (equation_number f v) ≡ bit
-  operator_written = ap (least_in listed) (sym s.count) ∙ written_last noded (2_048 + i) (suc v) (3_073 + i) bit (omega (arith, room, noded_long))
+    operator_written : least_in listed (equation_number f v) ≡ one bit
+    operator_written =
+        let few : i < length (map one t.least) = omega (arith, number_few f good v h i t s, length-map t.least one) in
+        ap (least_in listed) (sym s.count) ∙ rw (map-set one t.least i bit) (at_set (map one t.least) i (one bit) few)
 
-  links_next : Link f v l → Linked f (suc v) listed
-  links_next link u b = go (ℕ_discrete u v)
-    where
-      go : Dec (u ≡ v) → Link f u (link_in listed u)
-      go (yes q) = rw (q, nodes-kept v (omega arith), written_first table v l (1_024 + v) k (omega (arith, few, s.long)) (λ p. omega arith)) link
-      go (no d) = rw (nodes-kept u (omega arith), kept table v l (1_024 + v) k u d (λ p. omega arith)) (s.link u (omega arith))
+    listing_suc : (o more : ℕ) → o ≡ operand f v → LinkBy t (formula_code k) o i link → bit ≡ sameb the_type k Least
+        → more ≡ one (names_fixpoint k)
+        → Listing f (suc v) (i + more) listed
+    unfolding least_bit
+    listing_suc o more g l b m =
+        let shown : one bit ≡ one (eqb (formula_code k) 6) = least_bit_of k bit b in
+        record {
+          count = omega (arith, s.count, m ∙ ap one (fixpoint_named f v h k e), number_next f v);
+          link = links_next (link_node f good v h i t s (formula_code k) o link e g l);
+          kinds = kinds_next;
+          body = shows_next (λ e. e.body) f v (body_in t) (body_in listed) h bodies_kept (λ q. body_written) (λ q. body_written) s.body;
+          operator = shows_next (λ e. least_bit e.operator) f v (least_in t) (least_in listed) h operators_kept
+              (λ q. operator_written ∙ shown ∙ ap one (eq-eqb (formula_code k) 6 (e ∙ q)))
+              (λ q. operator_written ∙ shown ∙ ap one (ne_eqb (formula_code k) 6 (λ (p : formula_code k ≡ 6). omega arith)))
+              s.operator;
+        }
 
-  kinds_next : k ≡ kind f v → (u : ℕ) → u < suc v → kind_in listed u ≡ kind f u
-  kinds_next e u b = go (ℕ_discrete u v)
-    where
-      go : Dec (u ≡ v) → kind_in listed u ≡ kind f u
-      go (yes q) = rw q (nodes-kept (1_024 + v) (omega arith) ∙ written_last table v l (1_024 + v) k (omega (arith, few, s.long)) ∙ e)
-      go (no d) = nodes-kept (1_024 + u) (omega arith) ∙ kept table v l (1_024 + v) k (1_024 + u) (λ p. omega arith) (λ p. omega arith) ∙ s.kinds u (omega arith)
+    pub listing_next : (o more : ℕ) → o ≡ operand f v → LinkBy t (formula_code k) o i link → bit ≡ sameb the_type k Least
+        → more ≡ one (names_fixpoint k)
+        → Listing f (v + 1) (i + more)
+        (record { links = set t.links v link; kinds = set t.kinds v k; bodies = set t.bodies i (v + 1); least = set t.least i bit })
+    listing_next o more g l b m = rw add-one (listing_suc o more g l b m)
 
-  listing_suc : (more : ℕ) → Link f v l → k ≡ kind f v → more ≡ one (is_fixpoint (formula_node f v)) → bit ≡ one (eqb (kind f v) 6) → Listing f (suc v) (i + more) listed
-  listing_suc more link e m b =
-      record {
-        count = omega (arith, s.count, m, number_next f v);
-        link = links_next link;
-        kinds = kinds_next e;
-        body = shows_next (λ e. e.body) f v (body_in table) (body_in listed) h bodies_kept (λ e. body_written) (λ e. body_written) s.body;
-        operator = shows_next (λ e. least_bit e.operator) f v (least_in table) (least_in listed) h operators_kept (λ e. operator_written ∙ six_bit (kind f v) bit b e) (λ e. operator_written ∙ seven_bit (kind f v) bit b e) s.operator;
-        long = set-length noded (2_048 + i) (suc v) (3_073 + i) bit ∙ noded_long;
-      }
-
--- the same by what the calls of a step ensure
-pub listing_next : (before noded listed : List ℕ) (v k o i l bit more : ℕ) → LinkBy before k o i l → noded ≡ with_node before v l k → bit ≡ one (eqb k 6)
-    → listed ≡ with_equation noded i (v + 1) bit → Counts k more → (f : List ℕ) → NodeOf f v k o → Listing f v i before → Listing f (v + 1) (i + more) listed
-listing_next before noded listed v k o i l bit more link w b x m f n s =
-    let e = n.kinded in
-    rw (x, w, add-one)
-    (listing_suc f v i before l k bit n.inside (node_few f v k o i before n s) (omega (arith, number_few f v k o i before n s)) s more (link_node f v k o i before n s l link) e
-    (counts_fixpoints f v more n.inside (subst (λ (j : ℕ). Counts j more) e m)) (b ∙ ap (λ (j : ℕ). one (eqb j 6)) e))
-
-pub listing_last : (f : List ℕ) (i : ℕ) (table : List ℕ) → Good f → Listing f (size f) i table → (i ≡ equation_count f) × Listed f table
+pub listing_last : (f : List ℕ) (i : ℕ) (table : EquationTable) → Good f → Listing f (size f) i table
+    → (i ≡ equation_count f) × Listed f table
 unfolding equation_count equations equation_of equation_number
-listing_last f i table good s = (s.count, record { good = good; link = s.link; kinds = s.kinds; body = s.body; operator = s.operator; long = s.long })
+listing_last f i table good s =
+    (s.count, record { good = good; link = s.link; kinds = s.kinds; body = s.body; operator = s.operator })

@@ -1,6 +1,8 @@
 -- Reading a body, by the kind of its node. Assumes nothing.
-use mathlib.Core.Path.{◌≡◌, refl, sym, ap, ◌∙◌}
-use mathlib.Core.Bool.{not}
+use mathlib.Core.Path.{◌≡◌, refl, sym, ap, ap₂, ◌∙◌}
+use mathlib.Core.Bool.{Bool, true, false, not, beq}
+use mathlib.Core.Logic.{◌⊎◌, inl, inr}
+use mir.Val.{bool_byte}
 use mathlib.Core.List.{List, [], ◌∷◌, map}
 use Prim.Native.Nat.{ℕ, ◌+◌, ◌≤◌, ◌<◌, max}
 use native.Mathlib.Decide.{dec_lt}
@@ -16,7 +18,12 @@ use Rattle.trees.proofs.Fixpoints.{fixpoint_at}
 use Rattle.trees.proofs.Equations.{number_below, body_below, count_limit, referred_below}
 use Rattle.trees.proofs.References.{leaf_largest, one-largest, two_largest}
 use Rattle.trees.proofs.Readings.{contribution_target, contribution_later, contribution_other, reading_equation}
-use Rattle.modal_equation_system.specs.System.{formula_only, link_in, kind_in, body_in, least_in, Listed, counted, body_reading}
+use Rattle.node_kinds.specs.Codes.{formula_code}
+use Rattle.node_kinds.specs.declared.FormulaKind.{FormulaKind}
+use Rattle.node_kinds.specs.declared.FormulaKind.TheVariants.{True, False, And, Or, Box, Diamond, Least, Greatest, Reference}
+use Rattle.modal_equation_system.specs.declared.EquationTable.{EquationTable}
+use Rattle.modal_equation_system.specs.declared.Equations.{Equations}
+use Rattle.modal_equation_system.specs.System.{formula_only, named, link_in, kind_in, body_in, least_in, Listed, counted, body_reading}
 
 -- ---- operators
 
@@ -28,11 +35,60 @@ bits_differ greatest least = refl
 bits_differ greatest greatest = refl
 
 -- what the table says of two operators
-pub listed_differ : (f table : List ℕ) → Listed f table → (i j : ℕ) → i < equation_count f → j < equation_count f
+listed_differ : (f : List ℕ) (table : EquationTable) → Listed f table → (i j : ℕ) → i < equation_count f → j < equation_count f
     → one (not (eqb (least_in table i) (least_in table j))) ≡ alternates (equation_of f i).operator (equation_of f j).operator
 listed_differ f table s i j a b = rw (s.operator i a, s.operator j b) (bits_differ (equation_of f i).operator (equation_of f j).operator)
 
-module _ (f table : List ℕ) (s : Listed f table) where
+-- the same as the code compares them
+differ_bits : (a b : Bool) → bool_byte (not (beq a b)) ≡ one (not (eqb (one a) (one b)))
+differ_bits true true = refl
+differ_bits true false = refl
+differ_bits false true = refl
+differ_bits false false = refl
+
+pub byte_few : (b : Bool) → bool_byte b ≤ 1
+byte_few true = omega arith
+byte_few false = omega arith
+
+-- ---- the kinds that an arm of the code names, by their codes
+
+pub leaf_code : (k : FormulaKind) → (k ≡ True) ⊎ (k ≡ False) → formula_code k ≤ 1
+leaf_code k (inl e) = rw e (omega arith)
+leaf_code k (inr e) = rw e (omega arith)
+
+pub two_code : (k : FormulaKind) → (k ≡ And) ⊎ (k ≡ Or) → (2 ≤ formula_code k) × (formula_code k ≤ 3)
+two_code k (inl e) = rw e (omega arith, omega arith)
+two_code k (inr e) = rw e (omega arith, omega arith)
+
+pub modal_code : (k : FormulaKind) → (k ≡ Box) ⊎ (k ≡ Diamond) → (4 ≤ formula_code k) × (formula_code k ≤ 5)
+modal_code k (inl e) = rw e (omega arith, omega arith)
+modal_code k (inr e) = rw e (omega arith, omega arith)
+
+pub reference_code : (k : FormulaKind) → (k ≡ Least) ⊎ ((k ≡ Greatest) ⊎ (k ≡ Reference)) → 6 ≤ formula_code k
+reference_code k (inl e) = rw e (omega arith)
+reference_code k (inr (inl e)) = rw e (omega arith)
+reference_code k (inr (inr e)) = rw e (omega arith)
+
+module _ (f : List ℕ) (table : EquationTable) (s : Listed f table) where
+  -- the bit that the code adds
+  pub alternates_byte : (i j : ℕ) → i < equation_count f → j < equation_count f
+      → (a b : Bool) → one a ≡ least_in table i → one b ≡ least_in table j
+      → bool_byte (not (beq a b)) ≡ alternates (equation_of f i).operator (equation_of f j).operator
+  alternates_byte i j h g a b p q =
+      differ_bits a b
+      ∙ ap₂ (λ (m n : ℕ). one (not (eqb m n))) p q
+      ∙ listed_differ f table s i j h g
+
+module _ (it : Equations) where
+  abbrev f : List ℕ
+  f = it.formula.now
+
+  abbrev table : EquationTable
+  table = it.table.now
+
+  s : Listed f table
+  s = it.listed.0
+
   -- ---- a body, by the kind that the table has for its node
 
   module _ (v : ℕ) (h : v < size f) (k : ℕ) (e : k ≡ kind_in table v) where
@@ -44,11 +100,11 @@ module _ (f table : List ℕ) (s : Listed f table) where
 
     pub body_leaf : (t i : ℕ) → k ≤ 1 → 0 ≡ body_reading f t i v
     unfolding body_reading
-    body_leaf t i p = sym (leaf_largest s.good.actions (formula_only f) s.good.formula (counted f t i) v h (omega (arith, kind-is)))
+    body_leaf t i p = sym (leaf_largest (named f) (formula_only f) s.good.formula (counted f t i) v h (omega (arith, kind-is)))
 
     pub body_one : (t i : ℕ) → 4 ≤ k → k ≤ 5 → body_reading f t i (v + 1) ≡ body_reading f t i v
     unfolding body_reading
-    body_one t i p q = rw add-one (sym (one-largest s.good.actions (formula_only f) s.good.formula (counted f t i) v h (omega (arith, kind-is)) (omega (arith, kind-is))))
+    body_one t i p q = rw add-one (sym (one-largest (named f) (formula_only f) s.good.formula (counted f t i) v h (omega (arith, kind-is)) (omega (arith, kind-is))))
 
     -- the link of an and or an or is its right operand
     module _ (o : ℕ) (g : o ≡ link_in table v) (p : 2 ≤ k) (q : k ≤ 3) where
@@ -60,7 +116,7 @@ module _ (f table : List ℕ) (s : Listed f table) where
 
       pub body_two : (t i : ℕ) → max (body_reading f t i (v + 1)) (body_reading f t i o) ≡ body_reading f t i v
       unfolding body_reading
-      body_two t i = rw (operand_is, add-one) (sym (two_largest s.good.actions (formula_only f) s.good.formula (counted f t i) v h (omega (arith, kind-is)) (omega (arith, kind-is))))
+      body_two t i = rw (operand_is, add-one) (sym (two_largest (named f) (formula_only f) s.good.formula (counted f t i) v h (omega (arith, kind-is)) (omega (arith, kind-is))))
 
     -- the link of a fixpoint or a reference is its equation, the only reference at its node
     module _ (j : ℕ) (g : j ≡ link_in table v) (p : 6 ≤ k) where
@@ -70,10 +126,10 @@ module _ (f table : List ℕ) (s : Listed f table) where
         where
           go : Dec (kind f v < 8) → references (formula_tree (formula_only f) v) ≡ j ∷ []
           go (yes q) =
-              ap references (fixpoint_tree s.good.actions (formula_only f) s.good.formula v h (omega (arith, kind-is)) (omega arith))
+              ap references (fixpoint_tree (named f) (formula_only f) s.good.formula v h (omega (arith, kind-is)) (omega arith))
               ∙ ap (λ (m : ℕ). m ∷ []) (sym (g ∙ (s.link v h).own (omega (arith, kind-is)) (omega arith)))
           go (no q) =
-              ap references (reference_tree s.good.actions (formula_only f) s.good.formula v h (omega (arith, q, (s.good.formula.nodes v h).known)))
+              ap references (reference_tree (named f) (formula_only f) s.good.formula v h (omega (arith, q, (s.good.formula.nodes v h).known)))
               ∙ ap (λ (m : ℕ). m ∷ []) (sym (g ∙ (s.link v h).outer (omega arith)))
 
       pub link_below : j < equation_count f
@@ -81,7 +137,7 @@ module _ (f table : List ℕ) (s : Listed f table) where
         where
           go : Dec (kind f v < 8) → j < equation_count f
           go (yes q) = omega (arith, g, (s.link v h).own (omega (arith, kind-is)) (omega arith), number_below f v (fixpoint_at f v h (omega (arith, kind-is)) (omega arith)))
-          go (no q) = omega (arith, g, (s.link v h).outer (omega arith), referred_below s.good.actions f s.good.formula v h (omega arith))
+          go (no q) = omega (arith, g, (s.link v h).outer (omega arith), referred_below (named f) f s.good.formula v h (omega arith))
 
       -- by the tests of the code
       module _ (t i : ℕ) where
@@ -107,13 +163,13 @@ module _ (f table : List ℕ) (s : Listed f table) where
 
   module _ (i : ℕ) (h : i < equation_count f) where
     pub equation_few : i < 1_024
-    equation_few = omega (arith, count_limit s.good.actions f s.good.formula)
+    equation_few = omega (arith, count_limit (named f) f s.good.formula)
 
     module _ (v : ℕ) (e : v ≡ body_in table i) where
       pub body_inside : v < size f
-      body_inside = omega (arith, e, s.body i h, body_below s.good.actions f s.good.formula i h)
+      body_inside = omega (arith, e, s.body i h, body_below (named f) f s.good.formula i h)
 
       -- reading an equation is reading its body
       pub reading-body : (t : ℕ) → body_reading f t i v ≡ reading (formula_only f) t i
       unfolding counted body_reading body_tree
-      reading-body t = rw (e, s.body i h) (sym (reading_equation s.good.actions (formula_only f) s.good.formula t i h))
+      reading-body t = rw (e, s.body i h) (sym (reading_equation (named f) (formula_only f) s.good.formula t i h))

@@ -1,45 +1,41 @@
 -- The table of the equations of a formula, and what is read off it. Assumes nothing: these are definitions.
-use Rattle.std.specs.Prelude.{◌≡◌, List, [], map, ℕ, ◌+◌, ◌≤◌, ◌<◌, length, set}
-use Rattle.rules.specs.Lists.{word, largest}
+use Rattle.std.specs.Prelude.{◌≡◌, List, [], map, ℕ, suc, ◌≤◌, ◌<◌, length}
+use Rattle.rules.specs.Lists.{word, one, largest}
 use Rattle.rules.specs.Words.{Input, input_of}
 use Rattle.rules.specs.Table.{size, kind, operand}
 use Rattle.rules.specs.Formula.{equation_count, equation_of, equation_number, formula_tree}
 use Rattle.rules.specs.Depth.{references, contribution, reading, Ranking, least_bit}
 use Rattle.tables.specs.Good.{GoodFormula}
+use Rattle.node_kinds.specs.Codes.{formula_code}
+use Rattle.modal_equation_system.specs.declared.EquationTable.{EquationTable}
 
 -- an input with this formula: depths and priorities depend on nothing else (law `by_depth_words` of crate trees)
 abbrev pub formula_only : List ℕ → Input
 formula_only f = input_of [] [] [] f
 
+-- more than every word of the formula: for so many nodes of action formulas it is in order, if it is for any number
+-- (law `good_formula`)
+unfoldable pub named : List ℕ → ℕ
+named f = suc (largest f)
+
 -- the formula is in order, for some number of nodes of action formulas
 pub record Good (f : List ℕ) : Type 0 where
-  pub actions : ℕ
-  pub formula : GoodFormula actions f
+  pub formula : GoodFormula (named f) f
 
--- ---- where the table has its words: the links of 1,024 nodes, their kinds, the first body nodes of 1,025 equations,
--- their operators
+-- ---- what the table has: the links of nodes, their kinds, the first body nodes of equations, their operators
 
--- how many words that is
-abbrev pub table_words : ℕ
-table_words = 4_098
+abbrev pub link_in : EquationTable → (node : ℕ) → ℕ
+link_in t v = word t.links v
 
-abbrev pub link_in : List ℕ → (node : ℕ) → ℕ
-link_in t v = word t v
+abbrev pub kind_in : EquationTable → (node : ℕ) → ℕ
+kind_in t v = word (map formula_code t.kinds) v
 
-abbrev pub kind_in : List ℕ → (node : ℕ) → ℕ
-kind_in t v = word t (1_024 + v)
+abbrev pub body_in : EquationTable → (equation : ℕ) → ℕ
+body_in t i = word t.bodies i
 
-abbrev pub body_in : List ℕ → (equation : ℕ) → ℕ
-body_in t i = word t (2_048 + i)
-
-abbrev pub least_in : List ℕ → (equation : ℕ) → ℕ
-least_in t i = word t (3_073 + i)
-
-abbrev pub with_node : List ℕ → (node link kind : ℕ) → List ℕ
-with_node t v l k = set (set t v l) (1_024 + v) k
-
-abbrev pub with_equation : List ℕ → (equation body least : ℕ) → List ℕ
-with_equation t i b o = set (set t (2_048 + i) b) (3_073 + i) o
+-- 1 for a least equation
+abbrev pub least_in : EquationTable → (equation : ℕ) → ℕ
+least_in t i = word (map one t.least) i
 
 -- ---- what they are
 
@@ -51,18 +47,17 @@ pub record Link (f : List ℕ) (v link : ℕ) : Type 0 where
   pub outer : 8 ≤ kind f v → link ≡ equation_number f (operand f v)
 
 -- the nodes before v have their links
-abbrev pub Linked : List ℕ → (v : ℕ) (table : List ℕ) → Type 0
+abbrev pub Linked : List ℕ → (v : ℕ) (table : EquationTable) → Type 0
 Linked f v t = (u : ℕ) → u < v → Link f u (link_in t u)
 
 -- The table of the equations of f: for each node its link and its kind; for each equation the first node of its body,
 -- and 1 if it is a least one
-pub record Listed (f table : List ℕ) : Type 0 where
+pub record Listed (f : List ℕ) (table : EquationTable) : Type 0 where
   pub good : Good f
   pub link : Linked f (size f) table
   pub kinds : (v : ℕ) → v < size f → kind_in table v ≡ kind f v
   pub body : (i : ℕ) → i < equation_count f → body_in table i ≡ (equation_of f i).body
   pub operator : (i : ℕ) → i < equation_count f → least_in table i ≡ least_bit (equation_of f i).operator
-  pub long : length table ≡ table_words
 
 -- ---- reading
 
@@ -73,27 +68,6 @@ counted f t i j = contribution f t i j (reading (formula_only f) t j)
 -- the largest of these over the references in the subformula of node v
 unfoldable pub body_reading : List ℕ → (t i v : ℕ) → ℕ
 body_reading f t i v = largest (map (counted f t i) (references (formula_tree (formula_only f) v)))
-
--- the table is that of a formula with this node and this equation
-pub record ListedNode (table : List ℕ) (node equation : ℕ) : Type 0 where
-  pub formula : List ℕ
-  pub listed : Listed formula table
-  pub inside : node < size formula
-  pub below : equation < equation_count formula
-
--- the table is that of a formula with this equation
-pub record ListedEquation (table : List ℕ) (equation : ℕ) : Type 0 where
-  pub formula : List ℕ
-  pub listed : Listed formula table
-  pub below : equation < equation_count formula
-
--- r is the reading of a body, whatever formula the table is of
-abbrev pub ReadsBody : (table : List ℕ) (node equation target r : ℕ) → Type 0
-ReadsBody t v i target r = (f : List ℕ) → Listed f t → v < size f → i < equation_count f → r ≡ body_reading f target i v
-
--- r is the reading of an equation, whatever formula the table is of
-abbrev pub ReadsEquation : (table : List ℕ) (equation target r : ℕ) → Type 0
-ReadsEquation t i target r = (f : List ℕ) → Listed f t → i < equation_count f → r ≡ reading (formula_only f) target i
 
 -- a table that shows the priorities of the first n equations by this ranking, and past them what it showed before
 pub record RankedBy (rank : Ranking) (f : List ℕ) (n : ℕ) (before after : List ℕ) : Type 0 where

@@ -6,6 +6,8 @@ use Prim.Native.Nat.{ℕ, suc, ◌+◌, ◌-◌, ◌≤◌, ◌<◌}
 use native.Mathlib.Omega.{arith}
 use lib.Dec.{eqb}
 use lib.ListN.{length}
+use Rattle.std.specs.declared.result.Result.TheVariants.{Ok, Err}
+use Rattle.pairs.specs.declared.NoRoom.{NoRoom}
 use Rattle.rules.specs.Lists.{from, once}
 use Rattle.rules.specs.Words.{most_transitions}
 use Rattle.rules.specs.declared.Room.{Room}
@@ -13,7 +15,6 @@ use Rattle.rules.specs.System.{state_count, transition_target}
 use Rattle.lists.proofs.Ranges.{from-length, from-append, from_snoc, in_from}
 use Rattle.settling.specs.declared.Counters.{Counters}
 use Rattle.settling.specs.declared.Operand.{Operand}
-use Rattle.settling.specs.declared.Stepped.TheVariants.{Fits, Full}
 use Rattle.settling.specs.Made.{Ready, Made, TooMany, tallies, Gathering, Gathered, Raisable}
 use Rattle.settling.proofs.Marking.{gathering_none, gathering_marks, gathering_counts, gathered_many}
 use Rattle.modalities.specs.Matched.{Spacious, answered_keys}
@@ -26,7 +27,7 @@ pub record Following (ss answers : List ℕ) (room : Room) (o : Operand) (first 
   pub until : t ≤ end
   pub same : length w ≡ length w₀
   pub gathering : Gathering w₀ room.vertices room.edges c₀ o
-      (answered_keys ss answers o.item (from first (t - first))) w c
+      (answered_keys ss answers o.item.number (from first (t - first))) w c
 
 module _ (ss answers : List ℕ) (room : Room) (o : Operand) (first end : ℕ) (w₀ : List ℕ) (c₀ : Counters) where
   abbrev v : ℕ
@@ -36,7 +37,7 @@ module _ (ss answers : List ℕ) (room : Room) (o : Operand) (first end : ℕ) (
   e = room.edges
 
   abbrev item : ℕ
-  item = o.item
+  item = o.item.number
 
   given : ℕ → List ℕ
   given t = answered_keys ss answers item (from first (t - first))
@@ -106,7 +107,7 @@ module _ (ss answers : List ℕ) (room : Room) (o : Operand) (first end : ℕ) (
 
     pub following_on : (c' : Counters) → length w' ≡ length w
         → Gathered w₀ v e c₀ o (answered_keys ss answers item (from first (t - first))
-        ++ answered_keys ss answers item (t ∷ [])) w' (Fits c')
+        ++ answered_keys ss answers item (t ∷ [])) w' (Ok c')
         → Following ss answers room o first end w₀ c₀ w' c' (t + 1)
     unfolding given
     following_on c' l b =
@@ -118,11 +119,11 @@ module _ (ss answers : List ℕ) (room : Room) (o : Operand) (first end : ℕ) (
         }
 
     -- too many at this turn are too many at the end
-    pub following_many : Gathered w₀ v e c₀ o (answered_keys ss answers item (from first (t - first))
-        ++ answered_keys ss answers item (t ∷ [])) w' Full
+    pub following_many : (x : NoRoom) → Gathered w₀ v e c₀ o (answered_keys ss answers item (from first (t - first))
+        ++ answered_keys ss answers item (t ∷ [])) w' (Err x)
         → TooMany w₀ v e c₀ (once eqb (answered_keys ss answers item (from first (end - first))))
     unfolding given
-    following_many b =
+    following_many x b =
         let ks = given t ++ answered_keys ss answers item (t ∷ []) in
         let later = answered_keys ss answers item (from (t + 1) (end - (t + 1))) in
         subst (λ (l : List ℕ). TooMany w₀ v e c₀ (once eqb l)) (ap (λ (l : List ℕ). l ++ later) more ∙ rest)

@@ -23,7 +23,7 @@ use Rattle.lists.proofs.Occurrences.{occurs_map}
 use Rattle.pairs.specs.Slot.{key_of}
 use Rattle.settling.specs.Made.{tallies}
 use Rattle.modalities.specs.declared.Modality.{Modality}
-use Rattle.modalities.specs.declared.Moves.{Moves}
+use Rattle.modalities.specs.declared.moves.Moves.{Moves}
 use Rattle.modalities.specs.Matched.{Answered, target_keys, matched_keys, answered_keys, numbers_of, OfState}
 use Rattle.modalities.specs.Matched.{modality_keys, modality_counts}
 

@@ -10,11 +10,15 @@ use borrow.Author.Tests.{leb-true, leb-false, le-leb, lt-leb, ltb-true, ltb-fals
 use Rattle.rules.specs.declared.Room.{Room}
 use Rattle.rules.specs.System.{state_count}
 use Rattle.settling.specs.declared.Counters.{Counters}
-use Rattle.settling.specs.declared.Stepped.{Stepped}
-use Rattle.settling.specs.declared.Stepped.TheVariants.{Fits, Full}
+use Rattle.settling.specs.declared.MarkedBy.{MarkedBy}
+use Rattle.settling.specs.declared.MarkedBy.TheVariants.{State, Vertex}
+use Rattle.pairs.specs.declared.ScaledItem.{ScaledItem}
+use Rattle.std.specs.Prelude.{Result}
+use Rattle.std.specs.declared.result.Result.TheVariants.{Ok, Err}
+use Rattle.pairs.specs.declared.NoRoom.{NoRoom}
 use Rattle.settling.specs.Made.{Ready, Made, Answer, MarksCleared}
 use Rattle.settling.proofs.Make.{made_more, many_more, made_cleared, marks_cleared}
-use Rattle.modalities.specs.Matched.{mark_count, Unmarked, Spacious}
+use Rattle.modalities.specs.Matched.{mark_count, marked_by, Unmarked, Spacious}
 
 -- ---- the number of marks, as the code finds it
 
@@ -65,6 +69,21 @@ counted v e edges states transitions =
         let wide = ltb-true (edges + states + (states - v)) e q in
         record { least = omega arith; apart = λ h. (refl, omega arith); fewer = λ h. absurd (omega arith) }
 
+-- what tells the marks says how many there are
+by_states : MarkedBy → Type 0
+by_states State = Unit
+by_states Vertex = ⊥
+
+told_state : (b : Bool) (m : MarkedBy) → m ≡ cond b State Vertex → m ≡ State → b ≡ true
+unfolding by_states
+told_state true m e h = refl
+told_state false m e h = absurd (subst by_states (sym h ∙ e) tt)
+
+told_vertex : (b : Bool) (m : MarkedBy) → m ≡ cond b State Vertex → m ≡ Vertex → b ≡ false
+unfolding by_states
+told_vertex true m e h = absurd (subst by_states (sym e ∙ h) tt)
+told_vertex false m e h = refl
+
 module _ (w : List ℕ) (room : Room) (c : Counters) (states transitions marks : ℕ)
     (counts : marks ≡ mark_count room.vertices room.edges c.edges states transitions) where
   facts : Counted room.vertices room.edges c.edges states marks
@@ -91,22 +110,22 @@ module _ (w : List ℕ) (room : Room) (c : Counters) (states transitions marks :
     pub cleared_ready : Ready w₁ room.vertices room.edges c
     cleared_ready = cleared.ready
 
-    pub cleared_spacious : (ss : List ℕ) → states ≡ state_count ss → (item scaled : ℕ)
-        → Spacious w₁ ss room
-        (record { item = item; scaled = scaled; start = c.edges; by_state = leb states marks; marks = marks }) c
-    cleared_spacious ss told item scaled =
+    pub cleared_spacious : (ss : List ℕ) → states ≡ state_count ss → (item : ScaledItem) (by : MarkedBy)
+        → by ≡ marked_by states marks
+        → Spacious w₁ ss room (record { item = item; start = c.edges; marked_by = by; marks = marks }) c
+    cleared_spacious ss told item by is =
         record {
           marks = marks_cleared w w₁ room.vertices marks c.edges k u.1;
           least = facts.least;
-          states = λ z. omega (arith, leb-true states marks z, told);
+          states = λ z. omega (arith, leb-true states marks (told_state (leb states marks) by is z), told);
           apart = λ h. ((facts.apart h).0 ∙ told, omega (arith, (facts.apart h).1, told));
-          vertices = λ z. facts.fewer (leb-false states marks z);
+          vertices = λ z. facts.fewer (leb-false states marks (told_vertex (leb states marks) by is z));
         }
 
     -- what is answered from there on is answered from the beginning
-    pub cleared_answer : (ts cs w₂ : List ℕ) (r : Stepped)
+    pub cleared_answer : (ts cs w₂ : List ℕ) (r : Result Counters NoRoom)
         → Answer w₁ room.vertices room.edges c ts cs w₂ r → Answer w room.vertices room.edges c ts cs w₂ r
-    cleared_answer ts cs w₂ (Fits c') a =
+    cleared_answer ts cs w₂ (Ok c') a =
         made_more room.vertices room.edges w w₁ w₂ c c c' [] ts [] cs cleared a
-    cleared_answer ts cs w₂ Full a =
+    cleared_answer ts cs w₂ (Err x) a =
         many_more room.vertices room.edges w w₁ w₂ c c c [] ts [] cs cleared a

@@ -1,1 +1,4 @@
+pub mod Tables
+pub mod Within
 pub mod Matched
+pub mod Facts

@@ -1,30 +1,23 @@
 -- The targets that a modality's transitions give, as keys, and what matching their labels asks of the words. Assumes
 -- nothing: these are definitions.
-use Rattle.std.specs.Prelude.{◌≡◌, true, false, cond, List, map, ℕ, ◌+◌, ◌-◌, ◌≤◌, ◌<◌, eqb, leb, ltb, length}
+use Rattle.std.specs.Prelude.{◌≡◌, cond, List, map, ℕ, ◌+◌, ◌-◌, ◌≤◌, ◌<◌, eqb, leb, ltb, length}
 use Rattle.rules.specs.declared.Room.{Room}
 use Rattle.rules.specs.Lists.{word, one, from, filter, occurrences}
 use Rattle.rules.specs.Words.{Input}
-use Rattle.rules.specs.Labels.{label_count, multiset}
-use Rattle.rules.specs.System.{state_count, transition_count, transition_label, transition_target, first_transition, degree}
+use Rattle.rules.specs.Labels.{multiset}
+use Rattle.rules.specs.System.{state_count, transition_label, transition_target, first_transition, degree}
 use Rattle.rules.specs.Table.{size}
 use Rattle.rules.specs.Actions.{Action, action_tree, matches}
 use Rattle.rules.specs.Pairs.{matching_transitions, successors}
-use Rattle.tables.specs.Good.{GoodLabels, GoodSystem, GoodActions}
-use Rattle.labels.specs.Classes.{Classes}
 use Rattle.pairs.specs.Slot.{key_of}
 use Rattle.settling.specs.declared.Counters.{Counters}
+use Rattle.settling.specs.declared.MarkedBy.{MarkedBy}
+use Rattle.settling.specs.declared.MarkedBy.TheVariants.{State, Vertex}
 use Rattle.settling.specs.declared.Operand.{Operand}
 use Rattle.settling.specs.Stand.{marks_of}
 use Rattle.settling.specs.Made.{Marks, Ready}
 use Rattle.modalities.specs.declared.Modality.{Modality}
-use Rattle.modalities.specs.declared.Moves.{Moves}
-
--- system and action formulas fit the labels, and the table has the labels' multisets
-pub record Labelled (ls ss acts classes : List ℕ) : Type 0 where
-  pub labels : GoodLabels ls
-  pub system : GoodSystem (label_count ls) ss
-  pub actions : GoodActions (label_count ls) acts
-  pub table : Classes ls classes
+use Rattle.modalities.specs.declared.moves.Moves.{Moves}
 
 -- no mark is past the edges, so that no vertex has the mark of an edge that is made from here on
 abbrev pub Unmarked : List ℕ → Room → Counters → Type 0
@@ -36,15 +29,19 @@ mark_count v e edges states transitions =
     cond (leb states v) v
     (cond (ltb transitions (states - v)) v (cond (ltb (edges + states + (states - v)) e) states v))
 
+-- what tells so many marks: the states, where there is a mark for each of so many
+abbrev pub marked_by : (states marks : ℕ) → MarkedBy
+marked_by states marks = cond (leb states marks) State Vertex
+
 -- no mark is past the edges; marks by state have one for each state, and where that is more than the region has, they
 -- and the edges of a step, at most one for each state, have different words
 pub record Spacious (w ss : List ℕ) (room : Room) (o : Operand) (c : Counters) : Type 0 where
   pub marks : (i : ℕ) → i < o.marks → word (marks_of w room.vertices o.marks) i ≤ c.edges
   pub least : room.vertices ≤ o.marks
-  pub states : o.by_state ≡ true → state_count ss ≤ o.marks
+  pub states : o.marked_by ≡ State → state_count ss ≤ o.marks
   pub apart : room.vertices < o.marks
       → (o.marks ≡ state_count ss) × (o.marks + (c.edges + state_count ss) < room.vertices + room.edges)
-  pub vertices : o.by_state ≡ false → o.marks ≡ room.vertices
+  pub vertices : o.marked_by ≡ Vertex → o.marks ≡ room.vertices
 
 -- ---- a modality at a state
 
@@ -100,13 +97,6 @@ answered_keys ss answers item ts =
 -- the numbers of the transitions
 abbrev pub numbers_of : Moves → List ℕ
 numbers_of m = from m.first (m.end - m.first)
-
--- they are transitions of the system, whose labels and targets begin where the numbers say
-pub record Within (ss : List ℕ) (m : Moves) : Type 0 where
-  pub rises : m.first ≤ m.end
-  pub inside : m.end ≤ transition_count ss
-  pub labels : m.labels ≡ 3 + state_count ss
-  pub targets : m.targets ≡ 3 + state_count ss + transition_count ss
 
 -- they are those of state s
 pub record OfState (ss : List ℕ) (s : ℕ) (m : Moves) : Type 0 where

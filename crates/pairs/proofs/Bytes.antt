@@ -1,10 +1,9 @@
 -- A table of byte multiples is right if one test says so of all its entries. Assumes nothing.
-use Rattle.std.proofs.Common.{◌≡◌, ℕ, zero, suc, ◌+◌, ◌*◌, ◌%◌, ◌^◌, ◌<◌, ◌≤◌, Bool, true, false, ◌&&◌, eqb, List, length, sym, refl, ap, ◌∙◌, zero-add, arith, get_or-take, eqb-true}
+use Rattle.std.proofs.Common.{◌≡◌, ℕ, zero, suc, ◌+◌, ◌*◌, ◌%◌, ◌^◌, ◌<◌, ◌≤◌, Bool, true, false, ◌&&◌, eqb, List, ◌++◌, length, sym, refl, ap, ◌∙◌, zero-add, arith, length-append, eqb-true}
+use Rattle.std.proofs.Math.ListN.{get_or-append}
 use mathlib.Core.Bool.{false≢true}
 use native.Mathlib.Decide.{ℕ_discrete}
-use lib.Seq.{length-slice, slice}
 use Rattle.rules.specs.Lists.{word, every}
-use Rattle.words.specs.Stretches.{Wrote}
 use Rattle.pairs.specs.Slot.{Multiples}
 
 -- the entry for byte b is its multiple
@@ -32,11 +31,10 @@ pub right_multiples : (table : List ℕ) → 256 ≤ length table → every (rig
 unfolding right
 right_multiples table long e = record { room = long; right = λ b h. eqb-true (word table b) (b * 2654435761 % 2 ^ 32) (each (right table) 256 e b h) }
 
--- a table whose front is written from one that is right
-pub written_multiples : (table out out' : List ℕ) (r : ℕ) → Multiples table → 256 ≤ length out → length out' ≡ length out → Wrote 0 (slice 0 256 table) out out' r → Multiples out'
-written_multiples table out out' r m long same w = record {
-  room = omega arith;
-  right = λ b h.
-      let e = length-slice 0 256 table m.room in
-      sym (get_or-take r out' b 0 (omega (arith, e, w.past))) ∙ ap (λ (l : List ℕ). word l b) w.words ∙ get_or-take 256 table b 0 h ∙ m.right b h;
-}
+-- a table whose front is one that is right
+pub written_multiples : (table rest : List ℕ) → Multiples table → Multiples (table ++ rest)
+written_multiples table rest m =
+    record {
+      room = omega (arith, length-append table rest, m.room);
+      right = λ b h. get_or-append table rest 0 b (omega (arith, m.room)) ∙ m.right b h;
+    }

@@ -1,6 +1,8 @@
 -- Numbering a pair: what holds of the words in each case. Assumes nothing.
 use Rattle.std.proofs.Common.{◌≡◌, ℕ, ◌+◌, ◌*◌, ◌<◌, eqb, List, [], ◌∷◌, ◌++◌, length, take, drop, set, sym, refl, ap, ◌∙◌, subst, subst₂, arith, lit<, length-append, get_or-set_other, get_or-set_same, drop-set-lt}
 use native.Mathlib.Decide.{ℕ_discrete}
+use Rattle.std.specs.declared.option.Option.{Option}
+use Rattle.std.specs.declared.option.Option.TheVariants.{Some, None}
 use Rattle.player.specs.declared.VertexIndex.{VertexIndex}
 use Rattle.rules.specs.Lists.{word, In, position, insert}
 use Rattle.lists.proofs.Members.{position_out}
@@ -9,7 +11,7 @@ use Rattle.lists.proofs.Equalities.{number_equality}
 use Rattle.words.specs.Regions.{region, put_word}
 use Rattle.words.proofs.Regions.{region_past, region_same, rest_put, length-region}
 use Rattle.pairs.specs.declared.Place.{Place}
-use Rattle.pairs.specs.declared.Place.TheVariants.{Known, Free, Nowhere}
+use Rattle.pairs.specs.declared.Place.TheVariants.{Known, Free}
 use Rattle.pairs.specs.Slot.{key_of}
 use Rattle.pairs.specs.Table.{slots_of, keys_in, keys_of, Slots, Asks}
 use Rattle.pairs.specs.Answers.{Fresh, Finding, Numbers, Full}
@@ -42,7 +44,7 @@ module _ (w : List ℕ) (v n s q : ℕ) (a : Asks w v n s q) where
   k = key_of s q
 
   -- what `find` answered is f
-  pub there : (f : Place) (i : VertexIndex) → Finding w v n k f → f ≡ Known i → Numbers w w v n k i.0 n
+  pub there : (f : Option Place) (i : VertexIndex) → Finding w v n k f → f ≡ Some (Known i) → Numbers w w v n k i.0 n
   there f i d e =
       let p : In k (keys_of w v n) × (i.0 ≡ position eqb k (keys_of w v n)) = subst (Finding w v n k) e d in
       let o : insert eqb (keys_of w v n) k ≡ keys_of w v n = insert_old number_equality (keys_of w v n) k p.0 in
@@ -54,18 +56,18 @@ module _ (w : List ℕ) (v n s q : ℕ) (a : Asks w v n s q) where
       ∙ length-append (keys_of w v n) (k ∷ [])
       ∙ ap (λ (m : ℕ). m + 1) (length-keys_in _ n)
 
-  pub full : (f : Place) (p : ℕ) → Finding w v n k f → f ≡ Free p → n ≡ v → Full w w v n k
+  pub full : (f : Option Place) (p : ℕ) → Finding w v n k f → f ≡ Some (Free p) → n ≡ v → Full w w v n k
   full f p d e h =
       let g : Fresh w v n k p = subst (Finding w v n k) e d in
       record { more = omega (arith, longer g.new); kept = refl }
 
   -- both words of the slot found are words of the slots
-  pub free_within : (f : Place) (p : ℕ) → Finding w v n k f → f ≡ Free p → 2 * p + 1 < 3 * v
+  pub free_within : (f : Option Place) (p : ℕ) → Finding w v n k f → f ≡ Some (Free p) → 2 * p + 1 < 3 * v
   free_within f p d e =
       let g : Fresh w v n k p = subst (Finding w v n k) e d in
       omega (arith, g.path.within)
 
-  pub nowhere_full : (f : Place) → Finding w v n k f → f ≡ Nowhere → Full w w v n k
+  pub nowhere_full : (f : Option Place) → Finding w v n k f → f ≡ None → Full w w v n k
   nowhere_full f d e =
       let g : (¬ In k (keys_of w v n)) × (n ≡ v) = subst (Finding w v n k) e d in
       record { more = omega (arith, longer g.0, g.1); kept = refl }
@@ -127,7 +129,7 @@ module _ (w : List ℕ) (v n s q : ℕ) (a : Asks w v n s q) where
         }
 
   -- from what each call ensures, in the order of the calls
-  pub added_by : (f : Place) (p : ℕ) (w1 w2 w3 : List ℕ) → n < v → Finding w v n k f → f ≡ Free p → w1 ≡ put_word 0 (3 * v) (2 * p) k w
+  pub added_by : (f : Option Place) (p : ℕ) (w1 w2 w3 : List ℕ) → n < v → Finding w v n k f → f ≡ Some (Free p) → w1 ≡ put_word 0 (3 * v) (2 * p) k w
       → w2 ≡ put_word 0 (3 * v) (2 * p + 1) (n + 1) w1 → w3 ≡ put_word 3 v n k w2 → Numbers w w3 v n k n (n + 1)
   added_by f p w1 w2 w3 room d e e₁ e₂ e₃ =
       let g : w3 ≡ numbered w v n k p = cc in

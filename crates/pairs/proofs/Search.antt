@@ -1,9 +1,10 @@
 -- The search for a key: along a stretch of slots, and over all of them from the key's own slot. Assumes nothing.
 use Rattle.std.proofs.Common.{◌≡◌, ℕ, ◌+◌, ◌<◌, ◌≤◌, List, length, subst, arith}
 use native.Mathlib.Decide.{dec_lt, ℕ_discrete}
-use Rattle.player.specs.declared.VertexIndex.{VertexIndex}
+use Rattle.std.specs.declared.option.Option.{Option}
+use Rattle.std.specs.declared.option.Option.TheVariants.{Some, None}
 use Rattle.pairs.specs.declared.Place.{Place}
-use Rattle.pairs.specs.declared.Place.TheVariants.{Known, Free, Nowhere}
+use Rattle.pairs.specs.declared.Place.TheVariants.{Known, Free}
 use Rattle.pairs.specs.Slot.{slot_of}
 use Rattle.pairs.specs.Table.{slot_count, slots_of, key_in, held_in, keys_of, Path, Table}
 use Rattle.pairs.specs.Answers.{Others, Has, Ends, Probed, Finding}
@@ -40,11 +41,11 @@ module _ (w : List ℕ) (v n k : ℕ) (t : Table w v n) where
   long : length (keys_of w v n) ≡ n
   long = length-keys_in _ n
 
-  pub known : (a b i : ℕ) → b ≤ size → Has slots a b k i → Finding w v n k (Known (record { 0 = i }))
+  pub known : (a b i : ℕ) → b ≤ size → Has slots a b k i → Finding w v n k (Some (Known (record { 0 = i })))
   known a b i h f = found_at slots (keys_of w v n) v n t.slots long f.slot k i (omega (arith, f.to)) f.key f.holds
 
   -- an empty slot between the key's own and the last one
-  pub free_first : (p : ℕ) → Ends slots home size k p → Finding w v n k (Free p)
+  pub free_first : (p : ℕ) → Ends slots home size k p → Finding w v n k (Some (Free p))
   free_first p f =
       record {
         new =
@@ -70,7 +71,7 @@ module _ (w : List ℕ) (v n k : ℕ) (t : Table w v n) where
 
   module _ (last : Others slots home size k) where
     -- an empty slot before the key's own, where none is behind it
-    pub free_second : (p : ℕ) → home < size → Ends slots 0 home k p → Finding w v n k (Free p)
+    pub free_second : (p : ℕ) → home < size → Ends slots 0 home k p → Finding w v n k (Some (Free p))
     free_second p b f =
         record {
           new =
@@ -94,7 +95,7 @@ module _ (w : List ℕ) (v n k : ℕ) (t : Table w v n) where
                 elim (ℕ_discrete q p) [ yes y ↦ (let z : held_in slots q ≡ 0 = rw y f.empty in omega arith) | no y ↦ (let z = a.again l p (omega arith) in omega (arith, f.empty)) ]
 
     -- no empty slot
-    pub nowhere : Others slots 0 home k → Finding w v n k Nowhere
+    pub nowhere : Others slots 0 home k → Finding w v n k None
     nowhere first = (
       absent slots (keys_of w v n) v n t.slots long k
           (λ q a h e. elim (dec_lt q home) [ yes l ↦ first.other q (omega arith) l e | no m ↦ last.other q (omega arith) a.within e ]),
@@ -105,17 +106,18 @@ module _ (w : List ℕ) (v n k : ℕ) (t : Table w v n) where
   -- ---- by what the calls answered, of which h is the key's own slot
 
   module _ (h : ℕ) (own : h ≡ home) where
-    pub first-known : (r : Place) (i : VertexIndex) → Probed slots h size k r → r ≡ Known i → Finding w v n k (Known i)
-    first-known r i f e = known h size i.0 (omega arith) (subst (Probed slots h size k) e f)
+    pub first : (r r₁ : Option Place) (f : Place) → Probed slots h size k r₁ → r₁ ≡ Some f → r ≡ Some f → Finding w v n k r
+    first r r₁ f p e g = rw g (by f (subst (Probed slots h size k) e p))
+      where
+        by : (f : Place) → Probed slots h size k (Some f) → Finding w v n k (Some f)
+        by (Known i) q = known h size i.0 (omega arith) q
+        by (Free p) q = free_first p (subst (λ (x : ℕ). Ends slots x size k p) own q)
 
-    pub first-free : (r : Place) (p : ℕ) → Probed slots h size k r → r ≡ Free p → Finding w v n k (Free p)
-    first-free r p f e = free_first p (subst (λ (x : ℕ). Ends slots x size k p) own (subst (Probed slots h size k) e f))
-
-    pub second : (r : Place) → home < size → (r₁ : Place) → Probed slots h size k r₁ → r₁ ≡ Nowhere → Probed slots 0 h k r → Finding w v n k r
+    pub second : (r : Option Place) → home < size → (r₁ : Option Place) → Probed slots h size k r₁ → r₁ ≡ None → Probed slots 0 h k r → Finding w v n k r
     second r b r₁ f e g =
         by r (subst (λ (x : ℕ). Others slots x size k) own (subst (Probed slots h size k) e f)) (subst (λ (x : ℕ). Probed slots 0 x k r) own g)
       where
-        by : (r : Place) → Others slots home size k → Probed slots 0 home k r → Finding w v n k r
-        by (Known i) last g = known 0 home i.0 (omega arith) g
-        by (Free p) last g = free_second last p b g
-        by Nowhere last g = nowhere last g
+        by : (r : Option Place) → Others slots home size k → Probed slots 0 home k r → Finding w v n k r
+        by (Some (Known i)) last g = known 0 home i.0 (omega arith) g
+        by (Some (Free p)) last g = free_second last p b g
+        by None last g = nowhere last g

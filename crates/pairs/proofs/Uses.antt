@@ -1,13 +1,14 @@
 -- What a caller reads off a numbering, and that the table stays where the first four regions stay. Assumes nothing.
 use Rattle.std.proofs.Common.{◌≡◌, ℕ, ◌+◌, ◌/◌, ◌%◌, ◌<◌, eqb, List, [], ◌∷◌, length, sym, ap, ◌∙◌, subst, arith, lit<, length-append}
-use Rattle.player.specs.declared.VertexIndex.{VertexIndex}
+use Rattle.std.specs.Prelude.{Result}
+use Rattle.std.specs.declared.result.Result.TheVariants.{Ok, Err}
 use Rattle.rules.specs.Lists.{word, In, position, insert}
 use Rattle.lists.proofs.Inserts.{insert_old, insert_new}
 use Rattle.lists.proofs.Equalities.{number_equality}
 use Rattle.lists.proofs.Members.{position_out}
 use Rattle.words.specs.Regions.{region}
 use Rattle.pairs.specs.declared.Numbered.{Numbered}
-use Rattle.pairs.specs.declared.Numbered.TheVariants.{Vertex, NoRoom}
+use Rattle.pairs.specs.declared.NoRoom.{NoRoom}
 use Rattle.pairs.specs.Slot.{key_of}
 use Rattle.pairs.specs.Table.{key_at, keys_of, Table}
 use Rattle.pairs.specs.Answers.{Numbers, Full, Numbering}
@@ -52,11 +53,12 @@ key_word w v n i h = get_d_keys_in (region 3 v w) n i h
 
 -- ---- which answer it was
 
-pub numbers_by : (w w' : List ℕ) (v n k : ℕ) (r : Numbered) (i : VertexIndex) (m : ℕ) → Numbering w w' v n k r → r ≡ Vertex i m → Numbers w w' v n k i.0 m
-numbers_by w w' v n k r i m p e = subst (λ (a : Numbered). Numbering w w' v n k a) e p
+pub numbers_by : (w w' : List ℕ) (v n k : ℕ) (r : Result Numbered NoRoom) (a : Numbered) → Numbering w w' v n k r → r ≡ Ok a
+    → Numbers w w' v n k a.vertex.0 a.known
+numbers_by w w' v n k r a p e = subst (Numbering w w' v n k) e p
 
-pub full_by : (w w' : List ℕ) (v n k : ℕ) (r : Numbered) → Numbering w w' v n k r → r ≡ NoRoom → Full w w' v n k
-full_by w w' v n k r p e = subst (λ (a : Numbered). Numbering w w' v n k a) e p
+pub full_by : (w w' : List ℕ) (v n k : ℕ) (r : Result Numbered NoRoom) (x : NoRoom) → Numbering w w' v n k r → r ≡ Err x → Full w w' v n k
+full_by w w' v n k r x p e = subst (Numbering w w' v n k) e p
 
 -- ---- key k was inserted
 

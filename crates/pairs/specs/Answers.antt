@@ -1,10 +1,14 @@
 -- What looking a pair up and numbering it answer. Assumes nothing: these are definitions.
 use Rattle.std.specs.Prelude.{◌≡◌, ℕ, ◌+◌, ◌*◌, ◌<◌, ◌≤◌, List, length, drop, ◌≢◌, nat_eq}
+use Rattle.std.specs.Prelude.{Result}
+use Rattle.std.specs.declared.option.Option.{Option}
+use Rattle.std.specs.declared.option.Option.TheVariants.{Some, None}
+use Rattle.std.specs.declared.result.Result.TheVariants.{Ok, Err}
 use Rattle.rules.specs.Lists.{In, position, insert}
 use Rattle.pairs.specs.declared.Place.{Place}
-use Rattle.pairs.specs.declared.Place.TheVariants.{Known, Free, Nowhere}
+use Rattle.pairs.specs.declared.Place.TheVariants.{Known, Free}
 use Rattle.pairs.specs.declared.Numbered.{Numbered}
-use Rattle.pairs.specs.declared.Numbered.TheVariants.{Vertex, NoRoom}
+use Rattle.pairs.specs.declared.NoRoom.{NoRoom}
 use Rattle.pairs.specs.Slot.{slot_of}
 use Rattle.pairs.specs.Table.{slot_count, slots_of, key_in, held_in, keys_of, Path, Table}
 
@@ -30,10 +34,10 @@ pub record Ends (slots : List ℕ) (a b k p : ℕ) : Type 0 where
   pub empty : held_in slots p ≡ 0
   pub before : Others slots a p k
 
-abbrev pub Probed : List ℕ → (a b k : ℕ) → Place → Type 0
-Probed slots a b k (Known i) = Has slots a b k i.0
-Probed slots a b k (Free p) = Ends slots a b k p
-Probed slots a b k Nowhere = Others slots a b k
+abbrev pub Probed : List ℕ → (a b k : ℕ) → Option Place → Type 0
+Probed slots a b k (Some (Known i)) = Has slots a b k i.0
+Probed slots a b k (Some (Free p)) = Ends slots a b k p
+Probed slots a b k None = Others slots a b k
 
 -- ---- in the table
 
@@ -45,10 +49,10 @@ pub record Fresh (w : List ℕ) (v n k p : ℕ) : Type 0 where
 
 -- key k is looked up: it is known by its place among the keys, or it is new; no slot is empty only where there is no
 -- room for one vertex more
-abbrev pub Finding : List ℕ → (v n k : ℕ) → Place → Type 0
-Finding w v n k (Known i) = In k (keys_of w v n) × (i.0 ≡ position nat_eq k (keys_of w v n))
-Finding w v n k (Free p) = Fresh w v n k p
-Finding w v n k Nowhere = (¬ In k (keys_of w v n)) × (n ≡ v)
+abbrev pub Finding : List ℕ → (v n k : ℕ) → Option Place → Type 0
+Finding w v n k (Some (Known i)) = In k (keys_of w v n) × (i.0 ≡ position nat_eq k (keys_of w v n))
+Finding w v n k (Some (Free p)) = Fresh w v n k p
+Finding w v n k None = (¬ In k (keys_of w v n)) × (n ≡ v)
 
 -- key k is inserted: it stands for vertex i, and m vertices are known now. All from region 4 on is as it was
 pub record Numbers (w w' : List ℕ) (v n k i m : ℕ) : Type 0 where
@@ -62,6 +66,6 @@ pub record Full (w w' : List ℕ) (v n k : ℕ) : Type 0 where
   pub more : v < length (insert nat_eq (keys_of w v n) k)
   pub kept : w' ≡ w
 
-abbrev pub Numbering : List ℕ → List ℕ → ℕ → ℕ → ℕ → Numbered → Type 0
-Numbering w w' v n k (Vertex i m) = Numbers w w' v n k i.0 m
-Numbering w w' v n k NoRoom = Full w w' v n k
+abbrev pub Numbering : List ℕ → List ℕ → ℕ → ℕ → ℕ → Result Numbered NoRoom → Type 0
+Numbering w w' v n k (Ok a) = Numbers w w' v n k a.vertex.0 a.known
+Numbering w w' v n k (Err e) = Full w w' v n k

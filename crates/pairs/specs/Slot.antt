@@ -15,8 +15,3 @@ slot_of key v = key * 2654435761 % 2 ^ 32 * v / 2 ^ 32
 pub record Multiples (table : List ℕ) : Type 0 where
   pub room : 256 ≤ length table
   pub right : (b : ℕ) → b < 256 → word table b ≡ b * 2654435761 % 2 ^ 32
-
--- the table, and the product of an item, which is the same for all targets of a modality
-pub record Scaled (table : List ℕ) (item scaled : ℕ) : Type 0 where
-  pub multiples : Multiples table
-  pub product : scaled ≡ item * 2654435761 % 2 ^ 32

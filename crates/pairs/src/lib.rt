@@ -5,17 +5,18 @@ ghost use Rattle.std.specs.Prelude.{◌≡◌, ◌+◌, ◌*◌, ◌%◌, ◌^�
 ghost use Rattle.rules.specs.Words.{most_states, most_vertices};
 ghost use Rattle.rules.specs.Lists.{word};
 ghost use Rattle.words.specs.Regions.{put_word};
-ghost use Rattle.pairs.specs.Slot.{key_of, slot_of, Multiples, Scaled};
+ghost use Rattle.pairs.specs.Slot.{key_of, slot_of, Multiples};
 ghost use Rattle.pairs.specs.Table.{slot_count, slots_of, key_in, held_in, state_at, item_at, InSlots, Asks, Started};
 ghost use Rattle.pairs.specs.Answers.{Probed, Finding, Numbering};
 
 use player::VertexIndex;
-use words::{KEYS, copy, put_word, region_word};
+use words::{KEYS, put_word, region_word};
 
 // The items have numbers below this: a pair's key is its state times it, plus its item.
 const ITEMS: u32 = 2048;
 
 // Each byte times 2,654,435,761, with everything above 32 bits dropped.
+// Kept (rule): document 01 asks for wrapping sums of the multiples of bytes here, until a later request.
 const MULTIPLES: [u32; 256] = [
     0, 2654435761, 1013904226, 3668339987, 2027808452, 387276917, 3041712678, 1401181143,
     4055616904, 2415085369, 774553834, 3428989595, 1788458060, 147926525, 2802362286, 1161830751,
@@ -53,7 +54,7 @@ const MULTIPLES: [u32; 256] = [
 
 // The table by value.
 fn byte_multiples() -> [u32; 256]
-    ensures { Multiples result }
+    ensures { (length result ≡ 256) × Multiples result }
 {
     MULTIPLES
 }
@@ -64,55 +65,81 @@ pub fn write_multiples(multiples: &mut [u32])
     ensures { Multiples multiples.new }
 {
     let table = byte_multiples();
-    copy(&table, 0, 256, multiples, 0);
+    multiples[..256].copy_from_slice(&table);
 }
 
-// The multiple of a byte.
-fn multiple(multiples: &[u32], byte: usize) -> u32
-    requires multiples { Multiples multiples.now }
-    requires byte_bound { byte < 256 }
-    ensures { result ≡ byte * 2654435761 % 2 ^ 32 }
-{
-    multiples[byte]
+// The table as it is lent: the word at each byte is the byte's multiple.
+#[derive(Clone, Copy)]
+pub struct ByteMultiples<'a> {
+    pub table: &'a [u32],
+    ghost right: { Multiples table.now },
 }
 
-// The factor times 2,654,435,761, with everything above 32 bits dropped: a wrapping sum of the multiples of its two
-// bytes.
-pub fn product(multiples: &[u32], factor: u32) -> u32
-    requires multiples { Multiples multiples.now }
-    requires factor_bound { factor < 65536 }
-    ensures { result ≡ factor * 2654435761 % 2 ^ 32 }
-{
-    let low = multiple(multiples, (factor % 256) as usize);
-    let high = multiple(multiples, (factor / 256) as usize) << 8;
-    std::num::wrapping_add_u32(low, high)
+// The number of an item with the item's product and the table, from which the slots are told: they are the same for all
+// targets of a modality.
+#[derive(Clone, Copy)]
+pub struct ScaledItem<'a> {
+    pub number: u32,
+    pub product: u32,
+    pub multiples: ByteMultiples<'a>,
+    ghost scaled: { product ≡ number * 2654435761 % 2 ^ 32 },
 }
 
-// The slot, of so many, from which the search for a pair starts. The product of the key is that of the state, times
-// 2,048, and that of the item, which is handed over: it is the same for all targets of a modality.
-fn slot_of(multiples: &[u32], state: u32, item: u32, scaled: u32, slots: u32) -> u32
-    requires scaled { Scaled multiples.now item scaled }
-    requires state_lt_most_states { (state < most_states) × (item < 2048) }
-    ensures { result ≡ slot_of (key_of state item) slots }
-{
-    let by_state = product(multiples, state) << 11;
-    let by_key = std::num::wrapping_add_u32(by_state, scaled);
-    ((by_key as u64) * (slots as u64) / 4294967296) as u32
+impl<'a> ByteMultiples<'a> {
+    // The factor times 2,654,435,761, with everything above 32 bits dropped: a wrapping sum of the multiples of its two
+    // bytes.
+    fn product(&self, factor: u32) -> u32
+        requires { factor < 65536 }
+        ensures { result ≡ factor * 2654435761 % 2 ^ 32 }
+    {
+        let low = self.table[(factor % 256) as usize];
+        let high = self.table[(factor / 256) as usize] << 8;
+        low.wrapping_add(high)
+    }
+
+    // An item's number with its product.
+    pub fn scale(self, number: u32) -> ScaledItem<'a>
+        requires { number < 65536 }
+        ensures { result.number ≡ number }
+    {
+        ScaledItem {
+            number,
+            product: self.product(number),
+            multiples: self,
+        }
+    }
 }
 
-// Where a pair stands: the vertex that it has, or the empty slot that is for it, or nowhere, because no slot is empty.
+impl ScaledItem<'_> {
+    // The slot, of so many, from which the search for the item's pair with a state starts. The product of the key is
+    // that of the state, times 2,048, and that of the item.
+    fn slot_of(&self, state: u32, slots: u32) -> u32
+        requires { (state < most_states) × (self.now.number < 2048) }
+        ensures { result ≡ slot_of (key_of state self.now.number) slots }
+    {
+        let by_state = self.multiples.product(state) << 11;
+        let by_key = by_state.wrapping_add(self.product);
+        ((by_key as u64) * (slots as u64) / 4294967296) as u32
+    }
+}
+
+// Where a pair stands: the vertex that it has, or the empty slot that is for it.
 #[derive(Clone, Copy)]
 pub enum Place {
     Known(VertexIndex),
     Free(usize),
-    Nowhere,
 }
 
+// The vertex that stands for a pair, and how many vertices are known now.
 #[derive(Clone, Copy)]
-pub enum Numbered {
-    Vertex { vertex: VertexIndex, known: u32 },
-    NoRoom,
+pub struct Numbered {
+    pub vertex: VertexIndex,
+    pub known: u32,
 }
+
+// The lent room is too small for the vertices, or for the edges.
+#[derive(Clone, Copy, Debug, PartialEq, Eq)]
+pub struct NoRoom;
 
 // ---- the words of the slots: only these two functions index them
 
@@ -143,6 +170,7 @@ fn key_in(work: &[u32], vertices: u32, slot: usize) -> u32
 }
 
 // What a slot holds: 0 if it is empty, else the number of a vertex plus one.
+// Kept (rule): it is a word of the slice that the host lends.
 fn held_in(work: &[u32], vertices: u32, slot: usize) -> u32
     requires { (8 * vertices ≤ length work.now) × (slot < slot_count vertices) }
     ensures { result ≡ held_in (slots_of work.now vertices) slot }
@@ -169,78 +197,64 @@ pub fn item_of(work: &[u32], vertices: u32, vertex: VertexIndex) -> u32
 // ---- all slots
 
 // Goes along the slots from `from` up to `end` until one has the key or is empty.
-fn probe(work: &[u32], vertices: u32, key: u32, from: usize, end: usize) -> Place
+fn probe(work: &[u32], vertices: u32, key: u32, from: usize, end: usize) -> Option<Place>
     requires { (8 * vertices ≤ length work.now) × (end ≤ slot_count vertices) }
     ensures { Probed (slots_of work.now vertices) from end key result }
 {
-    let mut slot = from;
-    while slot < end {
+    for slot in from..end {
         let held = held_in(work, vertices, slot);
         if held == 0 {
-            return Place::Free(slot);
+            return Some(Place::Free(slot));
         }
         if key_in(work, vertices, slot) == key {
-            return Place::Known(VertexIndex(held - 1));
+            return Some(Place::Known(VertexIndex(held - 1)));
         }
-        slot += 1;
     }
-    Place::Nowhere
+    None
 }
 
-// Where a pair stands, searched from the slot of its key up to the last, and then from the first.
-fn find(
-    multiples: &[u32],
-    work: &[u32],
-    vertices: u32,
-    known: u32,
-    state: u32,
-    item: u32,
-    scaled: u32,
-) -> Place
-    requires scaled { Scaled multiples.now item scaled }
-    requires asks { Asks work.now vertices known state item }
-    ensures { Finding work.now vertices known (key_of state item) result }
+// Where a pair stands, searched from the slot of its key up to the last, and then from the first. It stands nowhere if
+// no slot is empty.
+fn find(work: &[u32], vertices: u32, known: u32, state: u32, item: ScaledItem<'_>) -> Option<Place>
+    requires { Asks work.now vertices known state item.number }
+    ensures { Finding work.now vertices known (key_of state item.entry.number) result }
 {
-    let key = state * ITEMS + item;
+    let key = state * ITEMS + item.number;
     let slots = vertices + vertices / 2;
-    let home = slot_of(multiples, state, item, scaled, slots) as usize;
+    let home = item.slot_of(state, slots) as usize;
     match probe(work, vertices, key, home, slots as usize) {
-        Place::Known(vertex) => Place::Known(vertex),
-        Place::Free(slot) => Place::Free(slot),
-        Place::Nowhere => probe(work, vertices, key, 0, home),
+        Some(place) => Some(place),
+        None => probe(work, vertices, key, 0, home),
     }
 }
 
 // The vertex that stands for a pair, which is numbered first if it is new.
 pub fn number(
-    multiples: &[u32],
     work: &mut [u32],
     vertices: u32,
     known: u32,
     state: u32,
-    item: u32,
-    scaled: u32,
-) -> Numbered
-    requires scaled { Scaled multiples.now item scaled }
-    requires asks { Asks work.old vertices known state item }
-    ensures { Numbering work.old work.new vertices known (key_of state item) result }
+    item: ScaledItem<'_>,
+) -> Result<Numbered, NoRoom>
+    requires { Asks work.old vertices known state item.number }
+    ensures { Numbering work.old work.new vertices known (key_of state item.entry.number) result }
 {
-    match find(multiples, work, vertices, known, state, item, scaled) {
-        Place::Known(vertex) => Numbered::Vertex { vertex, known },
-        Place::Free(slot) => {
+    match find(work, vertices, known, state, item) {
+        Some(Place::Known(vertex)) => Ok(Numbered { vertex, known }),
+        Some(Place::Free(slot)) => {
             if known == vertices {
-                return Numbered::NoRoom;
+                return Err(NoRoom);
             }
-            let key = state * ITEMS + item;
+            let key = state * ITEMS + item.number;
             put_slot_word(work, vertices, 2 * slot, key);
             put_slot_word(work, vertices, 2 * slot + 1, known + 1);
             put_word(work, vertices, KEYS, known, key);
-            Numbered::Vertex {
+            Ok(Numbered {
                 vertex: VertexIndex(known),
                 known: known + 1,
-            }
+            })
         }
-        Place::Nowhere => Numbered::NoRoom,
+        None => Err(NoRoom),
     }
 }
 
@@ -250,9 +264,5 @@ pub fn start(work: &mut [u32], vertices: u32)
     ensures { Started work.old work.new vertices }
 {
     let end = 3 * (vertices as usize);
-    let mut i = 0;
-    while i < end {
-        put_slot_word(work, vertices, i, 0);
-        i += 1;
-    }
+    work[..end].fill(0);
 }

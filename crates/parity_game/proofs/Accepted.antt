@@ -6,7 +6,7 @@ use mathlib.Core.List.{List}
 use lib.ListN.{length}
 use lib.Dec.{eqb, ltb}
 use borrow.Author.Tests.{ltb-false, eqb-false}
-use Rattle.rules.specs.declared.Check.TheVariants.{Passed}
+use Rattle.std.specs.declared.result.Result.TheVariants.{Ok}
 use Rattle.rules.specs.Game.{vertex_count, edges_in, game_end}
 use Rattle.rules.specs.Refusal.{differ}
 use Rattle.rules.specs.GameRefusal.{above_room, refusal51}
@@ -15,7 +15,7 @@ use Rattle.lists.proofs.Tests.{or-false}
 use Rattle.tables.proofs.Choices.{differ_false}
 use Rattle.parity_game.specs.Sizes.{Sizes}
 
-pub sizes : (g : List ℕ) → refusal51 g ≡ Passed → Sizes g
+pub sizes : (g : List ℕ) → refusal51 g ≡ Ok tt → Sizes g
 unfolding above_room refusal51
 sizes g e =
     let a = or-false (ltb (length g) 3) _ (if_passed 51 0 _ e) in

@@ -4,4 +4,3 @@ pub mod Places
 pub mod Pools
 pub mod Refusals
 pub mod Stretches
-pub mod Rooms

@@ -4,27 +4,27 @@ use Prim.Native.Nat.{ℕ, suc, ◌≤◌}
 use native.Mathlib.Omega.{arith}
 use mathlib.Core.Path.{◌≡◌, refl}
 use mathlib.Core.Bool.{Bool, true, false}
-use Rattle.rules.specs.declared.Check.{Check}
-use Rattle.rules.specs.declared.Check.TheVariants.{Passed, Fault}
+use Rattle.rules.specs.Answers.{Check}
+use Rattle.std.specs.declared.result.Result.TheVariants.{Ok, Err}
 use Rattle.rules.specs.Answers.{fault_if, and_then}
 use Rattle.rules.specs.Refusal.{fault_from, lower_fault}
 use Rattle.tables.proofs.Faults.{from_cases, lower_left}
 
 -- a fault's place is q or a larger one
 abbrev pub NotBefore : ℕ → Check → Type 0
-NotBefore q Passed = Unit {0}
-NotBefore q (Fault n p) = q ≤ p
+NotBefore q (Ok u) = Unit {0}
+NotBefore q (Err f) = q ≤ f.place
 
 -- a fault's place is q or a smaller one
 abbrev pub NotPast : ℕ → Check → Type 0
-NotPast q Passed = Unit {0}
-NotPast q (Fault n p) = p ≤ q
+NotPast q (Ok u) = Unit {0}
+NotPast q (Err f) = f.place ≤ q
 
 pub in_order_lem : (q : ℕ) (c d : Check) → NotPast q c → NotBefore q d → lower_fault c d ≡ and_then c d
 unfolding lower_fault and_then
-in_order_lem q Passed d a b = refl
-in_order_lem q (Fault n p) Passed a b = refl
-in_order_lem q (Fault n p) (Fault m r) a b = lower_left n p m r (omega arith)
+in_order_lem q (Ok u) d a b = refl
+in_order_lem q (Err f) (Ok u) a b = refl
+in_order_lem q (Err f) (Err g) a b = lower_left f.number f.place g.number g.place (omega arith)
 
 pub if_before : (q n p : ℕ) (t : Bool) → q ≤ p → NotBefore q (fault_if n p t)
 unfolding fault_if
@@ -44,5 +44,5 @@ from_past q n p e bad h = from_cases n p e bad (NotPast q) (λ all. tt) (λ r a 
 
 pub then_before : (q : ℕ) (c d : Check) → NotBefore q c → NotBefore q d → NotBefore q (and_then c d)
 unfolding and_then
-then_before q Passed d a b = b
-then_before q (Fault n p) d a b = a
+then_before q (Ok u) d a b = b
+then_before q (Err f) d a b = a

@@ -1,65 +1,22 @@
--- The refusals 51, 52 and 53 of a game as a program finds them, by the sizes that it has read. Assumes nothing.
-use Prim.Native.Nat.{ℕ, ◌+◌, ◌*◌, ◌-◌, ◌<◌, ◌≤◌}
+-- The refusals 52 and 53 of a game as a program finds them, by the sizes that it has read. Assumes nothing.
+use Prim.Native.Nat.{ℕ, ◌+◌, ◌*◌, ◌<◌, ◌≤◌}
 use native.Mathlib.Omega.{arith}
 use mathlib.Core.Path.{◌≡◌, refl, sym, ap, ap₂, ◌∙◌, subst}
-use mathlib.Core.Bool.{true, false}
 use mathlib.Core.List.{List}
 use lib.ListN.{length}
-use lib.Dec.{eqb, ltb, leb}
-use borrow.Author.Tests.{lt-ltb, le-ltb, le-leb, lt-leb, eq-eqb, ne_eqb}
-use Rattle.rules.specs.declared.Check.{Check}
-use Rattle.rules.specs.declared.Check.TheVariants.{Passed, Fault}
+use lib.Dec.{ltb, leb}
+use borrow.Author.Tests.{le-leb, lt-leb}
+use Rattle.rules.specs.Answers.{Check}
+use Rattle.std.specs.declared.result.Result.TheVariants.{Ok}
+use Rattle.rules.specs.Answers.{fault}
 use Rattle.rules.specs.Lists.{word}
 use Rattle.rules.specs.Answers.{fault_if, and_then}
-use Rattle.rules.specs.Game.{vertex_columns, vertex_count, edges_in, initial_in, game_end}
+use Rattle.rules.specs.Game.{vertex_columns, vertex_count, edges_in, initial_in}
 use Rattle.rules.specs.Refusal.{differ, fault_from, lower_fault, too_large}
-use Rattle.rules.specs.GameRefusal.{falls, above_room, refusal51, refusal52, refusal53, game_refusal}
-use Rattle.tables.proofs.Faults.{if-true, if-false, then_fault, then_passed, first-fault, first_next, first_one}
-use Rattle.lists.proofs.Tests.{or_left, or_right, or-none}
+use Rattle.rules.specs.GameRefusal.{falls, refusal52, refusal53}
+use Rattle.tables.proofs.Faults.{if-true, if-false, then_fault, then_passed}
 use Rattle.tables.proofs.Choices.{differ_yes, differ_no}
 use Rattle.parity_game.proofs.Pools.{in_order_lem, if_before, if_past, from_before, from_past, then_before}
-
--- ---- a word that falls
-
-pub falls_yes : (g : List ℕ) (w : ℕ) → word g w < word g (w - 1) → falls g w ≡ true
-unfolding falls
-falls_yes g w h = lt-ltb _ _ h
-
-pub falls_no : (g : List ℕ) (w : ℕ) → word g (w - 1) ≤ word g w → falls g w ≡ false
-unfolding falls
-falls_no g w h = le-ltb _ _ h
-
--- ---- 51
-
-module _ (g : List ℕ) where
-  pub few_words : length g < 3 → refusal51 g ≡ Fault 51 0
-  unfolding refusal51
-  few_words h = if-true _ _ (or_left _ (lt-ltb _ _ h))
-
-  pub other_length : (length g ≡ game_end g → ⊥) → refusal51 g ≡ Fault 51 0
-  unfolding refusal51
-  other_length h = if-true _ _ (or_right (ltb (length g) 3) (or_left _ (differ_yes h)))
-
-  pub no-vertex : vertex_count g < 1 → refusal51 g ≡ Fault 51 0
-  unfolding refusal51
-  no-vertex h =
-      if-true _ _
-      (or_right (ltb (length g) 3)
-      (or_right (differ (length g) (game_end g)) (or_left _ (eq-eqb (vertex_count g) 0 (omega arith)))))
-
-  pub too_large_lem : above_room (vertex_count g) (edges_in g) ≡ true → refusal51 g ≡ Fault 51 0
-  unfolding refusal51
-  too_large_lem h =
-      if-true _ _
-      (or_right (ltb (length g) 3)
-      (or_right (differ (length g) (game_end g)) (or_right (eqb (vertex_count g) 0) h)))
-
-  pub right_sizes : 3 ≤ length g → length g ≡ game_end g → 1 ≤ vertex_count g
-      → above_room (vertex_count g) (edges_in g) ≡ false → refusal51 g ≡ Passed
-  unfolding refusal51
-  right_sizes h e a b =
-      if-false _ _
-      (or-none (le-ltb _ _ h) (or-none (differ_no e) (or-none (ne_eqb (vertex_count g) 0 (λ z. omega arith)) b)))
 
 -- ---- 52 and 53 in the order of the places, by the counts that were read
 
@@ -124,24 +81,24 @@ module _ (g : List ℕ) (n m : ℕ) (en : n ≡ vertex_count g) (em : m ≡ edge
         (and_then (fault_from 52 (p + 1) (p + n + 1) (falls g)) (fault_if 52 (p + n) (differ (word g (p + n)) m))))
         (sym ef) offsets_checked
 
-    pub first_offset : (word g f ≡ 0 → ⊥) → refusal52 g ≡ Fault 52 f
+    pub first_offset : (word g f ≡ 0 → ⊥) → refusal52 g ≡ fault 52 f
     first_offset h = read ∙ then_fault _ (if-true 52 _ (differ_yes h))
 
-    pub offset-falls : {k p : ℕ} → word g f ≡ 0 → fault_from 52 (f + 1) (f + n + 1) (falls g) ≡ Fault k p
-        → refusal52 g ≡ Fault k p
+    pub offset-falls : {k p : ℕ} → word g f ≡ 0 → fault_from 52 (f + 1) (f + n + 1) (falls g) ≡ fault k p
+        → refusal52 g ≡ fault k p
     offset-falls h e = read ∙ then_passed _ (if-false 52 _ (differ_no h)) ∙ then_fault _ e
 
-    pub last_offset : word g f ≡ 0 → fault_from 52 (f + 1) (f + n + 1) (falls g) ≡ Passed → (word g (f + n) ≡ m → ⊥)
-        → refusal52 g ≡ Fault 52 (f + n)
+    pub last_offset : word g f ≡ 0 → fault_from 52 (f + 1) (f + n + 1) (falls g) ≡ Ok tt → (word g (f + n) ≡ m → ⊥)
+        → refusal52 g ≡ fault 52 (f + n)
     last_offset h e l =
         read ∙ then_passed _ (if-false 52 _ (differ_no h)) ∙ then_passed _ e ∙ if-true 52 _ (differ_yes l)
 
-    pub right_offsets : word g f ≡ 0 → fault_from 52 (f + 1) (f + n + 1) (falls g) ≡ Passed → word g (f + n) ≡ m
-        → refusal52 g ≡ Passed
+    pub right_offsets : word g f ≡ 0 → fault_from 52 (f + 1) (f + n + 1) (falls g) ≡ Ok tt → word g (f + n) ≡ m
+        → refusal52 g ≡ Ok tt
     right_offsets h e l =
         read ∙ then_passed _ (if-false 52 _ (differ_no h)) ∙ then_passed _ e ∙ if-false 52 _ (differ_no l)
 
-  pub wrong-initial : n ≤ initial_in g → refusal53 g ≡ Fault 53 2
+  pub wrong-initial : n ≤ initial_in g → refusal53 g ≡ fault 53 2
   wrong-initial h = vertices_checked ∙ then_fault _ (if-true 53 2 (le-leb _ _ h))
 
   -- by the places where the owners and the targets begin and end
@@ -149,28 +106,13 @@ module _ (g : List ℕ) (n m : ℕ) (en : n ≡ vertex_count g) (em : m ≡ edge
     owners_read : fault_from 53 (3 + 0 * n) (3 + 1 * n) (too_large g 2) ≡ fault_from 53 a b (too_large g 2)
     owners_read = ap₂ (λ (p q : ℕ). fault_from 53 p q (too_large g 2)) (sym ea) (sym eb)
 
-    pub wrong_owner : {k p : ℕ} → initial_in g < n → fault_from 53 a b (too_large g 2) ≡ Fault k p
-        → refusal53 g ≡ Fault k p
+    pub wrong_owner : {k p : ℕ} → initial_in g < n → fault_from 53 a b (too_large g 2) ≡ fault k p
+        → refusal53 g ≡ fault k p
     wrong_owner h e = vertices_checked ∙ then_passed _ (if-false 53 2 (lt-leb _ _ h)) ∙ then_fault _ (owners_read ∙ e)
 
     pub right_owners : (p q : ℕ) → p ≡ 4 + (length vertex_columns + 1) * n + 0 * m
         → q ≡ 4 + (length vertex_columns + 1) * n + 1 * m
-        → initial_in g < n → fault_from 53 a b (too_large g 2) ≡ Passed → refusal53 g ≡ fault_from 53 p q (too_large g n)
+        → initial_in g < n → fault_from 53 a b (too_large g 2) ≡ Ok tt → refusal53 g ≡ fault_from 53 p q (too_large g n)
     right_owners p q ep eq h e =
         vertices_checked ∙ then_passed _ (if-false 53 2 (lt-leb _ _ h)) ∙ then_passed _ (owners_read ∙ e)
         ∙ ap₂ (λ (u v : ℕ). fault_from 53 u v (too_large g n)) (sym ep) (sym eq)
-
--- ---- all three
-
-module _ (g : List ℕ) where
-  pub first_refusal : {k p : ℕ} → refusal51 g ≡ Fault k p → game_refusal g ≡ Fault k p
-  unfolding game_refusal
-  first_refusal e = first-fault _ e
-
-  pub second_refusal : {k p : ℕ} → refusal51 g ≡ Passed → refusal52 g ≡ Fault k p → game_refusal g ≡ Fault k p
-  unfolding game_refusal
-  second_refusal e f = first_next _ e ∙ first-fault _ f
-
-  pub third_refusal : refusal51 g ≡ Passed → refusal52 g ≡ Passed → game_refusal g ≡ refusal53 g
-  unfolding game_refusal
-  third_refusal e f = first_next _ e ∙ first_next _ f ∙ first_one _

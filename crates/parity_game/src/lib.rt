@@ -10,7 +10,7 @@ ghost use Rattle.rules.specs.GameRefusal.{falls, above_room, refusal51, refusal5
 ghost use Rattle.words.specs.Stretches.{Wrote};
 ghost use Rattle.parity_game.specs.Sizes.{Sizes};
 
-use rules::{Check, Room};
+use rules::{Fault, Room};
 
 // The most vertices and edges of a game, and of the room for one.
 const MOST_VERTICES: usize = 1_048_576;
@@ -95,70 +95,68 @@ pub fn edges_from(game: &[u32], column: usize, vertex: usize) -> usize
 // ---- the check
 
 // Fault 52 at the first of the words from `first` up to `end` that is less than the one before it.
-fn check_rising(ws: &[u32], first: usize, end: usize) -> Check
+#[tactic(auto, unfolding(rules::specs::GameRefusal::falls))]
+fn check_rising(ws: &[u32], first: usize, end: usize) -> Result<(), Fault>
     requires { (end ≤ length ws.now) × (end < 4294967296) × (1 ≤ first) }
     ensures { result ≡ fault_from 52 first end (falls ws.now) }
 {
-    let mut place = first;
-    while place < end {
-        let before = words::at(ws, place - 1);
-        if words::at(ws, place) < before {
-            return Check::Fault(52, place as u32);
-        }
-        place += 1;
-    }
-    Check::Passed
+    faults::first_fault(
+        52,
+        first,
+        end,
+        |place| words::at(ws, place) < words::at(ws, place - 1),
+    )
 }
 
 // So many vertices or edges are above the room limits.
+#[tactic(auto, unfolding(rules::specs::GameRefusal::above_room))]
 pub fn above_room(vertices: usize, edges: usize) -> bool
     ensures { result ≡ above_room vertices edges }
 {
-    if MOST_VERTICES < vertices {
-        return true;
-    }
-    MOST_EDGES < edges
+    MOST_VERTICES < vertices || MOST_EDGES < edges
 }
 
 // 1: room for so many vertices and edges is out of range.
-pub fn check_room(room: Room) -> Check
+#[tactic(auto, unfolding(rules::specs::Refusal::refusal1, rules::specs::Refusal::outside, rules::specs::GameRefusal::above_room, rules::specs::Answers::fault_if))]
+pub fn check_room(room: Room) -> Result<(), Fault>
     ensures { result ≡ refusal1 room }
 {
-    if room.vertices < 1 {
-        return Check::Fault(1, 0);
+    if room.vertices < 1
+        || room.edges < 1
+        || above_room(room.vertices as usize, room.edges as usize)
+    {
+        return Err(Fault {
+            number: 1,
+            place: 0,
+        });
     }
-    if room.edges < 1 {
-        return Check::Fault(1, 0);
-    }
-    if above_room(room.vertices as usize, room.edges as usize) {
-        return Check::Fault(1, 0);
-    }
-    Check::Passed
+    Ok(())
 }
 
 // 51: the length and the sizes.
-fn check_sizes(game: &[u32]) -> Check
+#[tactic(auto, unfolding(rules::specs::GameRefusal::refusal51, rules::specs::Refusal::differ, rules::specs::Answers::fault_if))]
+fn check_sizes(game: &[u32]) -> Result<(), Fault>
     ensures { result ≡ refusal51 game.now }
 {
     if game.len() < 3 {
-        return Check::Fault(51, 0);
+        return Err(Fault {
+            number: 51,
+            place: 0,
+        });
     }
     let vertices = words::at(game, 0);
     let edges = words::at(game, 1);
-    if game.len() != game_words(vertices, edges) {
-        return Check::Fault(51, 0);
+    if game.len() != game_words(vertices, edges) || vertices < 1 || above_room(vertices, edges) {
+        return Err(Fault {
+            number: 51,
+            place: 0,
+        });
     }
-    if vertices < 1 {
-        return Check::Fault(51, 0);
-    }
-    if above_room(vertices, edges) {
-        return Check::Fault(51, 0);
-    }
-    Check::Passed
+    Ok(())
 }
 
 // 52: the offsets.
-fn check_offsets(game: &[u32]) -> Check
+fn check_offsets(game: &[u32]) -> Result<(), Fault>
     requires { Sizes game.now }
     ensures { result ≡ refusal52 game.now }
 {
@@ -167,58 +165,50 @@ fn check_offsets(game: &[u32]) -> Check
     let first = offsets_at(vertices);
     let last = first + vertices;
     if words::at(game, first) != 0 {
-        return Check::Fault(52, first as u32);
+        return Err(Fault {
+            number: 52,
+            place: first as u32,
+        });
     }
-    let checked = check_rising(game, first + 1, last + 1);
-    match checked {
-        Check::Fault(number, place) => Check::Fault(number, place),
-        Check::Passed => {
-            if words::at(game, last) != edges {
-                return Check::Fault(52, last as u32);
-            }
-            Check::Passed
-        }
+    check_rising(game, first + 1, last + 1)?;
+    if words::at(game, last) != edges {
+        return Err(Fault {
+            number: 52,
+            place: last as u32,
+        });
     }
+    Ok(())
 }
 
 // 53: the initial vertex, the owners and the targets.
-fn check_vertices(game: &[u32]) -> Check
+fn check_vertices(game: &[u32]) -> Result<(), Fault>
     requires { Sizes game.now }
     ensures { result ≡ refusal53 game.now }
 {
     let vertices = words::at(game, 0);
     let edges = words::at(game, 1);
     if vertices <= words::at(game, 2) {
-        return Check::Fault(53, 2);
+        return Err(Fault {
+            number: 53,
+            place: 2,
+        });
     }
     let first = vertex_column_at(vertices, 0);
     let end = vertex_column_at(vertices, 1);
-    let owners = faults::check_below(game, first, end, 2, 53);
-    match owners {
-        Check::Fault(number, place) => Check::Fault(number, place),
-        Check::Passed => {
-            let target = edge_column_at(vertices, edges, 0);
-            let past = edge_column_at(vertices, edges, 1);
-            faults::check_below(game, target, past, vertices, 53)
-        }
-    }
+    faults::check_below(game, first, end, 2, 53)?;
+    let target = edge_column_at(vertices, edges, 0);
+    let past = edge_column_at(vertices, edges, 1);
+    faults::check_below(game, target, past, vertices, 53)
 }
 
 // 51, 52, 53: a game that is handed over.
-pub fn check_game(game: &[u32]) -> Check
+#[tactic(auto, unfolding(rules::specs::GameRefusal::game_refusal, rules::specs::Answers::first_fault, rules::specs::Answers::and_then))]
+pub fn check_game(game: &[u32]) -> Result<(), Fault>
     ensures { result ≡ game_refusal game.now }
 {
-    let sizes = check_sizes(game);
-    match sizes {
-        Check::Fault(number, place) => Check::Fault(number, place),
-        Check::Passed => {
-            let checked = check_offsets(game);
-            match checked {
-                Check::Fault(number, place) => Check::Fault(number, place),
-                Check::Passed => check_vertices(game),
-            }
-        }
-    }
+    check_sizes(game)?;
+    check_offsets(game)?;
+    check_vertices(game)
 }
 
 // ---- writing

@@ -9,7 +9,8 @@ use mathlib.Core.Option.{none, some}
 use lib.ListN.{length}
 use lib.Dec.{eqb, ltb}
 use borrow.Author.Tests.{ne_eqb, lt-ltb, le-ltb, ltb-true, ltb-false, eqb-true}
-use Rattle.rules.specs.declared.Check.TheVariants.{Passed, Fault}
+use Rattle.std.specs.declared.result.Result.TheVariants.{Ok}
+use Rattle.rules.specs.Answers.{fault}
 use Rattle.rules.specs.Lists.{In, Distinct, from, largest}
 use Rattle.rules.specs.Words.{room_of}
 use Rattle.rules.specs.Answers.{fault_if, and_then}
@@ -26,22 +27,14 @@ use Rattle.game_texts.proofs.Exact.{all_holds, all_made, within_holds, different
 use Rattle.game_texts.proofs.Exact.{Passes92, passes92, passed92}
 use Rattle.pgsolver_scan.specs.Told.{saturated}
 use Rattle.pgsolver_check.specs.declared.Found.{Found}
-use Rattle.pgsolver_check.specs.declared.Survey.{Survey}
-use Rattle.pgsolver_check.specs.declared.Survey.TheVariants.{Surveyed, Formless}
 use Rattle.pgsolver_check.specs.Lines.{solver_text, lines_in, or_none, lines_from, top_of, tops_of, ranks_of}
 use Rattle.pgsolver_check.specs.Lines.{in_order, Readable, Narrow}
 use Rattle.pgsolver_check.specs.Windows.{Apart}
-use Rattle.pgsolver_check.specs.Survey.{Seen, ToldSurvey}
+use Rattle.pgsolver_check.specs.Survey.{Seen}
 use Rattle.pgsolver_check.specs.Plans.{Planned}
 use Rattle.pgsolver_check.proofs.Bounding.{in_largest}
 use Rattle.pgsolver_check.proofs.Walking.{number_top, successor_top, exactly}
 use Rattle.pgsolver_check.proofs.Windowing.{some_same_number}
-
-pub seen_at : (text : List ℕ) {r : Survey} (found : Found) → r ≡ Surveyed found → ToldSurvey r text → Seen text found
-seen_at text found e a = subst (λ (s : Survey). ToldSurvey s text) e a
-
-pub seen_not : (text : List ℕ) {r : Survey} → r ≡ Formless → ToldSurvey r text → parse text ≡ none
-seen_not text e a = subst (λ (s : Survey). ToldSurvey s text) e a
 
 -- ---- lines in the order of their numbers
 
@@ -62,7 +55,7 @@ and_other : (a b : Bool) → b ≡ false → not (a && b) ≡ true
 and_other true b e = rw e refl
 and_other false b e = refl
 
-wrong_count : (t : SolverText) → ¬ (length t.lines ≡ suc t.highest) → refusal92 t ≡ Fault 92 0
+wrong_count : (t : SolverText) → ¬ (length t.lines ≡ suc t.highest) → refusal92 t ≡ fault 92 0
 unfolding refusal92
 wrong_count t n =
     if-true 92 0
@@ -86,7 +79,7 @@ tops_within ls h f = largest_within (map top_of ls) h low
         let (a, b) = f x m in
         omega (arith, e, largest_within x.successors h b)
 
-too_high : (t : SolverText) → t.highest < tops_of t.lines → refusal92 t ≡ Fault 92 0
+too_high : (t : SolverText) → t.highest < tops_of t.lines → refusal92 t ≡ fault 92 0
 unfolding refusal92
 too_high t h =
     if-true 92 0
@@ -104,7 +97,7 @@ too_high t h =
         ))
     go false e = refl
 
-same_number : (t : SolverText) → different (numbers_of t.lines) ≡ false → refusal92 t ≡ Fault 92 0
+same_number : (t : SolverText) → different (numbers_of t.lines) ≡ false → refusal92 t ≡ fault 92 0
 unfolding refusal92
 same_number t e =
     if-true 92 0
@@ -172,9 +165,6 @@ module _ {text : List ℕ} {found : Found} (s : Seen text found) (small : length
       pub seen_low : tops_of (lines_from text found.first) ≤ found.highest
       seen_low = omega (arith, ap tops_of seen_lines, tops)
 
-      pub seen_modest : found.highest < 9223372036854775808
-      seen_modest = omega (arith, few)
-
       pub seen_readable : Readable text found.first
       seen_readable =
           record {
@@ -216,7 +206,7 @@ module _ {text : List ℕ} {found : Found} (s : Seen text found) (small : length
 
   -- ---- 93
 
-  module _ (passed : refusal92 t ≡ Passed) where
+  module _ (passed : refusal92 t ≡ Ok tt) where
     abbrev given : Passes92 t
     given = passed92 t passed
 
@@ -323,32 +313,32 @@ module _ {text : List ℕ} {found : Found} (s : Seen text found) (small : length
 
 -- ---- the plan
 
-pub refused91 : (text : List ℕ) (v e : ℕ) → parse text ≡ none → text_refusal (room_of v e) (parse text) ≡ Fault 91 0
+pub refused91 : (text : List ℕ) (v e : ℕ) → parse text ≡ none → text_refusal (room_of v e) (parse text) ≡ fault 91 0
 unfolding text_refusal
 refused91 text v e p = rw p refl
 
 module _ {text : List ℕ} {found : Found} (s : Seen text found) (v e : ℕ) where
   pub refused92 : {b : Bool} → refusal92 (solver_text text) ≡ fault_if 92 0 (not b) → b ≡ false
-      → text_refusal (room_of v e) (parse text) ≡ Fault 92 0
+      → text_refusal (room_of v e) (parse text) ≡ fault 92 0
   unfolding text_refusal and_then fault_if
   refused92 f g = rw (s.says, f, g) refl
 
   pub passed_numbers : {b : Bool} → refusal92 (solver_text text) ≡ fault_if 92 0 (not b) → b ≡ true
-      → refusal92 (solver_text text) ≡ Passed
+      → refusal92 (solver_text text) ≡ Ok tt
   unfolding fault_if
   passed_numbers f g = f ∙ ap (λ (b : Bool). fault_if 92 0 (not b)) g
 
-  module _ (passed : refusal92 (solver_text text) ≡ Passed) where
+  module _ (passed : refusal92 (solver_text text) ≡ Ok tt) where
     pub refused93 : {b : Bool} → refusal93 (room_of v e) (solver_text text) ≡ fault_if 93 0 (not b) → b ≡ false
-        → text_refusal (room_of v e) (parse text) ≡ Fault 93 0
+        → text_refusal (room_of v e) (parse text) ≡ fault 93 0
     unfolding text_refusal and_then fault_if
     refused93 f g = rw (s.says, passed, f, g) refl
 
     pub planned : length text < 18446744073709551616 → {b : Bool}
         → refusal93 (room_of v e) (solver_text text) ≡ fault_if 93 0 (not b) → b ≡ true
-        → Planned text v e found.highest found.first found.ordered
+        → Planned text v e (record { highest = found.highest; first = found.first; ordered = found.ordered })
     planned small f g =
-        let roomy : refusal93 (room_of v e) (solver_text text) ≡ Passed = f ∙ pass g in
+        let roomy : refusal93 (room_of v e) (solver_text text) ≡ Ok tt = f ∙ pass g in
         let (a, b, c) = parts roomy in
         record {
           says = s.says;
@@ -364,10 +354,10 @@ module _ {text : List ℕ} {found : Found} (s : Seen text found) (v e : ℕ) whe
           order = s.order;
         }
       where
-        pass : {b : Bool} → b ≡ true → fault_if 93 0 (not b) ≡ Passed
+        pass : {b : Bool} → b ≡ true → fault_if 93 0 (not b) ≡ Ok tt
         pass g = unfold fault_if in ap (λ (b : Bool). fault_if 93 0 (not b)) g
 
-        parts : refusal93 (room_of v e) (solver_text text) ≡ Passed
+        parts : refusal93 (room_of v e) (solver_text text) ≡ Ok tt
             → (suc (solver_text text).highest ≤ v) × (all (λ l. ltb l.priority 4_294_967_296) (lines_in text) ≡ true)
             × (edge_count (map vertex_of (lines_in text)) ≤ e)
         parts r =

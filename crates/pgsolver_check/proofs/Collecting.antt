@@ -2,8 +2,8 @@
 use Prim.Native.Nat.{ℕ, ◌+◌, ◌-◌, ◌≤◌, ◌<◌}
 use native.Mathlib.Omega.{arith}
 use native.Mathlib.Decide.{dec_lt, dec_le}
-use mathlib.Core.Path.{◌≡◌, refl, sym, ap, ◌∙◌, subst}
-use mathlib.Core.Bool.{Bool, true, false, not, ◌||◌, true≢false, false≢true}
+use mathlib.Core.Path.{◌≡◌, refl, sym, ◌∙◌, subst}
+use mathlib.Core.Bool.{true, true≢false, false≢true}
 use mathlib.Core.List.{List, [], ◌∷◌, ◌++◌}
 use mathlib.Core.Logic.{◌⊎◌, inl, inr, ⊎_elim}
 use lib.ListN.{length}
@@ -12,38 +12,11 @@ use borrow.Author.Tests.{eqb-true, eq-eqb}
 use Rattle.rules.specs.Lists.{In, Distinct}
 use Rattle.lists.proofs.Tests.{or-true, or_left, or_right}
 use Rattle.lists.proofs.Members.{in_left, in_right, in_either}
-use Rattle.bitmap.specs.Marks.{marked, Met, Holds}
+use Rattle.bitmap.specs.Marks.{marked, Holds}
 use Rattle.pgsolver_scan.specs.Told.{saturated}
 use Rattle.pgsolver_check.specs.Windows.{Apart, Noted, Again}
 
 -- ---- a number is noted
-
-pub noted_out : (base n : ℕ) (bits : List ℕ) → ¬ ((base ≤ n) × (n < base + 1048576)) → Noted base n bits bits
-noted_out base n bits h =
-    record { long = refl; fresh = λ a b. absurd (h (a, b)); inside = λ a b. absurd (h (a, b)); outside = λ a u. refl }
-
-pub noted_new : (base n u : ℕ) (bits bits' : List ℕ) (new : Bool) → base ≤ n → u ≡ n - base → u < 1048576 → new
-    ≡ not (marked bits u) → new ≡ true → Met bits bits' u → Noted base n bits bits'
-noted_new base n u bits bits' new h e k f g m =
-    record {
-      long = m.long;
-      fresh = λ a b. ap (marked bits) (sym e) ∙ off (marked bits u) (sym f ∙ g);
-      inside = λ a b w. m.marks w ∙ ap (λ (x : ℕ). eqb w x || marked bits w) e;
-      outside = λ a w. absurd (a (h, omega arith));
-    }
-  where
-    off : (b : Bool) → not b ≡ true → b ≡ false
-    off true p = absurd (false≢true p)
-    off false p = refl
-
-pub noted_old : (base n u : ℕ) (bits : List ℕ) (new : Bool) → base ≤ n → u ≡ n - base → u < 1048576 → new
-    ≡ not (marked bits u) → new ≡ false → Again base n bits
-noted_old base n u bits new h e k f g =
-    record { from = h; below = omega arith; old = ap (marked bits) (sym e) ∙ on (marked bits u) (sym f ∙ g) }
-  where
-    on : (b : Bool) → not b ≡ false → b ≡ true
-    on true p = refl
-    on false p = absurd (true≢false p)
 
 -- ---- a number that is saturated: those of the first window are exact
 

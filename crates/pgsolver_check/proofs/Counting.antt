@@ -8,6 +8,7 @@ use mathlib.Core.Logic.{inl, inr}
 use mathlib.Core.Option.{Option, none, some}
 use lib.ListN.{length, length-append}
 use lib.Dec.{eqb}
+use mir.Val.{bool_byte}
 use borrow.Author.Tests.{eq-eqb, ne_eqb}
 use Rattle.rules.specs.Lists.{word, In, one, insert, insert_all, once}
 use Rattle.lists.proofs.Members.{in_has, not_in}
@@ -18,11 +19,10 @@ use Rattle.bitmap.proofs.Sets.{meets, only_holds, only_wiped, only_none}
 use Rattle.rules.specs.TextReading.{Front, front, with_first, read_byte, read_number}
 use Rattle.rules.specs.PgsolverParse.{read_commas, read_list}
 use Rattle.game_texts.proofs.Parsing.{some_same, then_some, byte_sound, byte-read}
-use Rattle.pgsolver_scan.specs.declared.Number.{Number}
-use Rattle.pgsolver_scan.specs.declared.Number.TheVariants.{At}
+use Rattle.std.specs.Prelude.{Some}
 use Rattle.pgsolver_scan.specs.Told.{saturated, since, commas_at, past_line, Told, Stands}
 use Rattle.pgsolver_scan.proofs.Scanning.{since-cons, byte_here}
-use Rattle.pgsolver_scan.proofs.Reading.{told_at, number_later, commas_other, list_first}
+use Rattle.pgsolver_scan.proofs.Reading.{number_later, commas_other, list_first}
 use Rattle.pgsolver_scan.proofs.Reading.{list_again, when_true, when_false}
 use Rattle.pgsolver_scan.proofs.PastLines.{past_other}
 use Rattle.pgsolver_scan.proofs.SameLine.{number_line}
@@ -68,18 +68,18 @@ list_there {text} {q} l = go (native.Mathlib.Decide.dec_lt q (length text))
     go (yes h) = h
     go (no h) = absurd (none-at (omega arith) l.reads)
 
-module _ {text : List ℕ} {q : ℕ} (l : Listed text q) {r : Number} where
-  module _ (v next : ℕ) (e : r ≡ At v next) (a : Told r (read_number (since text q)) text) where
+module _ {text : List ℕ} {q : ℕ} (l : Listed text q) where
+  module _ (v next : ℕ) (a : Told (Some (record { value = v; next = next })) (read_number (since text q)) text) where
     pub list_later : q < next
     list_later =
-        let (n, c, s, w) = told_at text (read_number (since text q)) v next e a in
+        let (n, c, s, w) = a in
         number_later text q next n l.within w c
 
     opened : (n : ℕ) × (v ≡ saturated n)
         × ((s : Front (List ℕ)) × (commas_at text next ≡ some s) × (list_at text q ≡ n ∷ s.value)
         × (s.rest ≡ l.rest))
     opened =
-        let (n, c, s, w) = told_at text (read_number (since text q)) v next e a in
+        let (n, c, s, w) = a in
         let (t, d, f, g) = first_some n (commas_at text next) (front (list_at text q) l.rest)
         (sym (list_first text q next n c) ∙ l.reads) in
         (n, s, (t, d, f, g))
@@ -169,15 +169,15 @@ list_stands {text} {q} l =
     }
 
 module _ {text : List ℕ} {q : ℕ} (l : Listed text q) (v next : ℕ)
-    (a : Told (At v next) (read_number (since text q)) text) (h : next < length text) where
+    (a : Told (Some (record { value = v; next = next })) (read_number (since text q)) text) (h : next < length text) where
   -- a comma: the list goes on behind it, on the same line
   pub known_more : word text next ≡ 44 → (list_at text q ≡ v ∷ list_at text (next + 1)) × Listed text (next + 1)
   known_more x =
-      list_more l v next refl a {b = true} (byte_here text next 44 true h (eq-eqb (word text next) 44 x)) (λ y. h) refl
+      list_more l v next a {b = true} (byte_here text next 44 true h (eq-eqb (word text next) 44 x)) (λ y. h) refl
 
   pub known_last : ¬ (word text next ≡ 44) → list_at text q ≡ v ∷ []
   known_last x =
-      list_last l v next refl a {b = false} (byte_here text next 44 false h (ne_eqb (word text next) 44 x)) refl
+      list_last l v next a {b = false} (byte_here text next 44 false h (ne_eqb (word text next) 44 x)) refl
 
   pub known_line : past_line text q ≡ past_line text next
   known_line = number_line text q next a.0 l.within a.3 a.1
@@ -274,8 +274,10 @@ module _ {text : List ℕ} {p q count : ℕ} {bits bits' : List ℕ} (v r : ℕ)
   pub counting_only : list_at text q ≡ v ∷ [] → Only bits' (list_at text p)
   counting_only a = only_holds (subst (λ (ns : List ℕ). Holds bits' (once eqb ns)) (sym (whole a)) held)
 
-pub count_as : (count : ℕ) (b new : Bool) → new ≡ not b → new ≡ true → count + 1 ≡ count + one (not b)
-count_as count b new e f = rw (sym e ∙ f) refl
-
-pub count_same : (count : ℕ) (b new : Bool) → new ≡ not b → new ≡ false → count ≡ count + one (not b)
-count_same count b new e f = rw (sym e ∙ f) (omega arith)
+-- one more, unless the number was met before
+pub count_met : (count : ℕ) (b new : Bool) → new ≡ not b → count + bool_byte new ≡ count + one (not b)
+count_met count b new e = ap (λ (x : Bool). count + bool_byte x) e ∙ ap (λ (n : ℕ). count + n) (same (not b))
+  where
+    same : (b : Bool) → bool_byte b ≡ one b
+    same true = refl
+    same false = refl

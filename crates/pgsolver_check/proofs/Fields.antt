@@ -11,7 +11,8 @@ use Rattle.rules.specs.Pgsolver.{SolverLine}
 use Rattle.rules.specs.TextReading.{Front, front, read_field}
 use Rattle.rules.specs.PgsolverParse.{read_list}
 use Rattle.game_texts.proofs.Parsing.{some_same}
-use Rattle.pgsolver_scan.specs.declared.Number.TheVariants.{At}
+use Rattle.std.specs.Prelude.{Some}
+use Rattle.pgsolver_scan.specs.declared.Number.{Number}
 use Rattle.pgsolver_scan.specs.Told.{saturated, since, past_line, Told, StandsField}
 use Rattle.pgsolver_scan.proofs.SameLine.{field-line}
 use Rattle.pgsolver_check.specs.Lines.{lines_from, ranks_of, Readable, Narrow, Body}
@@ -42,9 +43,11 @@ listed_at {text} {place} {ns} {rest} w e ended small =
 -- ---- a field that was read where one is known to stand
 
 pub field_is : (text : List ℕ) (p : ℕ) {n : ℕ} {rest : List ℕ} → read_field 32 (since text p) ≡ some (front n rest)
-    → p ≤ length text → (v q : ℕ) → Told (At v q) (read_field 32 (since text p)) text
-    → (v ≡ saturated n) × (rest ≡ since text q) × (q ≤ length text) × (past_line text p ≡ past_line text q)
-field_is text p {n} {rest} known h v q (m, g, s, w) =
+    → p ≤ length text → (x : Number) → Told (Some x) (read_field 32 (since text p)) text
+    → (x.value ≡ saturated n) × (rest ≡ since text x.next) × (x.next ≤ length text)
+    × (past_line text p ≡ past_line text x.next)
+field_is text p {n} {rest} known h x (m, g, s, w) =
+    let q = x.next in
     let same : front n rest ≡ front m (since text q) = some_same (sym known ∙ g) in (
       s ∙ ap (λ (f : Front ℕ). saturated f.value) (sym same),
       ap (λ (f : Front ℕ). f.rest) same,
@@ -66,11 +69,11 @@ module _ (text : List ℕ) (q : ℕ) {line : SolverLine} (w : q ≤ length text)
   line-priority small =
       record { within = w; number = line.priority; rest = body.ranked; reads = body.priority; small = small }
 
-  module _ (v next : ℕ) (a : Told (At v next) (read_field 32 (since text q)) text) where
-    pub owner-known : read_field 32 (since text next) ≡ some (front line.owner body.owned)
-    owner-known = ap (read_field 32) (sym (field_is text q body.priority w v next a).1) ∙ body.owner
+  module _ (x : Number) (a : Told (Some x) (read_field 32 (since text q)) text) where
+    pub owner-known : read_field 32 (since text x.next) ≡ some (front line.owner body.owned)
+    owner-known = ap (read_field 32) (sym (field_is text q body.priority w x a).1) ∙ body.owner
 
-    pub line-owner : StandsField text next
+    pub line-owner : StandsField text x.next
     line-owner =
         record {
           within = a.3;
@@ -98,27 +101,28 @@ module _ {text : List ℕ} {first p : ℕ} (r : Narrow text first) (k : Walk tex
   number_stands =
       line_number r.readable k h (omega (arith, number_top (lines_from text first) line among, r.low))
 
-  module _ {v1 q1 : ℕ} (a : Told (At v1 q1) (read_field 32 (since text p)) text) where
-    body : Body (since text q1) line
-    body = (walk_number r.readable k h a v1 q1 refl).2
+  module _ (n1 : Number) (a : Told (Some n1) (read_field 32 (since text p)) text) where
+    body : Body (since text n1.next) line
+    body = (walk_number r.readable k h n1 a).2
 
-    pub priority_stands : StandsField text q1
+    pub priority_stands : StandsField text n1.next
     priority_stands =
-        line-priority text q1 a.3 body (omega (arith, priority_rank (lines_from text first) line among, r.ranks))
+        line-priority text n1.next a.3 body (omega (arith, priority_rank (lines_from text first) line among, r.ranks))
 
-    module _ {v2 q2 : ℕ} (b : Told (At v2 q2) (read_field 32 (since text q1)) text) where
-      pub owner_stands : StandsField text q2
-      owner_stands = line-owner text q1 a.3 body v2 q2 b
+    module _ (n2 : Number) (b : Told (Some n2) (read_field 32 (since text n1.next)) text) where
+      pub owner_stands : StandsField text n2.next
+      owner_stands = line-owner text n1.next a.3 body n2 b
 
-      module _ {v3 q3 : ℕ} (c : Told (At v3 q3) (read_field 32 (since text q2)) text) where
-        pub successors_stand : (list_at text q3 ≡ line.successors) × Listed text q3
+      module _ (n3 : Number) (c : Told (Some n3) (read_field 32 (since text n2.next)) text) where
+        pub successors_stand : (list_at text n3.next ≡ line.successors) × Listed text n3.next
         successors_stand =
             listed_at c.3
-            (ap read_list (sym (field_is text q2 (owner-known text q1 a.3 body v2 q2 b) b.3 v3 q3 c).1) ∙ body.successors)
+            (ap read_list (sym (field_is text n2.next (owner-known text n1.next a.3 body n2 b) b.3 n3 c).1)
+            ∙ body.successors)
             body.ended (λ s i. omega (arith, r.low, successor_top (lines_from text first) line among s i))
 
-        pub fields_line : past_line text p ≡ past_line text q3
+        pub fields_line : past_line text p ≡ past_line text n3.next
         fields_line =
-            field-line text p q1 a.0 (omega arith) a.3 a.1
-            ∙ field-line text q1 q2 b.0 a.3 b.3 b.1
-            ∙ field-line text q2 q3 c.0 b.3 c.3 c.1
+            field-line text p n1.next a.0 (omega arith) a.3 a.1
+            ∙ field-line text n1.next n2.next b.0 a.3 b.3 b.1
+            ∙ field-line text n2.next n3.next c.0 b.3 c.3 c.1

@@ -2,7 +2,7 @@
 use Prim.Native.Nat.{ℕ, zero, suc, ◌+◌, ◌*◌, ◌≤◌, ◌<◌, min, max}
 use native.Mathlib.Omega.{arith}
 use mathlib.Core.Path.{◌≡◌, refl, sym, ap, ◌∙◌, subst}
-use mathlib.Core.Bool.{Bool, true, false, not, ◌&&◌, true≢false, false≢true}
+use mathlib.Core.Bool.{Bool, true, false, ◌&&◌, true≢false}
 use mathlib.Core.List.{List, [], ◌∷◌, ◌++◌, map, append-nil}
 use mathlib.Core.Option.{Option, none, some}
 use lib.ListN.{length, length-append, length-drop}
@@ -11,7 +11,6 @@ use native.Mathlib.Decide.{ℕ_discrete}
 use borrow.Author.Tests.{eq-eqb, ne_eqb}
 use Rattle.rules.specs.Lists.{Distinct, largest}
 use Rattle.lists.proofs.Members.{map-append}
-use Rattle.lists.proofs.Tests.{and-true}
 use Rattle.rules.specs.Texts.{decimal}
 use Rattle.rules.specs.Pgsolver.{SolverLine, SolverText, comma_text, list_text, name_text, line_text}
 use Rattle.rules.specs.TextReading.{Front, front, then_read}
@@ -20,31 +19,20 @@ use Rattle.rules.specs.PgsolverReading.{numbers_of}
 use Rattle.bitmap.specs.Marks.{Holds}
 use Rattle.game_texts.proofs.Parsing.{then-read, line_sound}
 use Rattle.game_texts.proofs.Decimals.{decimal_some}
-use Rattle.pgsolver_scan.specs.declared.Number.{Number}
-use Rattle.pgsolver_scan.specs.declared.Number.TheVariants.{At, NoNumber}
+use Rattle.std.specs.Prelude.{Some}
 use Rattle.pgsolver_scan.specs.declared.VertexLine.{VertexLine}
-use Rattle.pgsolver_scan.specs.declared.Row.{Row}
-use Rattle.pgsolver_scan.specs.declared.Row.TheVariants.{Given, NoRow}
 use Rattle.pgsolver_scan.specs.Told.{saturated, since, Told, RowAt, ToldRow}
 use Rattle.pgsolver_scan.proofs.Scanning.{since_end}
-use Rattle.pgsolver_scan.proofs.Reading.{then_none, told_at, told_not}
+use Rattle.pgsolver_scan.proofs.Reading.{then_none}
 use Rattle.pgsolver_check.specs.declared.Found.{Found}
 use Rattle.pgsolver_check.specs.Lines.{text_or, solver_text, lines_at, top_of, tops_of, ranks_of, in_order}
-use Rattle.pgsolver_check.specs.Windows.{Apart, Noted, Again}
+use Rattle.pgsolver_check.specs.Windows.{Apart}
 use Rattle.pgsolver_check.specs.Survey.{Addable, Added, Seen}
 use Rattle.pgsolver_check.proofs.Bounding.{largest_more, tops_more, no_edges, Enough, enough_more}
 use Rattle.pgsolver_check.proofs.Collecting.{Collected, collected_none, collected_twice, collected_more}
 use Rattle.pgsolver_check.proofs.Collecting.{noted_exact, again_exact, distinct_before}
 
 -- ---- a line that was read
-
-pub row_at : (text : List ℕ) (m : Option (Front SolverLine)) {r : Row} (row : VertexLine) → r ≡ Given row
-    → ToldRow r m text
-    → ToldRow (Given row) m text
-row_at text m row e a = subst (λ (s : Row). ToldRow s m text) e a
-
-pub row_no : (text : List ℕ) (m : Option (Front SolverLine)) {r : Row} → r ≡ NoRow → ToldRow r m text → m ≡ none
-row_no text m e a = subst (λ (s : Row). ToldRow s m text) e a
 
 -- a comma or more for each number
 commas_long : (ns : List ℕ) → length ns ≤ length (comma_text ns)
@@ -208,25 +196,6 @@ same_turn n m turn e h = go (ℕ_discrete n turn)
 
 -- ---- one line more
 
--- whether the numbers are still different, from whether this one was seen before
-pub apart_new : {apart again apart' : Bool} (n : ℕ) {bits bits' : List ℕ} → apart' ≡ (not again && apart)
-    → (again ≡ false → Noted 0 n bits bits') → apart' ≡ true → (apart ≡ true) × Noted 0 n bits bits'
-apart_new {apart} {again} n e f g =
-    let (a, b) = and-true (not again) apart (sym e ∙ g) in
-    (b, f (off again a))
-  where
-    off : (b : Bool) → not b ≡ true → b ≡ false
-    off true p = absurd (false≢true p)
-    off false p = refl
-
-pub apart_again : {apart again apart' : Bool} (n : ℕ) {bits : List ℕ} → apart' ≡ (not again && apart)
-    → (again ≡ true → Again 0 n bits) → apart' ≡ false → apart ≡ true → Again 0 n bits
-apart_again {apart} {again} n e f g k = f (go again refl)
-  where
-    go : (b : Bool) → again ≡ b → again ≡ true
-    go true p = p
-    go false p = absurd (true≢false (sym k ∙ sym (ap (λ (b : Bool). not b && apart) p) ∙ sym e ∙ g))
-
 -- ---- the pass
 
 -- the lines from `first` up to p were read
@@ -280,21 +249,19 @@ surveying_start text highest first h small k =
     }
 
 module _ {text : List ℕ} {highest first p : ℕ} {found : Found} {bits : List ℕ}
-    (s : Surveying text highest first p found bits) (h : p < length text) {r : Row} where
-  pub surveying_broken : r ≡ NoRow → ToldRow r (read_line (since text p)) text → lines_at text first ≡ none
-  surveying_broken e a =
-      s.left ∙ ap (with_lines s.ls) (lines_broken text p h (row_no text (read_line (since text p)) e a))
-      ∙ lines_none s.ls
+    (s : Surveying text highest first p found bits) (h : p < length text) where
+  pub surveying_broken : read_line (since text p) ≡ none → lines_at text first ≡ none
+  surveying_broken e = s.left ∙ ap (with_lines s.ls) (lines_broken text p h e) ∙ lines_none s.ls
 
-  module _ (row : VertexLine) (e : r ≡ Given row) (a : ToldRow r (read_line (since text p)) text) where
+  module _ (row : VertexLine) (a : ToldRow (Some row) (read_line (since text p)) text) where
     -- the line that was read
     pub surveying_later : p + 2 + row.listed ≤ row.next
     surveying_later =
-        let (x, b, c, d) = row_at text (read_line (since text p)) row e a in
+        let (x, b, c, d) = a in
         omega (arith, c.listed, line_later text p row.next x (omega arith) d b)
 
     inside : row.next ≤ length text
-    inside = (row_at text (read_line (since text p)) row e a).3
+    inside = a.3
 
     -- one line more can be counted
     pub surveying_room : highest < 18446744073709551615 → Addable found row
@@ -308,7 +275,7 @@ module _ {text : List ℕ} {highest first p : ℕ} {found : Found} {bits : List 
     pub surveying_more : {found' : Found} {bits' : List ℕ} → Added found row found' bits bits'
         → Surveying text highest first row.next found' bits'
     surveying_more {found'} {bits'} g =
-        let (x, b, c, d) = row_at text (read_line (since text p)) row e a in
+        let (x, b, c, d) = a in
         let numbers : numbers_of (s.ls ++ (x ∷ [])) ≡ numbers_of s.ls ++ (x.number ∷ [])
         = map-append (λ (l : SolverLine). l.number) s.ls (x ∷ []) in
         let listed : found'.listed ≡ found.listed + min row.listed (highest + 1)
@@ -361,22 +328,22 @@ module _ {text : List ℕ} {highest first p : ℕ} {found : Found} {bits : List 
 -- ---- the whole text
 
 -- the header of a text with the form
-module _ (text : List ℕ) {r : Number} (h first : ℕ) (e : r ≡ At h first) (a : Told r (read_header text) text) where
+module _ (text : List ℕ) (h first : ℕ) (a : Told (Some (record { value = h; next = first })) (read_header text) text) where
   pub surveyed_within : first ≤ length text
-  surveyed_within = (told_at text (read_header text) h first e a).3
+  surveyed_within = a.3
 
   parsed : (n : ℕ) × (h ≡ saturated n)
       × (parse text ≡ then_read (lines_at text first) (λ ls. some (record { highest = n; lines = ls })))
   unfolding parse lines_at
   parsed =
-      let (n, b, s, w) = told_at text (read_header text) h first e a in
+      let (n, b, s, w) = a in
       (n, s, then-read _ (front n (since text first)) b)
 
   pub surveyed_broken : lines_at text first ≡ none → parse text ≡ none
   surveyed_broken f = let (n, s, g) = parsed in g ∙ then_none _ f
 
   pub surveyed_low : h < 18446744073709551615
-  surveyed_low = let (n, b, s, w) = told_at text (read_header text) h first e a in saturated_low n s
+  surveyed_low = let (n, b, s, w) = a in saturated_low n s
     where
       saturated_low : (n : ℕ) → h ≡ saturated n → h < 18446744073709551615
       saturated_low n s = unfold saturated in omega arith
@@ -411,6 +378,6 @@ module _ (text : List ℕ) {r : Number} (h first : ℕ) (e : r ≡ At h first) (
       is_said : (t : SolverText) → parse text ≡ some t → t ≡ solver_text text
       is_said t f = unfold solver_text text_or in rw f refl
 
-pub surveyed_not : (text : List ℕ) {r : Number} → r ≡ NoNumber → Told r (read_header text) text → parse text ≡ none
+pub surveyed_not : (text : List ℕ) → read_header text ≡ none → parse text ≡ none
 unfolding parse
-surveyed_not text e a = then_none _ (told_not text (read_header text) e a)
+surveyed_not text e = then_none _ e

@@ -17,9 +17,8 @@ use Rattle.rules.specs.PgsolverParse.{read_owner, read_list, read_named, read_li
 use Rattle.lists.proofs.Members.{in_right, map_in}
 use Rattle.game_texts.proofs.Parsing.{some_same, then_some, line_sound}
 use Rattle.pgsolver_scan.specs.declared.Number.{Number}
-use Rattle.pgsolver_scan.specs.declared.Number.TheVariants.{At, NoNumber}
+use Rattle.std.specs.Prelude.{Some}
 use Rattle.pgsolver_scan.specs.Told.{saturated, since, past_line, Told}
-use Rattle.pgsolver_scan.proofs.Reading.{told_at, told_not}
 use Rattle.pgsolver_scan.proofs.Lines.{end_behind}
 use Rattle.pgsolver_scan.proofs.PastLines.{line_ends}
 use Rattle.pgsolver_check.specs.Lines.{lines_at, lines_from, top_of, tops_of, Readable, Body}
@@ -198,23 +197,21 @@ module _ {text : List ℕ} {first p : ℕ} (r : Readable text first) (k : Walk t
       exactly walk-next.line.number
       (omega (arith, number_top (lines_from text first) walk-next.line walk_among, r.exact))
 
-  module _ {n : Number} (a : Told n (read_field 32 (since text p)) text) where
-    pub walk_unnumbered : n ≡ NoNumber → ⊥
-    walk_unnumbered e =
-        let (f, b, c, d) = line_body (since text p) (front walk-next.line (since text walk-next.next))
-        walk-next.reads in
-        none-some (sym (told_not text (read_field 32 (since text p)) e a) ∙ b)
+  pub walk_unnumbered : read_field 32 (since text p) ≡ none → ⊥
+  walk_unnumbered e =
+      let (f, b, c, d) = line_body (since text p) (front walk-next.line (since text walk-next.next))
+      walk-next.reads in
+      none-some (sym e ∙ b)
 
-    -- its number and the place behind it
-    pub walk_number : (v q : ℕ) → n ≡ At v q
-        → (v ≡ walk-next.line.number) × (q ≤ length text) × Body (since text q) walk-next.line
-    walk_number v q e =
-        let (f, b, c, d) = line_body (since text p) (front walk-next.line (since text walk-next.next))
-        walk-next.reads in
-        let (m, g, s, w) = told_at text (read_field 32 (since text p)) v q e a in
-        let same : f ≡ front m (since text q) = some_same (sym b ∙ g) in
-        let number : m ≡ walk-next.line.number = ap (λ (z : Front ℕ). z.value) (sym same) ∙ c in (
-          s ∙ ap saturated number ∙ walk_exact,
-          w,
-          subst (λ (z : Front ℕ). Body z.rest walk-next.line) same d,
-        )
+  -- its number and the place behind it
+  pub walk_number : (n : Number) → Told (Some n) (read_field 32 (since text p)) text
+      → (n.value ≡ walk-next.line.number) × (n.next ≤ length text) × Body (since text n.next) walk-next.line
+  walk_number n (m, g, s, w) =
+      let (f, b, c, d) = line_body (since text p) (front walk-next.line (since text walk-next.next))
+      walk-next.reads in
+      let same : f ≡ front m (since text n.next) = some_same (sym b ∙ g) in
+      let number : m ≡ walk-next.line.number = ap (λ (z : Front ℕ). z.value) (sym same) ∙ c in (
+        s ∙ ap saturated number ∙ walk_exact,
+        w,
+        subst (λ (z : Front ℕ). Body z.rest walk-next.line) same d,
+      )

@@ -1,5 +1,7 @@
 -- What the survey of a text promises. Assumes nothing: these are definitions.
 use Rattle.std.specs.Prelude.{ℕ, ◌+◌, ◌*◌, ◌≤◌, ◌<◌, min, max, ◌≡◌, true, false, ◌&&◌, List, map, length, eqb}
+use Rattle.std.specs.Prelude.{Some, None}
+use Rattle.std.specs.declared.option.Option.{Option}
 use Rattle.std.proofs.Math.Option.{none, some}
 use Rattle.rules.specs.Lists.{Distinct}
 use Rattle.rules.specs.Game.{edge_count}
@@ -9,8 +11,6 @@ use Rattle.bitmap.specs.Marks.{bitmap_words}
 use Rattle.pgsolver_scan.specs.declared.VertexLine.{VertexLine}
 use Rattle.pgsolver_scan.specs.Told.{saturated}
 use Rattle.pgsolver_check.specs.declared.Found.{Found}
-use Rattle.pgsolver_check.specs.declared.Survey.{Survey}
-use Rattle.pgsolver_check.specs.declared.Survey.TheVariants.{Surveyed, Formless}
 use Rattle.pgsolver_check.specs.Lines.{solver_text, lines_in, lines_at, tops_of, ranks_of, in_order}
 use Rattle.pgsolver_check.specs.Windows.{Apart, Noted, Again}
 
@@ -50,6 +50,7 @@ pub record Seen (text : List ℕ) (found : Found) : Type 0 where
   pub new : found.apart ≡ true → Apart 0 (numbers_of (lines_in text))
   pub again : found.apart ≡ false → ¬ Distinct (numbers_of (lines_in text))
 
-abbrev pub ToldSurvey : Survey → List ℕ → Type 0
-ToldSurvey (Surveyed found) text = Seen text found
-ToldSurvey Formless text = parse text ≡ none
+-- a text has the form and was surveyed, or does not have it
+abbrev pub ToldSurvey : Option Found → List ℕ → Type 0
+ToldSurvey (Some found) text = Seen text found
+ToldSurvey None text = parse text ≡ none

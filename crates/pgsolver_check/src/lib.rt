@@ -2,8 +2,8 @@
 // whether each vertex is given once, and whether there is room for its game.
 #![tactic(auto)]
 
-ghost use Rattle.std.specs.Prelude.{◌≡◌, true, false, not, ◌&&◌, [], map, ◌+◌, ◌-◌, ◌<◌, ◌≤◌, min, max, length, eqb, ltb};
-ghost use Rattle.rules.specs.declared.Check.TheVariants.{Passed};
+ghost use Rattle.std.specs.Prelude.{◌≡◌, true, false, not, [], map, ◌+◌, ◌<◌, ◌≤◌, length, eqb, ltb};
+ghost use Rattle.std.specs.declared.result.Result.TheVariants.{Ok};
 ghost use Rattle.rules.specs.Lists.{one, once, Distinct};
 ghost use Rattle.rules.specs.Words.{most_vertices, room_of};
 ghost use Rattle.rules.specs.Answers.{fault_if};
@@ -18,7 +18,8 @@ ghost use Rattle.pgsolver_check.specs.Successors.{list_at, Listed};
 ghost use Rattle.pgsolver_check.specs.Plans.{ToldPlan};
 
 use bitmap::{Bitmap, NUMBERS, WORDS};
-use pgsolver_scan::{Number, Row, VertexLine};
+use pgsolver_scan::{Number, VertexLine};
+use rules::Fault;
 
 // What the survey of a text finds: the highest vertex number, the place of the first line, how many lines there are,
 // the highest number and the highest priority on them, a bound for the edges, whether the lines are in the order of
@@ -35,100 +36,43 @@ struct Found {
     apart: bool,
 }
 
-#[derive(Clone, Copy)]
-enum Survey {
-    Surveyed(Found),
-    Formless,
-}
-
 // What a text that is not refused gives: its highest vertex, the place of its first line, and whether its lines are in
-// the order of their numbers; or the number of its refusal.
+// the order of their numbers.
 #[derive(Clone, Copy)]
-pub enum Plan {
-    Good {
-        highest: usize,
-        first: usize,
-        ordered: bool,
-    },
-    Bad(u32),
-}
-
-fn larger(left: usize, right: usize) -> usize
-    ensures { result ≡ max left right }
-{
-    if left < right {
-        return right;
-    }
-    left
-}
-
-fn smaller(left: usize, right: usize) -> usize
-    ensures { result ≡ min left right }
-{
-    if left < right {
-        return left;
-    }
-    right
-}
-
-// Is a number the one whose turn it is, and were those before it so?
-fn in_turn(before: bool, number: usize, turn: usize) -> bool
-    ensures { result ≡ (before && eqb number turn) }
-{
-    if before {
-        return number == turn;
-    }
-    false
-}
-
-// Is a number new, and were those before it?
-fn still_apart(before: bool, again: bool) -> bool
-    ensures { result ≡ (not again && before) }
-{
-    if again {
-        return false;
-    }
-    before
+pub struct Plan {
+    pub highest: usize,
+    pub first: usize,
+    pub ordered: bool,
 }
 
 // What is found with one line more. A line has no more different successors than there are vertices.
 fn with_line(found: Found, row: VertexLine, bits: &mut Bitmap) -> Found
-    requires { Addable found row × (length bits.old ≡ bitmap_words) }
+    requires { Addable found row }
     ensures { Added found row result bits.old bits.new }
 {
     let again = seen_before(row.number, 0, bits);
     Found {
-        highest: found.highest,
-        first: found.first,
         lines: found.lines + 1,
-        top: larger(found.top, larger(row.number, row.largest)),
-        rank: larger(found.rank, row.priority),
-        listed: found.listed + smaller(row.listed, found.highest + 1),
-        ordered: in_turn(found.ordered, row.number, found.lines),
-        apart: still_apart(found.apart, again),
+        top: found.top.max(row.number).max(row.largest),
+        rank: found.rank.max(row.priority),
+        listed: found.listed + row.listed.min(found.highest + 1),
+        ordered: found.ordered && row.number == found.lines,
+        apart: !again && found.apart,
+        ..found
     }
 }
 
-// The form of the whole text. The numbers of the lines are noted in the bitmap, so that lines in another order than
-// that of their numbers need no pass of their own.
-fn survey_text(text: &[u8], bits: &mut Bitmap) -> Survey
-    requires { length bits.old ≡ bitmap_words }
-    ensures told_survey { ToldSurvey result text.now }
-    ensures bits_len { length bits.new ≡ bitmap_words }
+// The form of the whole text: none where it does not have it. The numbers of the lines are noted in the bitmap, so that
+// lines in another order than that of their numbers need no pass of their own.
+fn survey_text(text: &[u8], bits: &mut Bitmap) -> Option<Found>
+    ensures { ToldSurvey result text.now }
 {
-    let header = pgsolver_scan::read_header(text);
-    let Number::At {
-        value: highest,
-        next: first,
-    } = header
-    else {
-        return Survey::Formless;
-    };
+    let header = pgsolver_scan::read_header(text)?;
     bitmap::clear(bits);
-    let mut place = first;
+    let mut place = header.next;
     let mut found = Found {
-        highest,
-        first,
+        highest: header.value,
+        first: header.next,
         lines: 0,
         top: 0,
         rank: 0,
@@ -136,15 +80,14 @@ fn survey_text(text: &[u8], bits: &mut Bitmap) -> Survey
         ordered: true,
         apart: true,
     };
+    // Kept (no plainer): where a line ends is known once it is read, and each of the loops over lines reads it in its own
+    // way.
     while place < text.len() {
-        let line = pgsolver_scan::read_line(text, place);
-        let Row::Given(row) = line else {
-            return Survey::Formless;
-        };
+        let row = pgsolver_scan::read_line(text, place)?;
         found = with_line(found, row, bits);
         place = row.next;
     }
-    Survey::Surveyed(found)
+    Some(found)
 }
 
 // ---- a vertex given twice: the numbers are looked at in windows of 1,048,576, the first in the survey. A text with
@@ -152,10 +95,9 @@ fn survey_text(text: &[u8], bits: &mut Bitmap) -> Survey
 
 // A number is noted, if it is in the window from `base` on. Was it there before?
 fn seen_before(number: usize, base: usize, bits: &mut Bitmap) -> bool
-    requires { (length bits.old ≡ bitmap_words) × (base + bitmap_numbers < 18446744073709551616) }
+    requires { base + bitmap_numbers < 18446744073709551616 }
     ensures noted { result ≡ false → Noted base number bits.old bits.new }
     ensures again { result ≡ true → Again base number bits.old }
-    ensures bits_len { length bits.new ≡ bitmap_words }
 {
     if number < base {
         return false;
@@ -164,34 +106,23 @@ fn seen_before(number: usize, base: usize, bits: &mut Bitmap) -> bool
     if NUMBERS <= offset {
         return false;
     }
-    let new = bitmap::meet(bits, offset);
-    if new {
-        return false;
-    }
-    true
+    !bitmap::meet(bits, offset)
 }
 
 // Are the numbers of the lines in the window from `base` on all different? If not, the numbers are not.
 fn window_differs(text: &[u8], first: usize, base: usize, bits: &mut Bitmap) -> bool
-    requires { Readable text.now first × (base + bitmap_numbers < 18446744073709551616)
-        × (length bits.old ≡ bitmap_words) }
+    requires { Readable text.now first × (base + bitmap_numbers < 18446744073709551616) }
     ensures apart { result ≡ true → Apart base (numbers_of (lines_from text.now first)) }
     ensures not_distinct { result ≡ false → ¬ Distinct (numbers_of (lines_from text.now first)) }
-    ensures bits_len { length bits.new ≡ bitmap_words }
 {
     bitmap::clear(bits);
     let mut place = first;
+    // Kept (no plainer): as the loop over lines above.
     while place < text.len() {
-        let field = pgsolver_scan::read_field(text, place, 32);
-        let Number::At {
-            value: number,
-            next: _,
-        } = field
-        else {
+        let Some(number) = pgsolver_scan::read_field(text, place, b' ') else {
             return false;
         };
-        let again = seen_before(number, base, bits);
-        if again {
+        if seen_before(number.value, base, bits) {
             return false;
         }
         place = pgsolver_scan::past_line(text, place);
@@ -203,16 +134,11 @@ fn window_differs(text: &[u8], first: usize, base: usize, bits: &mut Bitmap) -> 
 fn numbers_differ(text: &[u8], first: usize, highest: usize, bits: &mut Bitmap) -> bool
     requires readable { Readable text.now first × (tops_of (lines_from text.now first) ≤ highest) }
     requires apart { Apart 0 (numbers_of (lines_from text.now first)) }
-    requires highest_bound { (highest < 9223372036854775808) × (length bits.old ≡ bitmap_words) }
-    ensures value { result ≡ different (numbers_of (lines_from text.now first)) }
-    ensures bits_len { length bits.new ≡ bitmap_words }
+    requires highest_bound { highest < 9223372036854775808 }
+    ensures { result ≡ different (numbers_of (lines_from text.now first)) }
 {
-    let mut base = NUMBERS;
-    while base <= highest {
-        let fine = window_differs(text, first, base, bits);
-        if fine {
-            base += NUMBERS;
-        } else {
+    for base in (NUMBERS..highest + 1).step_by(NUMBERS) {
+        if !window_differs(text, first, base, bits) {
             return false;
         }
     }
@@ -234,15 +160,14 @@ fn wipe_list(text: &[u8], list: usize, bits: &mut Bitmap)
     ensures { Holds bits.new [] }
 {
     let mut place = list;
+    // Kept (no plainer): a list ends at the byte behind one of its numbers, of which each has its own length.
     loop {
         let number = pgsolver_scan::known_number(text, place);
-        let past = number.next;
         bitmap::wipe(bits, number.value);
-        if text[past] == 44 {
-            place = past + 1;
-        } else {
+        if text[number.next] != b',' {
             return;
         }
+        place = number.next + 1;
     }
 }
 
@@ -258,19 +183,6 @@ fn empty_list(text: &[u8], list: usize, next: usize, bits: &mut Bitmap)
     wipe_list(text, list, bits);
 }
 
-// One more, unless the successor was met before.
-fn count_new(value: usize, count: usize, bits: &mut Bitmap) -> usize
-    requires { (value < bitmap_numbers) × (length bits.old ≡ bitmap_words) × (count < 18446744073709551615) }
-    ensures value { result ≡ count + one (not (marked bits.old value)) }
-    ensures met { Met bits.old bits.new value }
-{
-    let new = bitmap::meet(bits, value);
-    if new {
-        return count + 1;
-    }
-    count
-}
-
 // The different numbers of a list.
 fn count_list(text: &[u8], list: usize, bits: &mut Bitmap) -> Counted
     requires { Listed text.now list × Holds bits.old [] }
@@ -280,29 +192,28 @@ fn count_list(text: &[u8], list: usize, bits: &mut Bitmap) -> Counted
 {
     let mut place = list;
     let mut count = 0;
+    // Kept (no plainer): as the loop over a list above.
     loop {
-        let number = pgsolver_scan::known_number(text, place);
-        let past = number.next;
-        count = count_new(number.value, count, bits);
-        if text[past] == 44 {
-            place = past + 1;
-        } else {
-            empty_list(text, list, past, bits);
-            return Counted { count, next: past };
+        let Number { value, next } = pgsolver_scan::known_number(text, place);
+        count += bitmap::meet(bits, value) as usize;
+        if text[next] != b',' {
+            empty_list(text, list, next, bits);
+            return Counted { count, next };
         }
+        place = next + 1;
     }
 }
 
 // Is there room for the edges of the lines, repeats left out? The fields before a list are only passed over: that they
 // fit 32 bits is known.
 fn count_edges(text: &[u8], first: usize, room: usize, bits: &mut Bitmap) -> bool
-    requires { Narrow text.now first × (length bits.old ≡ bitmap_words) }
-    ensures value { result ≡ not (ltb room (edge_count (map vertex_of (lines_from text.now first)))) }
-    ensures bits_len { length bits.new ≡ bitmap_words }
+    requires { Narrow text.now first }
+    ensures { result ≡ not (ltb room (edge_count (map vertex_of (lines_from text.now first)))) }
 {
     bitmap::clear(bits);
     let mut place = first;
     let mut edges = 0;
+    // Kept (no plainer): as the loop over lines above.
     while place < text.len() {
         let number = pgsolver_scan::known_field(text, place);
         let priority = pgsolver_scan::known_field(text, number.next);
@@ -321,10 +232,9 @@ fn count_edges(text: &[u8], first: usize, room: usize, bits: &mut Bitmap) -> boo
 
 // 93: a text whose numbers are right, in room for so many vertices and edges.
 fn fits(text: &[u8], found: Found, vertices: usize, edges: usize, bits: &mut Bitmap) -> bool
-    requires seen { Seen text.now found × (refusal92 (solver_text text.now) ≡ Passed) }
-    requires vertices_le_most_vertices { (vertices ≤ most_vertices) × (length bits.old ≡ bitmap_words) }
-    ensures text_value { refusal93 (room_of vertices edges) (solver_text text.now) ≡ fault_if 93 0 (not result) }
-    ensures bits_len { length bits.new ≡ bitmap_words }
+    requires seen { Seen text.now found × (refusal92 (solver_text text.now) ≡ Ok tt) }
+    requires most { vertices ≤ most_vertices }
+    ensures { refusal93 (room_of vertices edges) (solver_text text.now) ≡ fault_if 93 0 (not result) }
 {
     if vertices <= found.highest {
         return false;
@@ -340,9 +250,8 @@ fn fits(text: &[u8], found: Found, vertices: usize, edges: usize, bits: &mut Bit
 
 // 92: each vertex up to the highest is given once, and no other.
 fn numbered(text: &[u8], found: Found, bits: &mut Bitmap) -> bool
-    requires { Seen text.now found × (length bits.old ≡ bitmap_words) }
-    ensures text_value { refusal92 (solver_text text.now) ≡ fault_if 92 0 (not result) }
-    ensures bits_len { length bits.new ≡ bitmap_words }
+    requires { Seen text.now found }
+    ensures { refusal92 (solver_text text.now) ≡ fault_if 92 0 (not result) }
 {
     if found.lines != found.highest + 1 {
         return false;
@@ -353,33 +262,40 @@ fn numbered(text: &[u8], found: Found, bits: &mut Bitmap) -> bool
     if found.ordered {
         return true;
     }
-    if found.apart {
-        return numbers_differ(text, found.first, found.highest, bits);
-    }
-    false
+    found.apart && numbers_differ(text, found.first, found.highest, bits)
 }
 
 // 91, 92, 93: a text for room of so many vertices and edges. The bitmap is lent, whatever it holds.
-pub fn check_text(text: &[u8], vertices: usize, edges: usize, bits: &mut Bitmap) -> Plan
-    requires { (vertices ≤ most_vertices) × (length bits.old ≡ bitmap_words) }
-    ensures told_plan { ToldPlan result vertices edges text.now }
-    ensures bits_len { length bits.new ≡ bitmap_words }
+pub fn check_text(
+    text: &[u8],
+    vertices: usize,
+    edges: usize,
+    bits: &mut Bitmap,
+) -> Result<Plan, Fault>
+    requires { vertices ≤ most_vertices }
+    ensures { ToldPlan result vertices edges text.now }
 {
-    let seen = survey_text(text, bits);
-    let Survey::Surveyed(found) = seen else {
-        return Plan::Bad(91);
+    let Some(found) = survey_text(text, bits) else {
+        return Err(Fault {
+            number: 91,
+            place: 0,
+        });
     };
-    let right = numbered(text, found, bits);
-    if right {
-        let roomy = fits(text, found, vertices, edges, bits);
-        if roomy {
-            return Plan::Good {
-                highest: found.highest,
-                first: found.first,
-                ordered: found.ordered,
-            };
-        }
-        return Plan::Bad(93);
+    if !numbered(text, found, bits) {
+        return Err(Fault {
+            number: 92,
+            place: 0,
+        });
     }
-    Plan::Bad(92)
+    if !fits(text, found, vertices, edges, bits) {
+        return Err(Fault {
+            number: 93,
+            place: 0,
+        });
+    }
+    Ok(Plan {
+        highest: found.highest,
+        first: found.first,
+        ordered: found.ordered,
+    })
 }

@@ -7,8 +7,11 @@ use mathlib.Core.List.{List, [], ◌∷◌, ◌++◌, map, append-nil, append_as
 use lib.ListN.{length, take, drop, set, replicate, length-set, length-map, take-append-drop}
 use lib.Seq.{slice, slice_empty, take-take, take-set-le, length-take-le}
 use lib.Dec.{eqb}
-use Rattle.rules.specs.declared.Check.{Check}
-use Rattle.rules.specs.declared.Check.TheVariants.{Passed, Fault}
+use Rattle.rules.specs.Answers.{Check}
+use Rattle.std.specs.declared.result.Result.TheVariants.{Ok, Err}
+use Rattle.std.specs.Prelude.{Result, IsErrAnd}
+use Rattle.rules.specs.Answers.{fault}
+use Rattle.rules.specs.declared.Fault.{Fault}
 use Rattle.rules.specs.declared.Answer.TheVariants.{Done, Refused}
 use Rattle.rules.specs.declared.Room.{Room}
 use Rattle.rules.specs.Lists.{In, from, sum, once}
@@ -33,9 +36,8 @@ use Rattle.parity_game.proofs.Stretches.{plain_padded}
 use Rattle.game_texts.proofs.Numbered.{as_many}
 use Rattle.game_texts.proofs.Exact.{Passes92, passed92, none-missing}
 use Rattle.pgsolver_check.specs.declared.Plan.{Plan}
-use Rattle.pgsolver_check.specs.declared.Plan.TheVariants.{Good, Bad}
 use Rattle.pgsolver_check.specs.Lines.{solver_text, lines_in}
-use Rattle.pgsolver_check.specs.Plans.{Planned, ToldPlan}
+use Rattle.pgsolver_check.specs.Plans.{Planned}
 use Rattle.pgsolver_check.proofs.Checking.{order_numbers}
 use Rattle.pgsolver_reader.specs.Parts.{verts_to, starts, Whole, Part, Ready, room_refusal, column_at, offsets_from}
 use Rattle.pgsolver_reader.specs.Parts.{edges_begin, Posted, LinesPosted, PostedFrom}
@@ -220,20 +222,9 @@ module _ {text : List ℕ} {n m q : ℕ} {g : List ℕ} (p : Part text n n q g) 
           ap (λ (x : List ℕ). take q x ++ replicate (length g₁ - q) 0) f
           ∙ ap (λ (k : ℕ). take q G ++ replicate k 0) z
 
-pub assembled_place : {text : List ℕ} {n q : ℕ} {g : List ℕ} → Part text n n q g → (edges_begin n ≤ q) × (q ≤ length g)
-assembled_place p = (omega (arith, p.place), omega (arith, p.place, p.room))
-
 -- ---- what a plan gives
 
-pub plan-at : (v e : ℕ) (text : List ℕ) {r : Plan} (h f : ℕ) (o : Bool) → r ≡ Good h f o → ToldPlan r v e text
-    → Planned text v e h f o
-plan-at v e text h f o p a = subst (λ (s : Plan). ToldPlan s v e text) p a
-
-pub plan_bad : (v e : ℕ) (text : List ℕ) {r : Plan} (n : ℕ) → r ≡ Bad n → ToldPlan r v e text
-    → text_refusal (room_of v e) (parse text) ≡ Fault n 0
-plan_bad v e text n p a = subst (λ (s : Plan). ToldPlan s v e text) p a
-
-pub room_sizes : (v e size : ℕ) → room_refusal (room_of v e) size ≡ Passed
+pub room_sizes : (v e size : ℕ) → room_refusal (room_of v e) size ≡ Ok tt
     → (v ≤ 1048576) × (e ≤ 4194304) × (size ≡ game_words v e)
 unfolding room_refusal refusal1 game_length
 room_sizes v e size p =
@@ -243,29 +234,30 @@ room_sizes v e size p =
     let y = outside_false 1 4_194_304 e d in
     (x.1, y.1, differ_false size (game_words v e) (if_passed 2 0 _ b))
 
-module _ {text : List ℕ} {v e h f : ℕ} {o : Bool} (p : Planned text v e h f o) where
+module _ {text : List ℕ} {v e : ℕ} {plan : Plan} (p : Planned text v e plan) where
   abbrev t : SolverText
   t = solver_text text
 
   abbrev passes : Passes92 t
   passes = passed92 t p.numbered
 
-  pub plan_whole : v ≤ 1048576 → Whole text (h + 1)
+  pub plan_whole : v ≤ 1048576 → Whole text (plan.highest + 1)
   plan_whole l =
       record { few = omega (arith, p.fits); low = omega (arith, p.low); ranked = p.ranked; apart = passes.apart }
 
-  same_count : suc t.highest ≡ h + 1
+  same_count : suc t.highest ≡ plan.highest + 1
   same_count = omega (arith, p.header)
 
   -- as many edges by line as by vertex
-  many : edge_count (map vertex_of (lines_in text)) ≡ edge_count (verts_to (lines_in text) (h + 1))
+  many : edge_count (map vertex_of (lines_in text)) ≡ edge_count (verts_to (lines_in text) (plan.highest + 1))
   unfolding verts_to
   many = as_many t passes ∙ ap (λ (k : ℕ). edge_count (map (vertex_named (lines_in text)) (from 0 k))) same_count
 
-  pub plan_small : edge_count (verts_to (lines_in text) (h + 1)) ≤ e
+  pub plan_small : edge_count (verts_to (lines_in text) (plan.highest + 1)) ≤ e
   plan_small = omega (arith, many, p.held)
 
-  pub plan_ready : (size : ℕ) → v ≤ 1048576 → e ≤ 4194304 → size ≡ game_words v e → Ready text f (h + 1) o size
+  pub plan_ready : (size : ℕ) → v ≤ 1048576 → e ≤ 4194304 → size ≡ game_words v e
+      → Ready text plan.first (plan.highest + 1) plan.ordered size
   plan_ready size a b c =
       record {
         begins = record { readable = p.readable; lines = p.lines };
@@ -275,55 +267,61 @@ module _ {text : List ℕ} {v e h f : ℕ} {o : Bool} (p : Planned text v e h f 
         short = omega arith;
       }
 
-  read_verts : read_vertices t ≡ verts_to (lines_in text) (h + 1)
+  read_verts : read_vertices t ≡ verts_to (lines_in text) (plan.highest + 1)
   unfolding read_vertices verts_to
   read_verts = ap (λ (k : ℕ). map (vertex_named (lines_in text)) (from 0 k)) same_count
 
-  pub read_done : (game game' : List ℕ) (n m : ℕ) → room_refusal (room_of v e) (length game) ≡ Passed → n ≡ h + 1
-      → m ≡ edge_count (verts_to (lines_in text) (h + 1))
-      → game' ≡ padded (length game) (game_of 0 (verts_to (lines_in text) (h + 1)))
+  pub read_done : (game game' : List ℕ) (n m : ℕ) → room_refusal (room_of v e) (length game) ≡ Ok tt
+      → n ≡ plan.highest + 1
+      → m ≡ edge_count (verts_to (lines_in text) (plan.highest + 1))
+      → game' ≡ padded (length game) (game_of 0 (verts_to (lines_in text) (plan.highest + 1)))
       → ◌≡◌ {A = Readback} (record { answer = Done n n m; game = game' }) (read_game (room_of v e) text game)
   unfolding read_game reading_refusal room_refusal first_fault text_refusal vertices_in read_or read_as and_then
   read_done game game' n m r k l g =
       let (a, b) = then_both (refusal1 (room_of v e)) _ r in
-      let z : n ≡ length (verts_to (lines_in text) (h + 1)) = k ∙ sym (verts_length (lines_in text) (h + 1)) in
+      let z : n ≡ length (verts_to (lines_in text) (plan.highest + 1))
+      = k ∙ sym (verts_length (lines_in text) (plan.highest + 1)) in
       (λ i. record { answer = Done (z i) (z i) (l i); game = g i })
       ∙ sym (rw (p.says, a, b, p.numbered, p.roomy, read_verts) refl)
 
 -- ---- refusals
 
-pub read-refused : (text game : List ℕ) (r : Room) (n p : ℕ) → Fault n p ≡ room_refusal r (length game)
-    → ◌≡◌ {A = Readback} (record { answer = Refused n p; game = game }) (read_game r text game)
-unfolding read_game reading_refusal room_refusal first_fault read_or and_then
-read-refused text game r n p z = go (refusal1 r) (fault_if 2 0 (differ (length game) (game_length r))) refl refl z
-  where
-    go : (a b : Check) → refusal1 r ≡ a → fault_if 2 0 (differ (length game) (game_length r)) ≡ b → Fault n p
-        ≡ and_then a b
-        → ◌≡◌ {A = Readback} (record { answer = Refused n p; game = game }) (read_game r text game)
-    go (Fault k l) b x y z = rw x (ap (λ (c : Check). read_or c (vertices_in (parse text)) game) z)
-    go Passed (Fault k l) x y z = rw (x, y) (ap (λ (c : Check). read_or c (vertices_in (parse text)) game) z)
-    go Passed Passed x y z = absurd (Rattle.tables.proofs.Faults.passed_not_fault (sym z))
+-- a fault that is handed on
+pub handed_on : {A : Type 0} (r : Result A Fault) (f : Fault) → IsErrAnd r (λ g. g ≡ f) → r ≡ Err f
+handed_on (Ok a) f e = absurd e
+handed_on (Err g) f e = ap (λ (h : Fault). Err h) e
 
-pub read_bad : (text game : List ℕ) (r : Room) (n : ℕ) → room_refusal r (length game) ≡ Passed
-    → text_refusal r (parse text) ≡ Fault n 0
-    → ◌≡◌ {A = Readback} (record { answer = Refused n 0; game = game }) (read_game r text game)
+pub read-refused : (text game : List ℕ) (r : Room) (f : Fault) → Err f ≡ room_refusal r (length game)
+    → ◌≡◌ {A = Readback} (record { answer = Refused f.number f.place; game = game }) (read_game r text game)
 unfolding read_game reading_refusal room_refusal first_fault read_or and_then
-read_bad text game r n z q =
+read-refused text game r f z = go (refusal1 r) (fault_if 2 0 (differ (length game) (game_length r))) refl refl z
+  where
+    go : (a b : Check) → refusal1 r ≡ a → fault_if 2 0 (differ (length game) (game_length r)) ≡ b → Err f ≡ and_then a b
+        → ◌≡◌ {A = Readback} (record { answer = Refused f.number f.place; game = game }) (read_game r text game)
+    go (Err k) b x y z = rw x (ap (λ (c : Check). read_or c (vertices_in (parse text)) game) z)
+    go (Ok u) (Err k) x y z = rw (x, y) (ap (λ (c : Check). read_or c (vertices_in (parse text)) game) z)
+    go (Ok u) (Ok w) x y z = absurd (Rattle.tables.proofs.Faults.passed_not_fault (sym z))
+
+pub read_bad : (text game : List ℕ) (r : Room) (f : Fault) → room_refusal r (length game) ≡ Ok tt
+    → text_refusal r (parse text) ≡ Err f
+    → ◌≡◌ {A = Readback} (record { answer = Refused f.number f.place; game = game }) (read_game r text game)
+unfolding read_game reading_refusal room_refusal first_fault read_or and_then
+read_bad text game r f z q =
     let (a, b) = then_both (refusal1 r) _ z in
     sym (rw (a, b, q) refl)
 
 -- ---- the room
 
-pub lent_fault : (r : Room) {n p : ℕ} (size : ℕ) → refusal1 r ≡ Fault n p → Fault n p ≡ room_refusal r size
-unfolding room_refusal
-lent_fault r size e = sym (then_fault _ e)
+pub lent_fault : (r : Room) (f : Fault) (size : ℕ) → refusal1 r ≡ Err f → Err f ≡ room_refusal r size
+unfolding room_refusal and_then
+lent_fault r f size e = sym (rw e refl)
 
-pub lent_other : (v e size : ℕ) → refusal1 (room_of v e) ≡ Passed → ¬ (size ≡ game_words v e)
-    → Fault 2 0 ≡ room_refusal (room_of v e) size
+pub lent_other : (v e size : ℕ) → refusal1 (room_of v e) ≡ Ok tt → ¬ (size ≡ game_words v e)
+    → fault 2 0 ≡ room_refusal (room_of v e) size
 unfolding room_refusal game_length
 lent_other v e size a n = sym (then_passed _ a ∙ if-true 2 0 (differ_yes n))
 
-pub lent_right : (v e size : ℕ) → refusal1 (room_of v e) ≡ Passed → size ≡ game_words v e
-    → Passed ≡ room_refusal (room_of v e) size
+pub lent_right : (v e size : ℕ) → refusal1 (room_of v e) ≡ Ok tt → size ≡ game_words v e
+    → (Ok tt) ≡ room_refusal (room_of v e) size
 unfolding room_refusal game_length
 lent_right v e size a n = sym (then_passed _ a ∙ if-false 2 0 (differ_no n))

@@ -12,7 +12,7 @@ use Rattle.rules.specs.Pgsolver.{SolverLine}
 use Rattle.rules.specs.TextReading.{front, read_field}
 use Rattle.rules.specs.PgsolverReading.{numbers_of}
 use Rattle.game_texts.proofs.Parsing.{some_same}
-use Rattle.pgsolver_scan.specs.declared.Number.TheVariants.{At}
+use Rattle.std.specs.Prelude.{Some}
 use Rattle.pgsolver_scan.specs.Told.{saturated, since, past_line, Told}
 use Rattle.pgsolver_check.specs.Lines.{lines_in}
 use Rattle.pgsolver_check.proofs.Surveying.{lines_end}
@@ -73,7 +73,7 @@ module _ {text : List ℕ} {first n v p : ℕ} (b : Begins text first) (k : Orde
 
   -- the place past its number, which has so many digits
   module _ (c : ℕ) (e : c ≡ length (decimal v)) where
-    told : Told (At (saturated v) (p + c + 1)) (read_field 32 (since text p)) text
+    told : Told (Some (record { value = saturated v; next = p + c + 1 })) (read_field 32 (since text p)) text
     told =
         let y = walk-next b.readable k.walk ordering_there in
         let (f, g, h, d) = line_body (since text p) (front x (since text y.next)) y.reads in
@@ -87,7 +87,8 @@ module _ {text : List ℕ} {first n v p : ℕ} (b : Begins text first) (k : Orde
 
     pub ordering_turn : Turn text v (p + c + 1)
     ordering_turn =
-        let (f, g, h) = walk_number b.readable k.walk ordering_there told (saturated v) (p + c + 1) refl in
+        let (f, g, h) = walk_number b.readable k.walk ordering_there
+        (record { value = saturated v; next = p + c + 1 }) told in
         record {
           line = x;
           within = g;

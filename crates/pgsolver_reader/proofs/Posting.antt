@@ -11,7 +11,7 @@ use Rattle.rules.specs.Pgsolver.{SolverLine}
 use Rattle.rules.specs.TextReading.{read_field}
 use Rattle.rules.specs.PgsolverReading.{numbers_of}
 use Rattle.lists.proofs.Members.{in_either, in_left, in_right, map_in}
-use Rattle.pgsolver_scan.specs.declared.Number.TheVariants.{At}
+use Rattle.std.specs.Prelude.{Some}
 use Rattle.pgsolver_scan.specs.Told.{since, past_line, Told, StandsField}
 use Rattle.pgsolver_check.specs.Lines.{lines_in, Body}
 use Rattle.pgsolver_check.proofs.Walking.{number_top, Walk, walk_start, walk_done, walk-next, walk_all, walk_later}
@@ -21,14 +21,6 @@ use Rattle.pgsolver_scan.proofs.SameLine.{field-line}
 use Rattle.pgsolver_reader.proofs.Standing.{line_among, number_stands}
 
 -- ---- places
-
-pub one_place : (g : List ℕ) (p p' v a : ℕ) → p ≡ p' → set g (p + v) a ≡ set g (p' + v) a
-one_place g p p' v a e = ap (λ (k : ℕ). set g (k + v) a) e
-
-pub two_places : (g : List ℕ) (p p' q q' v a b : ℕ) → p ≡ p' → q ≡ q'
-    → set (set g (p + v) a) (q + v) b ≡ set (set g (p' + v) a) (q' + v) b
-two_places g p p' q q' v a b e f =
-    ap (λ (h : List ℕ). set h (q + v) b) (one_place g p p' v a e) ∙ one_place (set g (p' + v) a) q q' v b f
 
 module _ (game : List ℕ) (n v a b : ℕ) (below : v < n) (long : edges_begin n ≤ length game) where
   abbrev after : List ℕ
@@ -80,12 +72,12 @@ module _ {text : List ℕ} {first n p : ℕ} {game : List ℕ} (w : Whole text n
   pub posting_stands : StandsField text p
   posting_stands = number_stands b k.walk h w
 
-  module _ (v q : ℕ) (a : Told (At v q) (read_field 32 (since text p)) text) where
+  module _ (v q : ℕ) (a : Told (Some (record { value = v; next = q })) (read_field 32 (since text p)) text) where
     abbrev x : SolverLine
     x = (walk-next b.readable k.walk h).line
 
     abbrev told : (v ≡ x.number) × (q ≤ length text) × Body (since text q) x
-    told = walk_number b.readable k.walk h a v q refl
+    told = walk_number b.readable k.walk h (record { value = v; next = q }) a
 
     all : lines_in text ≡ k.walk.ls ++ (x ∷ (walk-next b.readable k.walk h).later)
     all = sym b.lines ∙ walk_all b.readable k.walk h

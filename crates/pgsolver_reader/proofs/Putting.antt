@@ -1,16 +1,16 @@
 -- The different numbers of a list are appended to the game, and the bitmap is emptied by them. Assumes nothing.
-use Prim.Native.Nat.{ℕ, ◌+◌, ◌≤◌, ◌<◌}
+use Prim.Native.Nat.{ℕ, ◌+◌, ◌-◌, ◌≤◌, ◌<◌}
 use native.Mathlib.Omega.{arith}
 use native.Mathlib.Numerals.{add-one}
 use mathlib.Core.Path.{◌≡◌, refl, sym, ap, ◌∙◌, subst}
 use mathlib.Core.Bool.{Bool, true, false, not, true≢false}
 use mathlib.Core.List.{List, [], ◌∷◌, ◌++◌, append-nil, append_assoc}
 use mathlib.Core.Logic.{inl, inr}
-use lib.ListN.{length, take, length-append, length-take, drop_of_length-le}
-use lib.Seq.{slice, slice-cons}
+use lib.ListN.{length, take, drop, length-append, length-take, length-drop, drop_of_length-le}
+use lib.Seq.{slice, slice-cons, get_or-take}
+use Rattle.std.proofs.lemmas.List.{get_or-drop}
 use lib.Dec.{eqb}
 use Rattle.rules.specs.Lists.{word, In, insert, insert_all, once}
-use Rattle.rules.specs.TextReading.{read_number}
 use Rattle.lists.proofs.Members.{in_has, not_in}
 use Rattle.lists.proofs.Inserts.{insert_cases, inserts_begins, once_append}
 use Rattle.lists.proofs.Equalities.{number_equality}
@@ -18,12 +18,10 @@ use Rattle.bitmap.specs.Marks.{marked, Met, Wiped, Holds, Only}
 use Rattle.bitmap.proofs.Sets.{meets, only_wiped, only_none}
 use Rattle.words.specs.Stretches.{Wrote}
 use Rattle.text_writer.proofs.Lines.{wrote_as, wrote_both}
-use Rattle.pgsolver_scan.specs.declared.Number.TheVariants.{At}
-use Rattle.pgsolver_scan.specs.Told.{since, past_line, Told}
+use Rattle.pgsolver_scan.specs.Told.{past_line}
 use Rattle.pgsolver_check.specs.Successors.{list_at, Listed}
 use Rattle.pgsolver_check.proofs.Counting.{once_snoc}
 use Rattle.pgsolver_reader.specs.Parts.{unless}
-use Rattle.pgsolver_scan.proofs.SameLine.{number_line}
 
 pub wrote_none : {at : ℕ} {stretch out : List ℕ} → stretch ≡ [] → Wrote at stretch out out at
 wrote_none {at} {stretch} {out} e =
@@ -123,11 +121,6 @@ module _ {text : List ℕ} {p q start at : ℕ} {bits game game₀ : List ℕ} (
     pub putting_holds : list_at text q ≡ v ∷ [] → Holds bits' (once eqb (list_at text p))
     putting_holds a = subst (λ (ns : List ℕ). Holds bits' (once eqb ns)) (sym (whole a)) held
 
--- a number that was read ends on its line
-pub read_line_on : (text : List ℕ) (q v next : ℕ) → q ≤ length text → Told (At v next) (read_number (since text q)) text
-    → past_line text q ≡ past_line text next
-read_line_on text q v next h (n, c, s, w) = number_line text q next n h w c
-
 -- ---- the bitmap is emptied by the words from q on
 
 -- only these words are marked, and they are small
@@ -154,3 +147,18 @@ pub wiping_end : {game : List ℕ} {q end : ℕ} {bits : List ℕ} → Wiping ga
 wiping_end {game} {q} {end} {bits} w h =
     let l : length (take end game) ≤ q = omega (arith, length-take end game) in
     only_none (subst (Only bits) (drop_of_length-le (take end game) l) w.only)
+
+-- the words from `start` up to `end`, one by one
+module _ (game : List ℕ) (start end i : ℕ) where
+  abbrev words : List ℕ
+  words = take (end - start) (drop start game)
+
+  pub wiping_inside : i < length words → start + i < end
+  wiping_inside h = omega (arith, length-take (end - start) (drop start game), length-drop start game)
+
+  pub wiping_past : start ≤ end → end ≤ length game → length words ≤ i → end ≤ start + i
+  wiping_past h k l = omega (arith, length-take (end - start) (drop start game), length-drop start game)
+
+  pub wiping_word : i < length words → word words i ≡ word game (start + i)
+  wiping_word h =
+      get_or-take (end - start) (drop start game) i 0 (omega (arith, wiping_inside h)) ∙ get_or-drop start game i 0

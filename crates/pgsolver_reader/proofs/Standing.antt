@@ -10,7 +10,8 @@ use Rattle.rules.specs.Pgsolver.{SolverLine}
 use Rattle.rules.specs.TextReading.{front, read_field}
 use Rattle.game_texts.proofs.Decimals.{Digits, digit_small, decimal-digits, decimal_some}
 use Rattle.game_texts.proofs.Parsing.{field_sound}
-use Rattle.pgsolver_scan.specs.declared.Number.TheVariants.{At}
+use Rattle.std.specs.Prelude.{Some}
+use Rattle.pgsolver_scan.specs.declared.Number.{Number}
 use Rattle.pgsolver_scan.specs.Told.{since, Told, StandsField}
 use Rattle.pgsolver_scan.proofs.Scanning.{since-cons}
 use Rattle.pgsolver_check.specs.Lines.{lines_in}
@@ -64,9 +65,9 @@ module _ {text : List ℕ} {u place : ℕ} (t : Turn text u place) where
     pub priority_stands : StandsField text place
     priority_stands = line-priority text place t.within t.body low_rank
 
-  module _ (pr next : ℕ) (a : Told (At pr next) (read_field 32 (since text place)) text) where
-    pub owner_stands : StandsField text next
-    owner_stands = line-owner text place t.within t.body pr next a
+  module _ (priority : Number) (a : Told (Some priority) (read_field 32 (since text place)) text) where
+    pub owner_stands : StandsField text priority.next
+    owner_stands = line-owner text place t.within t.body priority a
 
 -- so is the byte at a place that is posted
 pub posted_digit : {text : List ℕ} {n v : ℕ} {game : List ℕ} → PostedFrom text n v game → (u : ℕ) → v ≤ u → u < n

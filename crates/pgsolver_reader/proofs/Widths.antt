@@ -29,18 +29,6 @@ bound_start =
 
 module _ {count bound v : ℕ} (k : DigitBound count bound v) where
   -- below the bound the digits stay
-  pub bound_stays : v < bound → DigitBound count bound (v + 1) × (count ≡ length (decimal v))
-  bound_stays h = (
-    record {
-      same = k.same;
-      round = k.round;
-      few = k.few;
-      least = k.least;
-      reached = omega (arith, k.reached);
-      within = omega arith;
-    },
-    sym (k.same v h k.reached),
-  )
 
   -- a number from the bound up to its tenfold has a digit more: without its last digit it is below the bound
   longer : (n : ℕ) → n < 10 * bound → 10 * bound ≤ 10 * max n 1 → length (decimal n) ≡ count + 1

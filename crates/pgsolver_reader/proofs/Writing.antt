@@ -24,14 +24,14 @@ use Rattle.words.specs.Stretches.{Wrote}
 use Rattle.bitmap.specs.Marks.{Holds}
 use Rattle.bitmap.proofs.Sets.{only_holds}
 use Rattle.game_texts.proofs.Numbered.{named}
-use Rattle.pgsolver_scan.specs.declared.Number.TheVariants.{At}
+use Rattle.std.specs.Prelude.{Some}
 use Rattle.pgsolver_scan.specs.Told.{saturated, since, past_line, Told}
 use Rattle.pgsolver_check.specs.Lines.{lines_in}
 use Rattle.pgsolver_check.specs.Successors.{list_at, Listed}
 use Rattle.pgsolver_check.proofs.Walking.{successor_top, exactly}
 use Rattle.pgsolver_check.proofs.Bounding.{edges_append, edges_cons, no_edges}
 use Rattle.pgsolver_reader.specs.Parts.{verts_to, starts, Whole, Turn, Part, column_at, offsets_from, edges_begin}
-use Rattle.pgsolver_reader.specs.Parts.{post_at, PostedFrom, PostsKept}
+use Rattle.pgsolver_reader.specs.Parts.{post_at, PostsKept}
 use Rattle.pgsolver_check.proofs.Fields.{listed_at, field_is, owner-known}
 use Rattle.pgsolver_reader.proofs.Standing.{low_rank}
 use Rattle.pgsolver_reader.proofs.Putting.{Wiping}
@@ -145,15 +145,16 @@ module _ {text : List ℕ} {n v q place : ℕ} {game : List ℕ} (w : Whole text
   vertex : vertex_named lines v ≡ vertex_of t.line
   vertex = ap (vertex_named lines) (sym t.number) ∙ named lines t.line w.apart t.among
 
-  module _ (pr next : ℕ) (a : Told (At pr next) (read_field 32 (since text place)) text) (o list : ℕ)
-      (b : Told (At o list) (read_field 32 (since text next)) text) where
+  module _ (pr next : ℕ) (a : Told (Some (record { value = pr; next = next })) (read_field 32 (since text place)) text)
+      (o list : ℕ) (b : Told (Some (record { value = o; next = list })) (read_field 32 (since text next)) text) where
     abbrev first : (pr ≡ saturated t.line.priority) × (t.body.ranked ≡ since text next) × (next ≤ length text)
         × (past_line text place ≡ past_line text next)
-    first = field_is text place t.body.priority t.within pr next a
+    first = field_is text place t.body.priority t.within (record { value = pr; next = next }) a
 
     abbrev second : (o ≡ saturated t.line.owner) × (t.body.owned ≡ since text list) × (list ≤ length text)
         × (past_line text next ≡ past_line text list)
-    second = field_is text next (owner-known text place t.within t.body pr next a) first.2 o list b
+    second = field_is text next (owner-known text place t.within t.body (record { value = pr; next = next }) a) first.2
+        (record { value = o; next = list }) b
 
     pub turn_line : past_line text place ≡ past_line text list
     turn_line = first.3 ∙ second.3
@@ -344,23 +345,3 @@ module _ {text : List ℕ} {n v q place : ℕ} {game : List ℕ} (w : Whole text
 
 pub part_at : {text : List ℕ} {n v q r : ℕ} {game : List ℕ} → r ≡ q → Part text n v q game → Part text n v r game
 part_at {text} {n} {v} {game = game} e p = subst (λ (k : ℕ). Part text n v k game) (sym e) p
-
-pub turn_at : {text : List ℕ} {u p q : ℕ} → q ≡ p → Turn text u p → Turn text u q
-turn_at {text} {u} e t = subst (Turn text u) (sym e) t
-
--- the vertices behind the one that was written are still posted
-pub still_posted : {text : List ℕ} {n v : ℕ} {game game' : List ℕ} → PostedFrom text n v game → PostsKept n v game game'
-    → PostedFrom text n (v + 1) game'
-still_posted {text} f g =
-    record { posted = λ u h k. subst (Turn text u) (g.same u (omega arith) k) (f.posted u (omega arith) k) }
-
--- the same up to a vertex that was reached
-pub part_last : {text : List ℕ} {n v l q : ℕ} {game : List ℕ} → v ≤ l → l ≤ v → Part text n v q game
-    → Part text n l q game
-part_last {text} {n} {v} {l} {q} {game} h k p =
-    let e : v ≡ l = omega arith in
-    subst (λ (u : ℕ). Part text n u q game) e p
-
-pub posted_last : {text : List ℕ} {n v l : ℕ} {game : List ℕ} → l ≤ v → v ≤ l → PostedFrom text n v game
-    → PostedFrom text n l game
-posted_last h k f = record { posted = λ u a b. f.posted u (omega arith) b }

@@ -2,8 +2,13 @@
 -- their numbers, the place of each vertex's line is posted before, where its owner and priority will stand. Assumes
 -- nothing: these are definitions.
 use Rattle.std.specs.Prelude.{ℕ, ◌+◌, ◌*◌, ◌%◌, ◌≤◌, ◌<◌, max, ◌≡◌, Bool, true, false, List, [], ◌∷◌, map, length}
+use Rattle.std.specs.Prelude.{Result}
+use Rattle.std.specs.declared.result.Result.TheVariants.{Ok, Err}
+use Rattle.rules.specs.declared.Answer.{Answer}
+use Rattle.rules.specs.declared.Answer.TheVariants.{Refused}
+use Rattle.rules.specs.declared.Fault.{Fault}
 use Rattle.std.proofs.Math.Seq.{slice}
-use Rattle.rules.specs.declared.Check.{Check}
+use Rattle.rules.specs.Answers.{Check}
 use Rattle.rules.specs.declared.Room.{Room}
 use Rattle.rules.specs.Lists.{word, In, Distinct, from}
 use Rattle.rules.specs.Words.{most_vertices, game_length}
@@ -113,3 +118,8 @@ pub record Ready (text : List ℕ) (first n : ℕ) (ordered : Bool) (size : ℕ)
 -- "after 1 and 2": what is refused before the text is looked at
 unfoldable pub room_refusal : Room → (game : ℕ) → Check
 room_refusal r game = and_then (refusal1 r) (fault_if 2 0 (differ game (game_length r)))
+
+-- the answer of the call: a fault refuses
+abbrev pub answer_of : Result Answer Fault → Answer
+answer_of (Ok a) = a
+answer_of (Err f) = Refused f.number f.place

@@ -6,7 +6,7 @@
 
 ghost use Rattle.std.specs.Prelude.{◌≡◌, false, [], ◌∷◌, ℕ, ◌+◌, ◌-◌, ◌*◌, ◌/◌, ◌%◌, ◌<◌, ◌≤◌, length, set, eqb};
 ghost use Rattle.std.proofs.Math.Seq.{slice};
-ghost use Rattle.rules.specs.declared.Check.TheVariants.{Passed};
+ghost use Rattle.std.specs.declared.result.Result.TheVariants.{Ok};
 ghost use Rattle.rules.specs.Lists.{In, from, once};
 ghost use Rattle.rules.specs.Words.{most_vertices, room_of};
 ghost use Rattle.rules.specs.Answers.{said};
@@ -20,12 +20,12 @@ ghost use Rattle.pgsolver_scan.specs.Told.{past_line};
 ghost use Rattle.pgsolver_check.specs.Lines.{lines_in};
 ghost use Rattle.pgsolver_check.specs.Successors.{list_at, Listed};
 ghost use Rattle.pgsolver_reader.specs.Parts.{unless, verts_to, Whole, Begins, Turn, Part, Ready, room_refusal};
+ghost use Rattle.pgsolver_reader.specs.Parts.{answer_of};
 ghost use Rattle.pgsolver_reader.specs.Parts.{DigitBound, column_at, offsets_from, edges_begin, post_at};
 ghost use Rattle.pgsolver_reader.specs.Parts.{LinesPosted, PostedFrom, PostsKept};
 
 use bitmap::{Bitmap, WORDS};
-use pgsolver_check::Plan;
-use rules::{Answer, Check, Room};
+use rules::{Answer, Fault, Room};
 
 // What was written of a vertex: the place past its targets in the game, and the place past its successors in the text.
 #[derive(Clone, Copy)]
@@ -45,14 +45,13 @@ struct Digits {
 
 // A successor is appended, unless it was met before.
 fn put_new(value: usize, game: &mut [u32], end: usize, bits: &mut Bitmap) -> usize
-    requires value_lt_bitmap_numbers { (value < bitmap_numbers) × (length bits.old ≡ bitmap_words) }
+    requires value_lt_bitmap_numbers { value < bitmap_numbers }
     requires value_in_bounds { end + length (unless (marked bits.old value) (value ∷ [])) ≤ length game.old }
     ensures wrote { Wrote end (unless (marked bits.old value) (value ∷ []))
         game.old game.new result }
     ensures met { Met bits.old bits.new value }
 {
-    let new = bitmap::meet(bits, value);
-    if new {
+    if bitmap::meet(bits, value) {
         game[end] = value as u32;
         return end + 1;
     }
@@ -70,14 +69,17 @@ fn put_list(text: &[u8], list: usize, game: &mut [u32], start: usize, bits: &mut
 {
     let mut next = list;
     let mut end = start;
+    // Kept (no plainer): a list ends at the byte behind one of its numbers, of which each has its own length.
     loop {
         let number = pgsolver_scan::known_number(text, next);
         end = put_new(number.value, game, end, bits);
-        let past = number.next;
-        if text[past] != 44 {
-            return Written { end, next: past };
+        if text[number.next] != b',' {
+            return Written {
+                end,
+                next: number.next,
+            };
         }
-        next = past + 1;
+        next = number.next + 1;
     }
 }
 
@@ -87,11 +89,8 @@ fn wipe_words(game: &[u32], start: usize, end: usize, bits: &mut Bitmap)
     requires by_index { (s : ℕ) → In s (slice start end game.now) → s < bitmap_numbers }
     ensures { Holds bits.new [] }
 {
-    let mut place = start;
-    while place < end {
-        let value = words::at(game, place);
-        bitmap::wipe(bits, value);
-        place += 1;
+    for word in &game[start..end] {
+        bitmap::wipe(bits, *word as usize);
     }
 }
 
@@ -114,6 +113,7 @@ fn post_lines(text: &[u8], first: usize, vertices: usize, game: &mut [u32])
     ensures { LinesPosted text.now vertices game.new }
 {
     let mut place = first;
+    // Kept (no plainer): where a line ends is known once it is read.
     while place < text.len() {
         let number = pgsolver_scan::known_field(text, place);
         post(game, vertices, number.value, number.next);
@@ -212,18 +212,16 @@ fn write_in_order(
 {
     let mut end = parity_game::game_words(vertices, 0);
     let mut line = first;
-    let mut vertex = 0;
     let mut digits = Digits {
         count: 1,
         bound: 10,
     };
-    while vertex < vertices {
+    for vertex in 0..vertices {
         digits = digits_of(digits, vertex);
         let place = line + digits.count + 1;
         let written = write_line(text, place, vertices, vertex, end, game, bits);
         end = written.end;
         line = pgsolver_scan::past_line(text, written.next);
-        vertex += 1;
     }
     end
 }
@@ -232,17 +230,6 @@ fn write_in_order(
 
 // Lines out of order stand anywhere in the text: so many are looked at together before they are written.
 const TOGETHER: usize = 16;
-
-// The vertex behind the last one of the block that begins with a vertex.
-fn block_end(vertex: usize, vertices: usize) -> usize
-    requires { vertex < vertices }
-    ensures { (vertex < result) × (result ≤ vertices) }
-{
-    if TOGETHER < vertices - vertex {
-        return vertex + TOGETHER;
-    }
-    vertices
-}
 
 // Whether a byte at a place posted for the vertices from `first` up to `end` is below the digits. None is: a priority
 // begins there. What counts are the loads: none waits for another, so the memory fetches the lines of a block at the
@@ -254,13 +241,11 @@ fn look_ahead(text: &[u8], game: &[u32], vertices: usize, first: usize, end: usi
     ensures { result ≡ false }
 {
     let mut odd = false;
-    let mut vertex = first;
-    while vertex < end {
+    for vertex in first..end {
         let place = posted_at(game, vertices, vertex);
-        if text[place] < 48 {
+        if text[place] < b'0' {
             odd = true;
         }
-        vertex += 1;
     }
     odd
 }
@@ -283,12 +268,10 @@ fn write_block(
     ensures holds { Holds bits.new [] }
 {
     let mut end = start;
-    let mut vertex = first;
-    while vertex < last {
+    for vertex in first..last {
         let place = posted_at(game, vertices, vertex);
         let written = write_line(text, place, vertices, vertex, end, game, bits);
         end = written.end;
-        vertex += 1;
     }
     end
 }
@@ -302,15 +285,12 @@ fn write_posted(text: &[u8], vertices: usize, game: &mut [u32], bits: &mut Bitma
     ensures { Part text.now vertices vertices result game.new }
 {
     let mut end = parity_game::game_words(vertices, 0);
-    let mut vertex = 0;
-    while vertex < vertices {
-        let last = block_end(vertex, vertices);
-        let odd = look_ahead(text, game, vertices, vertex, last);
-        if odd {
+    for first in (0..vertices).step_by(TOGETHER) {
+        let last = vertices.min(first + TOGETHER);
+        if look_ahead(text, game, vertices, first, last) {
             return end;
         }
-        end = write_block(text, vertices, vertex, last, end, game, bits);
-        vertex = last;
+        end = write_block(text, vertices, first, last, end, game, bits);
     }
     end
 }
@@ -360,8 +340,7 @@ fn write_game(
     game: &mut [u32],
     bits: &mut Bitmap,
 ) -> usize
-    requires whole { Whole text.now vertices × Ready text.now first vertices ordered (length game.old) }
-    requires bits_len { length bits.old ≡ bitmap_words }
+    requires { Whole text.now vertices × Ready text.now first vertices ordered (length game.old) }
     ensures value { result ≡ edge_count (verts_to (lines_in text.now) vertices) }
     ensures game_after { game.new
         ≡ padded (length game.old) (game_of 0 (verts_to (lines_in text.now) vertices)) }
@@ -377,46 +356,35 @@ fn write_game(
 // ---- the call
 
 // 1, then 2: the room, and the length of the game slice.
-fn check_lent(room: Room, game_len: usize) -> Check
+fn check_lent(room: Room, game_len: usize) -> Result<(), Fault>
     ensures { result ≡ room_refusal room game_len }
 {
-    let checked = parity_game::check_room(room);
-    match checked {
-        Check::Fault(number, place) => Check::Fault(number, place),
-        Check::Passed => {
-            if game_len != parity_game::game_words(room.vertices as usize, room.edges as usize) {
-                return Check::Fault(2, 0);
-            }
-            Check::Passed
-        }
+    parity_game::check_room(room)?;
+    if game_len != parity_game::game_words(room.vertices as usize, room.edges as usize) {
+        return Err(Fault {
+            number: 2,
+            place: 0,
+        });
     }
+    Ok(())
 }
 
-// A text is read, in a game slice that fits the room.
-fn read_text(text: &[u8], room: Room, game: &mut [u32]) -> Answer
-    requires { room_refusal room (length game.old) ≡ Passed }
-    ensures { record { answer = result; game = game.new }
+// A text is read, or has a fault.
+fn read_text(text: &[u8], room: Room, game: &mut [u32]) -> Result<Answer, Fault>
+    ensures { record { answer = answer_of result; game = game.new }
         ≡ read_game room text.now game.old }
 {
+    check_lent(room, game.len())?;
     let mut bits = [0u32; WORDS];
     let plan = pgsolver_check::check_text(
         text,
         room.vertices as usize,
         room.edges as usize,
         &mut bits,
-    );
-    match plan {
-        Plan::Bad(number) => Answer::Refused(number, 0),
-        Plan::Good {
-            highest,
-            first,
-            ordered,
-        } => {
-            let vertices = highest + 1;
-            let edges = write_game(text, first, vertices, ordered, game, &mut bits);
-            Answer::Done(vertices as u32, vertices as u32, edges as u32)
-        }
-    }
+    )?;
+    let vertices = plan.highest + 1;
+    let edges = write_game(text, plan.first, vertices, plan.ordered, game, &mut bits);
+    Ok(Answer::Done(vertices as u32, vertices as u32, edges as u32))
 }
 
 // Reads a game from PGSolver text into room for so many vertices and edges. Refused are 1 and 2 as a run is, 91 for a
@@ -434,10 +402,8 @@ pub fn read_pgsolver(text: &[u8], vertices: u32, edges: u32, game: &mut [u32]) -
     ensures demand { ReadingDemand (room_of vertices edges) text.now game.old result
         game.new }
 {
-    let room = Room { vertices, edges };
-    let checked = check_lent(room, game.len());
-    match checked {
-        Check::Fault(number, place) => Answer::Refused(number, place),
-        Check::Passed => read_text(text, room, game),
+    match read_text(text, Room { vertices, edges }, game) {
+        Ok(answer) => answer,
+        Err(fault) => Answer::from(fault),
     }
 }

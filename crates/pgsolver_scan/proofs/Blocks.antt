@@ -1,17 +1,28 @@
 -- Bytes that lack two given ones, counted hit by hit in a block and joined block by block. Assumes nothing.
-use Prim.Native.Nat.{ℕ, ◌+◌, ◌≤◌, ◌<◌}
+use Prim.Native.Nat.{ℕ, zero, suc, ◌+◌, ◌-◌, ◌≤◌, ◌<◌}
 use native.Mathlib.Omega.{arith}
 use native.Mathlib.Decide.{dec_lt}
-use mathlib.Core.Path.{◌≡◌, subst}
-use mathlib.Core.List.{List}
-use lib.ListN.{length}
+use mathlib.Core.Path.{◌≡◌, refl, sym, ap, ◌∙◌, subst}
+use mathlib.Core.Bool.{Bool, true, false, cond, not, ◌||◌, false≢true}
+use mathlib.Core.List.{List, [], ◌∷◌}
+use mathlib.Core.Logic.{◌⊎◌, inl, inr}
+use lib.ListN.{length, take, drop, length-drop}
+use Rattle.std.proofs.Math.Seq.{take-length}
+use Rattle.std.proofs.lemmas.List.{get_or-drop}
+use borrow.Author.Tests.{eq-eqb, eqb-true, lt-ltb}
+use Rattle.std.specs.Prelude.{◌==◌, Some, None}
+use Rattle.std.specs.List.{position, position_or_len}
+use Rattle.std.proofs.lemmas.List.Quantifiers.{position-Some}
 use Rattle.rules.specs.Lists.{word}
-use Rattle.pgsolver_scan.specs.Told.{Lacks}
+use Rattle.pgsolver_scan.specs.Told.{Lacks, ToldFirst, first_of}
+
+-- a word behind a place, counted from there
+word_drop : (xs : List ℕ) (q i : ℕ) → q ≤ i → word (drop q xs) (i - q) ≡ word xs i
+word_drop xs q i h =
+    let e : q + (i - q) ≡ i = omega arith in
+    get_or-drop q xs (i - q) 0 ∙ ap (word xs) e
 
 module _ {text : List ℕ} {one other : ℕ} where
-  pub lacks_start : (p : ℕ) → p ≤ length text → Lacks text p p one other
-  lacks_start p h = record { ordered = omega arith; within = h; free = λ i a b. absurd (omega arith) }
-
   pub lacks_join : {p q r : ℕ} → Lacks text p q one other → Lacks text q r one other → Lacks text p r one other
   lacks_join {p} {q} {r} k l =
       record {
@@ -29,48 +40,93 @@ module _ {text : List ℕ} {one other : ℕ} where
   lacks_less l h k =
       record { ordered = h; within = omega (arith, l.within); free = λ i a b. l.free i a (omega arith) }
 
-  lacks_one : (p : ℕ) → p < length text → (¬ (word text p ≡ one)) × (¬ (word text p ≡ other))
-      → Lacks text p (p + 1) one other
-  lacks_one p h n =
-      record {
-        ordered = omega arith;
-        within = omega arith;
-        free = λ i a b.
-            let e : p ≡ i = omega arith in
-            subst (λ (j : ℕ). (¬ (word text j ≡ one)) × (¬ (word text j ≡ other))) e n;
-      }
-
 -- so many hits among the first bytes of a block
 pub record Counted (text : List ℕ) (p count hits one other : ℕ) : Type 0 where
   pub within : count ≤ 64
   pub few : hits ≤ count
   pub free : hits ≡ 0 → Lacks text p (p + count) one other
 
-pub counted_start : {text : List ℕ} {one other : ℕ} (p : ℕ) → p + 64 ≤ length text → Counted text p 0 0 one other
-counted_start {text} {one} {other} p h =
-    record {
-      within = omega arith;
-      few = omega arith;
-      free = λ e.
-          let z : p ≡ p + 0 = omega arith in
-          subst (λ (q : ℕ). Lacks text p q one other) z (lacks_start p (omega arith));
-    }
+-- ---- the first of the two bytes
 
-module _ {text : List ℕ} {p count hits one other : ℕ} (k : Counted text p count hits one other) where
-  pub counted_more : (h : ℕ) → p + 64 ≤ length text → count < 64
-      → (h ≤ 1) × (h ≡ 0 → (¬ (word text (p + count) ≡ one)) × (¬ (word text (p + count) ≡ other)))
-      → Counted text p (count + 1) (hits + h) one other
-  counted_more h w l t =
-      record {
-        within = omega arith;
-        few = omega (arith, k.few, t.0);
-        free = λ e.
-            let z : p + count + 1 ≡ p + (count + 1) = omega arith in
-            subst (λ (q : ℕ). Lacks text p q one other) z
-            (lacks_join (k.free (omega arith)) (lacks_one (p + count) (omega arith) (t.1 (omega arith))));
-      }
+abbrev either : (one other : ℕ) → ℕ → Bool
+either one other c = (c == one) || (c == other)
 
-  pub counted_end : 64 ≤ count → hits ≡ 0 → Lacks text p (p + 64) one other
-  counted_end h e =
-      let z : count ≡ 64 = omega (arith, k.within) in
-      subst (λ (n : ℕ). Lacks text p (p + n) one other) z (k.free e)
+lacking : (p : ℕ → Bool) (xs : List ℕ) (i : ℕ) → i < position_or_len p xs → p (word xs i) ≡ false
+lacking p [] i h = absurd (omega arith)
+lacking p (x ∷ xs) i h = go (λ j l. lacking p xs j l) (p x) refl i h
+  where
+    go : ((j : ℕ) → j < position_or_len p xs → p (word xs j) ≡ false) → (b : Bool) → p x ≡ b → (i : ℕ)
+        → i < cond (not b) (1 + position_or_len p xs) 0 → p (word (x ∷ xs) i) ≡ false
+    go r true e i h = absurd (omega arith)
+    go r false e zero h = e
+    go r false e (suc i) h = r i (omega arith)
+
+none_left : (p : ℕ → Bool) (xs : List ℕ) → position p xs ≡ None → (i : ℕ) → i < length xs → p (word xs i) ≡ false
+none_left p xs e i h = go (dec_lt (position_or_len p xs) (length xs))
+  where
+    go : Dec (position_or_len p xs < length xs) → p (word xs i) ≡ false
+    go (yes l) =
+        let f : Some (position_or_len p xs) ≡ None
+        = sym (ap (λ (b : Bool). cond b (Some (position_or_len p xs)) None) (lt-ltb _ _ l)) ∙ e in
+        absurd (let z : ◌≡◌ {A = ℕ} 0 1 = cc in omega arith)
+    go (no l) = lacking p xs i (omega arith)
+
+neither : (one other c : ℕ) → either one other c ≡ false → (¬ (c ≡ one)) × (¬ (c ≡ other))
+neither one other c e = (
+  λ f. absurd (false≢true (sym e ∙ ap (λ (b : Bool). b || (c == other)) (eq-eqb c one f))),
+  λ f. absurd (false≢true (sym e ∙ ap (λ (b : Bool). (c == one) || b) (eq-eqb c other f) ∙ or_true (c == one))),
+)
+  where
+    or_true : (b : Bool) → (b || true) ≡ true
+    or_true true = refl
+    or_true false = refl
+
+one_of : (one other c : ℕ) → either one other c ≡ true → (c ≡ one) ⊎ (c ≡ other)
+one_of one other c e = go (c == one) refl
+  where
+    go : (b : Bool) → (c == one) ≡ b → (c ≡ one) ⊎ (c ≡ other)
+    go true f = inl (eqb-true c one f)
+    go false f = inr (eqb-true c other (sym (ap (λ (b : Bool). b || (c == other)) f) ∙ e))
+
+-- behind a place from which on there is neither
+module _ {text : List ℕ} {p q one other : ℕ} (l : Lacks text p q one other) where
+  shifted : (n : ℕ) → q + n ≤ length text → ((i : ℕ) → i < n → either one other (word (drop q text) i) ≡ false)
+      → Lacks text p (q + n) one other
+  shifted n h f =
+      lacks_join l (record {
+        ordered = omega arith;
+        within = h;
+        free = λ i a b.
+            let e : word (drop q text) (i - q) ≡ word text i = word_drop text q i a in
+            neither one other (word text i)
+            (sym (ap (either one other) e) ∙ f (i - q) (omega arith));
+      })
+
+  -- the bytes from there on
+  behind : take (length text - q) (drop q text) ≡ drop q text
+  behind = ap (λ (n : ℕ). take n (drop q text)) (sym (length-drop q text)) ∙ take-length (drop q text)
+
+  pub find_none : first_of one other (take (length text - q) (drop q text)) ≡ None
+      → Lacks text p (length text) one other
+  unfolding first_of
+  find_none f =
+      let e = sym (ap (first_of one other) behind) ∙ f in
+      let z : q + (length text - q) ≡ length text = omega (arith, l.within) in
+      subst (λ (r : ℕ). Lacks text p r one other) z
+      (shifted (length text - q) (omega (arith, l.within))
+      (λ i h. none_left (either one other) (drop q text) e i (omega (arith, length-drop q text))))
+
+  pub find_some : (k : ℕ) → first_of one other (take (length text - q) (drop q text)) ≡ Some k
+      → ToldFirst (Some (q + k)) text p one other
+  unfolding first_of
+  find_some k f =
+      let e = sym (ap (first_of one other) behind) ∙ f in
+      let (a, b, c) = position-Some (either one other) (drop q text) k 0 e in
+      let h : q + k < length text = omega (arith, a, length-drop q text, l.within) in
+      let d : word (drop q text) (q + k - q) ≡ word text (q + k) = word_drop text q (q + k) (omega arith) in
+      let s : q + k - q ≡ k = omega arith in (
+        shifted k (omega arith) c,
+        h,
+        one_of one other (word text (q + k))
+            (ap (either one other) (sym d ∙ ap (word (drop q text)) s) ∙ b),
+      )

@@ -7,14 +7,14 @@ use mathlib.Core.Bool.{Bool, true, false, cond}
 use mathlib.Core.List.{List, [], ◌∷◌}
 use mathlib.Core.Option.{none, some}
 use lib.ListN.{length, drop, length-append, length-drop}
-use Rattle.rules.specs.Lists.{word}
 use Rattle.rules.specs.TextReading.{digits_at, past_digits, value_on, no_numeral}
 use Rattle.rules.specs.TextReading.{Front, front, read_byte, read_number, read_field}
 use Rattle.game_texts.proofs.Decimals.{front-split}
 use Rattle.game_texts.proofs.Parsing.{some_same, then_some, byte_sound, byte-read}
-use Rattle.pgsolver_scan.specs.declared.Number.TheVariants.{At}
-use Rattle.pgsolver_scan.specs.Told.{saturated, since, Told, Stands, StandsField}
-use Rattle.pgsolver_scan.proofs.Scanning.{digit_of, Scan, scan_more, scan-other, scan-digit, push_exact, told_value}
+use Rattle.std.specs.Prelude.{Some}
+use Rattle.pgsolver_scan.specs.declared.Number.{Number}
+use Rattle.pgsolver_scan.specs.Told.{saturated, since, Stopped, Told, Stands, StandsField}
+use Rattle.pgsolver_scan.proofs.Scanning.{Scan, told_value}
 use Rattle.pgsolver_scan.proofs.Scanning.{since-cons, field_some}
 
 value_grows : (ds : List ℕ) (a : ℕ) → a ≤ value_on ds a
@@ -62,14 +62,14 @@ module _ {text : List ℕ} {p q value : ℕ} (s : Stands text p) (k : Scan text 
       let (m, a, b) = k.right in
       omega (arith, a, b, known_numeral.1, value_grows (digits_at (since text q)) m, s.small)
 
-  pub known_more : (d : ℕ) → d ≡ digit_of (word text q) → ¬ (d ≡ 10) → Scan text p (q + 1) (10 * value + d)
-  known_more d e n =
-      scan_more k d (10 * value + d) known_inside e n
-      (push_exact value d (scan-digit text q d e n) (omega (arith, known_small)))
-
-  pub known_done : (d : ℕ) → d ≡ digit_of (word text q) → d ≡ 10
-      → Told (At value q) (read_number (since text p)) text
-  known_done d e f = told_value (scan-other k d e f) known_numeral.0
+-- the number ends where its digits do
+pub known_done : {text : List ℕ} {p : ℕ} (s : Stands text p) (x : Number) → Stopped text p x.next x.value
+    → Told (Some x) (read_number (since text p)) text × x.next < length text
+known_done {text} {p} s x k =
+    let (a, b, c) = numeral (since text p) s.number s.rest s.reads in (
+      told_value x k a,
+      omega (arith, ap length (sym k.past ∙ c), length-drop x.next text, s.behind, k.within),
+    )
 
 -- a number with a space behind it
 module _ {text : List ℕ} {p : ℕ} (s : StandsField text p) where
@@ -98,9 +98,10 @@ module _ {text : List ℕ} {p : ℕ} (s : StandsField text p) where
         small = subst (λ (k : ℕ). k < 4294967296) (sym (ap (λ (x : Front ℕ). x.value) d)) s.small;
       }
 
-  pub field_told : {v q : ℕ} → Told (At v q) (read_number (since text p)) text → q < length text
-      → Told (At v (q + 1)) (read_field 32 (since text p)) text
-  field_told {v} {q} (m, a, b, w) h =
+  pub field_told : (x : Number) → Told (Some x) (read_number (since text p)) text → x.next < length text
+      → Told (Some (record { value = x.value; next = x.next + 1 })) (read_field 32 (since text p)) text
+  field_told x (m, a, b, w) h =
+      let q = x.next in
       let (n, e, (r, c, d)) = field_parts in
       let same : n ≡ front m (since text q) = some_same (sym e ∙ a) in
       let byte : since text q ≡ 32 ∷ r =

@@ -10,16 +10,11 @@ use Rattle.rules.specs.TextReading.{Front, front, then_read, read_byte, read_byt
 use Rattle.rules.specs.Pgsolver.{SolverLine}
 use Rattle.rules.specs.PgsolverParse.{read_list, read_named, read_owner, read_line}
 use Rattle.game_texts.proofs.Parsing.{some_same, then_some, then-read, owner_sound}
+use Rattle.std.specs.Prelude.{Some}
 use Rattle.pgsolver_scan.specs.declared.Number.{Number}
-use Rattle.pgsolver_scan.specs.declared.Number.TheVariants.{At, NoNumber}
 use Rattle.pgsolver_scan.specs.declared.Numbers.{Numbers}
-use Rattle.pgsolver_scan.specs.declared.Numbers.TheVariants.{Ends, NoNumbers}
-use Rattle.pgsolver_scan.specs.declared.Skip.{Skip}
-use Rattle.pgsolver_scan.specs.declared.Skip.TheVariants.{To, NoSkip}
-use Rattle.pgsolver_scan.specs.declared.Row.TheVariants.{Given}
 use Rattle.pgsolver_scan.specs.Told.{saturated, since, read_successors, Told, ToldList, ToldSkip, ToldRow}
-use Rattle.pgsolver_scan.proofs.Reading.{then_none, told_at, told_not, list_at_lem, list_no}
-use Rattle.pgsolver_scan.proofs.Naming.{skip_at, skip_no}
+use Rattle.pgsolver_scan.proofs.Reading.{then_none}
 
 -- ---- the owner
 
@@ -35,72 +30,55 @@ small_same : (n : ℕ) → n ≤ 1 → saturated n ≡ n
 unfolding saturated
 small_same n h = omega arith
 
-module _ (text : List ℕ) (p : ℕ) {r : Number} where
-  pub owner_none : r ≡ NoNumber → Told r (read_field 32 (since text p)) text → read_owner (since text p) ≡ none
+module _ (text : List ℕ) (p : ℕ) where
+  pub owner_none : read_field 32 (since text p) ≡ none → read_owner (since text p) ≡ none
   unfolding read_owner
-  owner_none e t = then_none _ (told_not text (read_field 32 (since text p)) e t)
+  owner_none e = then_none _ e
 
-  pub owner_large : {v q : ℕ} → r ≡ At v q → Told r (read_field 32 (since text p)) text → 1 < v
-      → read_owner (since text p) ≡ none
-  unfolding read_owner
-  owner_large {v} {q} e t h =
-      let (n, a, s, w) = told_at text (read_field 32 (since text p)) v q e t in
-      then-read _ (front n (since text q)) a ∙ rw (lt-ltb 1 n (above_one n (subst (λ (k : ℕ). 1 < k) s h))) refl
+  module _ (x : Number) (t : Told (Some x) (read_field 32 (since text p)) text) where
+    pub owner_large : 1 < x.value → read_owner (since text p) ≡ none
+    unfolding read_owner
+    owner_large h =
+        let large = above_one t.0 (subst (λ (k : ℕ). 1 < k) t.2 h) in
+        then-read _ (front t.0 (since text x.next)) t.1 ∙ rw (lt-ltb 1 t.0 large) refl
 
-  pub owner_told : {v q : ℕ} → r ≡ At v q → Told r (read_field 32 (since text p)) text → v ≤ 1
-      → Told (At v q) (read_owner (since text p)) text
-  unfolding read_owner
-  owner_told {v} {q} e t h =
-      let (n, a, s, w) = told_at text (read_field 32 (since text p)) v q e t in
-      let one = at_most_one n (subst (λ (k : ℕ). k ≤ 1) s h) in
-      (n, then-read _ (front n (since text q)) a ∙ rw (le-ltb 1 n one) refl, s, w)
+    pub owner_told : x.value ≤ 1 → Told (Some x) (read_owner (since text p)) text
+    unfolding read_owner
+    owner_told h =
+        let one = at_most_one t.0 (subst (λ (k : ℕ). k ≤ 1) t.2 h) in
+        (t.0, then-read _ (front t.0 (since text x.next)) t.1 ∙ rw (le-ltb 1 t.0 one) refl, t.2, t.3)
 
 -- ---- the successors and the end of the line
 
-module _ (text : List ℕ) (p : ℕ) {r : Numbers} where
-  pub successors_none : r ≡ NoNumbers → ToldList r (read_list (since text p)) text → read_successors (since text p) ≡ none
+module _ (text : List ℕ) (p : ℕ) where
+  pub successors_none : read_list (since text p) ≡ none → read_successors (since text p) ≡ none
   unfolding read_successors
-  successors_none e t = then_none _ (list_no text (read_list (since text p)) e t)
+  successors_none e = then_none _ e
 
-  module _ {top listed q : ℕ} (e : r ≡ Ends top listed q) (t : ToldList r (read_list (since text p)) text) where
-    numbers : ToldList (Ends top listed q) (read_list (since text p)) text
-    numbers = list_at_lem text (read_list (since text p)) top listed q e t
+  module _ (l : Numbers) (t : ToldList (Some l) (read_list (since text p)) text) where
+    pub successors_unnamed : read_named (since text l.next) ≡ none → read_successors (since text p) ≡ none
+    unfolding read_successors
+    successors_unnamed f = then-read _ (front t.0 (since text l.next)) t.1 ∙ then_none _ f
 
-    pub successors_within : q ≤ length text
-    successors_within = numbers.4
-
-    module _ {s : Skip} where
-      pub successors_unnamed : s ≡ NoSkip → ToldSkip {A = Option (List ℕ)} s (read_named (since text q)) text
-          → read_successors (since text p) ≡ none
+    module _ (z : ℕ) (u : ToldSkip {A = Option (List ℕ)} (Some z) (read_named (since text l.next)) text) where
+      pub successors_open : read_bytes (59 ∷ 10 ∷ []) (since text z) ≡ none → read_successors (since text p) ≡ none
       unfolding read_successors
-      successors_unnamed f u =
-          then-read _ (front numbers.0 (since text q)) numbers.1
-          ∙ then_none _ (skip_no text (read_named (since text q)) f u)
+      successors_open g =
+          then-read _ (front t.0 (since text l.next)) t.1
+          ∙ then-read _ (front u.0 (since text z)) u.1 ∙ then_none _ g
 
-      module _ {z : ℕ} (f : s ≡ To z) (u : ToldSkip {A = Option (List ℕ)} s (read_named (since text q)) text) where
-        name : ToldSkip {A = Option (List ℕ)} (To z) (read_named (since text q)) text
-        name = skip_at text (read_named (since text q)) z f u
-
-        pub name_within : z ≤ length text
-        name_within = name.2
-
-        pub successors_open : read_bytes (59 ∷ 10 ∷ []) (since text z) ≡ none → read_successors (since text p) ≡ none
-        unfolding read_successors
-        successors_open g =
-            then-read _ (front numbers.0 (since text q)) numbers.1
-            ∙ then-read _ (front name.0 (since text z)) name.1 ∙ then_none _ g
-
-        pub successors_told : read_bytes (59 ∷ 10 ∷ []) (since text z) ≡ some (since text (z + 2))
-            → z + 2 ≤ length text → ToldList (Ends top listed (z + 2)) (read_successors (since text p)) text
-        unfolding read_successors
-        successors_told g h = (
-          numbers.0,
-          then-read _ (front numbers.0 (since text q)) numbers.1
-              ∙ then-read _ (front name.0 (since text z)) name.1 ∙ then-read _ (since text (z + 2)) g,
-          numbers.2,
-          numbers.3,
-          h,
-        )
+      pub successors_told : read_bytes (59 ∷ 10 ∷ []) (since text z) ≡ some (since text (z + 2)) → z + 2 ≤ length text
+          → ToldList (Some (record { largest = l.largest; listed = l.listed; next = z + 2 }))
+          (read_successors (since text p)) text
+      unfolding read_successors
+      successors_told g h = (
+        t.0,
+        then-read _ (front t.0 (since text l.next)) t.1
+            ∙ then-read _ (front u.0 (since text z)) u.1 ∙ then-read _ (since text (z + 2)) g,
+        t.2,
+        t.3,
+        h,
+      )
 
 -- ---- what is made of the successors and the name, where both and the end of the line are read
 
@@ -157,77 +135,56 @@ said : (number priority owner : ℕ) → List ℕ → Option (List ℕ) → Solv
 said number priority owner successors name =
     record { number = number; priority = priority; owner = owner; successors = successors; name = name }
 
-module _ (text : List ℕ) (p : ℕ) {r1 : Number} where
-  pub line_unnumbered : r1 ≡ NoNumber → Told r1 (read_field 32 (since text p)) text → read_line (since text p) ≡ none
+module _ (text : List ℕ) (p : ℕ) where
+  pub line_unnumbered : read_field 32 (since text p) ≡ none → read_line (since text p) ≡ none
   unfolding read_line
-  line_unnumbered e t = then_none _ (told_not text (read_field 32 (since text p)) e t)
+  line_unnumbered e = then_none _ e
 
-  module _ {v p1 : ℕ} (e1 : r1 ≡ At v p1) (t1 : Told r1 (read_field 32 (since text p)) text) where
-    number : Told (At v p1) (read_field 32 (since text p)) text
-    number = told_at text (read_field 32 (since text p)) v p1 e1 t1
+  module _ (a : Number) (s : Told (Some a) (read_field 32 (since text p)) text) where
+    pub line_unranked : read_field 32 (since text a.next) ≡ none → read_line (since text p) ≡ none
+    unfolding read_line
+    line_unranked e = then-read _ (front s.0 (since text a.next)) s.1 ∙ then_none _ e
 
-    module _ {r2 : Number} where
-      pub line_unranked : r2 ≡ NoNumber → Told r2 (read_field 32 (since text p1)) text → read_line (since text p) ≡ none
+    module _ (b : Number) (t : Told (Some b) (read_field 32 (since text a.next)) text) where
+      pub line_unowned : read_owner (since text b.next) ≡ none → read_line (since text p) ≡ none
       unfolding read_line
-      line_unranked e t =
-          then-read _ (front number.0 (since text p1)) number.1
-          ∙ then_none _ (told_not text (read_field 32 (since text p1)) e t)
+      line_unowned e =
+          then-read _ (front s.0 (since text a.next)) s.1
+          ∙ then-read _ (front t.0 (since text b.next)) t.1 ∙ then_none _ e
 
-      module _ {w p2 : ℕ} (e2 : r2 ≡ At w p2) (t2 : Told r2 (read_field 32 (since text p1)) text) where
-        priority : Told (At w p2) (read_field 32 (since text p1)) text
-        priority = told_at text (read_field 32 (since text p1)) w p2 e2 t2
+      module _ (o : Number) (u : Told (Some o) (read_owner (since text b.next)) text) where
+        rest_of : read_line (since text p) ≡ closing (said s.0 t.0 u.0) (since text o.next)
+        unfolding read_line closing said
+        rest_of =
+            then-read _ (front s.0 (since text a.next)) s.1
+            ∙ then-read _ (front t.0 (since text b.next)) t.1
+            ∙ then-read _ (front u.0 (since text o.next)) u.1
 
-        module _ {r3 : Number} where
-          pub line_unowned : r3 ≡ NoNumber → Told r3 (read_owner (since text p2)) text → read_line (since text p) ≡ none
-          unfolding read_line
-          line_unowned e t =
-              then-read _ (front number.0 (since text p1)) number.1
-              ∙ then-read _ (front priority.0 (since text p2)) priority.1
-              ∙ then_none _ (told_not text (read_owner (since text p2)) e t)
+        pub line_open : read_successors (since text o.next) ≡ none → read_line (since text p) ≡ none
+        line_open e = rest_of ∙ closing_none (said s.0 t.0 u.0) (since text o.next) e
 
-          module _ {o p3 : ℕ} (e3 : r3 ≡ At o p3) (t3 : Told r3 (read_owner (since text p2)) text) where
-            owner : Told (At o p3) (read_owner (since text p2)) text
-            owner = told_at text (read_owner (since text p2)) o p3 e3 t3
-
-            rest_of : read_line (since text p) ≡ closing (said number.0 priority.0 owner.0) (since text p3)
-            unfolding read_line closing said
-            rest_of =
-                then-read _ (front number.0 (since text p1)) number.1
-                ∙ then-read _ (front priority.0 (since text p2)) priority.1
-                ∙ then-read _ (front owner.0 (since text p3)) owner.1
-
-            module _ {r4 : Numbers} where
-              pub line_open : r4 ≡ NoNumbers → ToldList r4 (read_successors (since text p3)) text
-                  → read_line (since text p) ≡ none
-              line_open e t =
-                  rest_of
-                  ∙ closing_none (said number.0 priority.0 owner.0) (since text p3)
-                  (list_no text (read_successors (since text p3)) e t)
-
-              pub line_told : {top listed next : ℕ} → r4 ≡ Ends top listed next
-                  → ToldList r4 (read_successors (since text p3)) text
-                  → ToldRow (Given (record {
-                    number = v;
-                    priority = w;
-                    owner = o;
-                    largest = top;
-                    listed = listed;
-                    next = next;
-                  })) (read_line (since text p)) text
-              unfolding said
-              line_told {top} {listed} {next} e t =
-                  let (ns, a, most, c, h) = list_at_lem text (read_successors (since text p3)) top listed next e t in
-                  let line = said number.0 priority.0 owner.0 in
-                  let (name, b) = closing_some line (since text p3) ns (since text next) a in
-                  let small = (owner_sound (since text p2) (front owner.0 (since text p3)) owner.1).1 in (
-                    line ns name,
-                    rest_of ∙ b,
-                    record {
-                      number = number.2;
-                      priority = priority.2;
-                      owner = owner.2 ∙ small_same owner.0 small;
-                      top = most;
-                      listed = c;
-                    },
-                    h,
-                  )
+        pub line_told : (l : Numbers) → ToldList (Some l) (read_successors (since text o.next)) text
+            → ToldRow (Some (record {
+              number = a.value;
+              priority = b.value;
+              owner = o.value;
+              largest = l.largest;
+              listed = l.listed;
+              next = l.next;
+            })) (read_line (since text p)) text
+        unfolding said
+        line_told l (ns, e, most, c, h) =
+            let line = said s.0 t.0 u.0 in
+            let (name, f) = closing_some line (since text o.next) ns (since text l.next) e in
+            let small = (owner_sound (since text b.next) (front u.0 (since text o.next)) u.1).1 in (
+              line ns name,
+              rest_of ∙ f,
+              record {
+                number = s.2;
+                priority = t.2;
+                owner = u.2 ∙ small_same u.0 small;
+                top = most;
+                listed = c;
+              },
+              h,
+            )

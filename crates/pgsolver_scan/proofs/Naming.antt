@@ -5,30 +5,21 @@ use native.Mathlib.Decide.{dec_lt}
 use mathlib.Core.Path.{◌≡◌, refl, sym, ap, ◌∙◌, subst}
 use mathlib.Core.Bool.{Bool, true, false, cond}
 use mathlib.Core.List.{List, [], ◌∷◌, ◌++◌}
+use mathlib.Core.Logic.{◌⊎◌, ⊎_elim}
 use mathlib.Core.Option.{Option, none, some}
 use lib.ListN.{length}
 use borrow.Author.Tests.{eq-eqb, ne_eqb}
 use Rattle.rules.specs.Lists.{word}
-use Rattle.rules.specs.TextReading.{Front, front, read_byte, with_first}
+use Rattle.rules.specs.TextReading.{front, read_byte, with_first}
 use Rattle.rules.specs.PgsolverParse.{read_name, read_named}
 use Rattle.game_texts.proofs.Parsing.{then-read}
-use Rattle.pgsolver_scan.specs.declared.Skip.{Skip}
-use Rattle.pgsolver_scan.specs.declared.Skip.TheVariants.{To, NoSkip}
+use Rattle.std.specs.Prelude.{Some, None}
+use Rattle.std.specs.declared.option.Option.{Option as Answer}
 use Rattle.pgsolver_scan.specs.Told.{since, Lacks, ToldSkip}
 use Rattle.pgsolver_scan.proofs.Scanning.{since-cons, since_end}
 use Rattle.pgsolver_scan.proofs.Blocks.{lacks_less}
 use Rattle.pgsolver_scan.proofs.Reading.{then_none, when_true, when_false}
 use Rattle.pgsolver_scan.proofs.Reading.{with_all, with_snoc, with_done, with_none}
-
--- ---- something that was passed over
-
-pub skip_at : {A : Type 0} (text : List ℕ) (m : Option (Front A)) {r : Skip} (q : ℕ) → r ≡ To q → ToldSkip r m text
-    → ToldSkip (To q) m text
-skip_at text m q e t = subst (λ (s : Skip). ToldSkip s m text) e t
-
-pub skip_no : {A : Type 0} (text : List ℕ) (m : Option (Front A)) {r : Skip} → r ≡ NoSkip → ToldSkip r m text
-    → m ≡ none
-skip_no text m e t = subst (λ (s : Skip). ToldSkip s m text) e t
 
 -- ---- the bytes of a name
 
@@ -74,7 +65,7 @@ module _ {text : List ℕ} {p q : ℕ} (k : Naming text p q) where
             ∙ sym (with_snoc k.bytes (word text q) (read_name (since text (q + 1))));
       }
 
-  pub naming_done : q < length text → word text q ≡ 34 → ToldSkip (To (q + 1)) (read_name (since text p)) text
+  pub naming_done : q < length text → word text q ≡ 34 → ToldSkip (Some (q + 1)) (read_name (since text p)) text
   naming_done h e = (
     k.bytes,
     k.left ∙ ap (with_all k.bytes) (name_quote text q h e) ∙ with_done k.bytes (since text (q + 1)),
@@ -104,11 +95,14 @@ naming_lacks text p q l =
     subst (Naming text p) e
     (naming_on (q - p) text p (subst (λ (r : ℕ). Lacks text p r 34 10) (sym e) l))
 
+pub newline_there : (c : ℕ) → ¬ (c ≡ 34) → (c ≡ 34) ⊎ (c ≡ 10) → c ≡ 10
+newline_there c n e = ⊎_elim (λ f. absurd (n f)) (λ f. f) e
+
 -- ---- a space and a name
 
 -- no space, no name
 pub named_end : (text : List ℕ) (p : ℕ) → p ≤ length text → (p < length text → ¬ (word text p ≡ 32))
-    → ToldSkip {A = Option (List ℕ)} (To p) (read_named (since text p)) text
+    → ToldSkip {A = Option (List ℕ)} (Some p) (read_named (since text p)) text
 unfolding read_named
 named_end text p w f = (none, go (dec_lt p (length text)), w)
   where
@@ -120,24 +114,33 @@ named_end text p w f = (none, go (dec_lt p (length text)), w)
         let past = since_end text p (omega arith) in
         ap read_named past ∙ ap (λ (ts : List ℕ). some (front none ts)) (sym past)
 
+quoted : (text : List ℕ) (p : ℕ) (b : Bool)
+    → read_byte 34 (since text (p + 1)) ≡ cond b (some (since text (p + 1 + 1))) none
+    → read_byte 34 (since text (p + 1)) ≡ cond b (some (since text (p + 2))) none
+quoted text p b f =
+    let z : p + 1 + 1 ≡ p + 2 = omega arith in
+    subst (λ (k : ℕ). read_byte 34 (since text (p + 1)) ≡ cond b (some (since text k)) none) z f
+
 module _ (text : List ℕ) (p : ℕ) {b : Bool} (h : p < length text) (e : word text p ≡ 32)
     (f : read_byte 34 (since text (p + 1)) ≡ cond b (some (since text (p + 1 + 1))) none) where
   pub named_bad : b ≡ false → read_named (since text p) ≡ none
   unfolding read_named
   named_bad g =
-      ap read_named (since-cons text p h) ∙ rw (eq-eqb (word text p) 32 e) (then_none _ (when_false _ _ _ f g))
+      ap read_named (since-cons text p h)
+      ∙ rw (eq-eqb (word text p) 32 e) (then_none _ (when_false _ _ _ (quoted text p b f) g))
 
-  pub named_told : (s : Skip) → b ≡ true → ToldSkip {A = List ℕ} s (read_name (since text (p + 1 + 1))) text
+  pub named_told : (s : Answer ℕ) → b ≡ true → ToldSkip {A = List ℕ} s (read_name (since text (p + 2))) text
       → ToldSkip {A = Option (List ℕ)} s (read_named (since text p)) text
   unfolding read_named
-  named_told (To q) g (cs, a, w) = (
+  named_told (Some q) g (cs, a, w) = (
     some cs,
     ap read_named (since-cons text p h)
         ∙ rw (eq-eqb (word text p) 32 e)
-        (then-read _ (since text (p + 1 + 1)) (when_true _ _ _ f g) ∙ then-read _ (front cs (since text q)) a),
+        (then-read _ (since text (p + 2)) (when_true _ _ _ (quoted text p b f) g)
+        ∙ then-read _ (front cs (since text q)) a),
     w,
   )
-  named_told NoSkip g a =
+  named_told None g a =
       ap read_named (since-cons text p h)
       ∙ rw (eq-eqb (word text p) 32 e)
-      (then-read _ (since text (p + 1 + 1)) (when_true _ _ _ f g) ∙ then_none _ a)
+      (then-read _ (since text (p + 2)) (when_true _ _ _ (quoted text p b f) g) ∙ then_none _ a)

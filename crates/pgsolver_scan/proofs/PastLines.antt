@@ -16,7 +16,8 @@ use Rattle.rules.specs.PgsolverParse.{read_line}
 use Rattle.lists.proofs.Members.{in_either}
 use Rattle.game_texts.proofs.Decimals.{Digits, digit_small, decimal-digits}
 use Rattle.game_texts.proofs.Parsing.{then_some, byte_sound, line_sound}
-use Rattle.pgsolver_scan.specs.Told.{since, line_length, past_line, Lacks}
+use Rattle.std.specs.Prelude.{Some}
+use Rattle.pgsolver_scan.specs.Told.{since, line_length, past_line, Lacks, ToldFirst}
 use Rattle.pgsolver_scan.proofs.Scanning.{since-cons, since_end}
 use Rattle.pgsolver_scan.proofs.Blocks.{lacks_less}
 
@@ -50,6 +51,11 @@ pub past_lacks : (text : List ℕ) (p q : ℕ) → Lacks text p q 10 10 → past
 past_lacks text p q l =
     let e : p + (q - p) ≡ q = omega (arith, l.ordered) in
     past_on (q - p) text p (subst (λ (r : ℕ). Lacks text p r 10 10) (sym e) l) ∙ ap (past_line text) e
+
+-- the first newline
+pub past_first : (text : List ℕ) (p q : ℕ) → ToldFirst (Some q) text p 10 10 → q + 1 ≡ past_line text p
+past_first text p q (l, h, e) =
+    past_newline text q h (⊎_elim (λ f. f) (λ f. f) e) ∙ sym (past_lacks text p q l)
 
 -- a semicolon and a newline
 pub past_ended : (text : List ℕ) (p : ℕ) (rest : List ℕ) → read_bytes (59 ∷ 10 ∷ []) (since text p) ≡ some rest

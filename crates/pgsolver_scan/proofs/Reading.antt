@@ -2,7 +2,7 @@
 use Prim.Native.Nat.{ℕ, zero, suc, ◌+◌, ◌*◌, ◌≤◌, ◌<◌, max}
 use native.Mathlib.Omega.{arith}
 use native.Mathlib.Decide.{dec_lt}
-use mathlib.Core.Path.{◌≡◌, refl, sym, ap, ◌∙◌, subst}
+use mathlib.Core.Path.{◌≡◌, refl, sym, ap, ◌∙◌}
 use mathlib.Core.Bool.{Bool, true, false, cond}
 use mathlib.Core.List.{List, [], ◌∷◌, ◌++◌}
 use mathlib.Core.Option.{Option, none, some}
@@ -15,12 +15,12 @@ use Rattle.rules.specs.TextReading.{Front, front, then_read, with_first, read_by
 use Rattle.rules.specs.PgsolverParse.{read_commas, read_list}
 use Rattle.game_texts.proofs.Decimals.{decimal_some}
 use Rattle.game_texts.proofs.Parsing.{then-read, number_sound}
+use Rattle.std.specs.Prelude.{Some, None}
+use Rattle.std.specs.declared.option.Option.{Option as Answer}
 use Rattle.pgsolver_scan.specs.declared.Number.{Number}
-use Rattle.pgsolver_scan.specs.declared.Number.TheVariants.{At, NoNumber}
 use Rattle.pgsolver_scan.specs.declared.Numbers.{Numbers}
-use Rattle.pgsolver_scan.specs.declared.Numbers.TheVariants.{Ends, NoNumbers}
 use Rattle.pgsolver_scan.specs.Told.{saturated, since, commas_at, Told, ToldList, ToldMore}
-use Rattle.pgsolver_scan.proofs.Scanning.{since-cons, since_end, field-none, field_other, field_some}
+use Rattle.pgsolver_scan.proofs.Scanning.{since-cons, since_end, field_other, field_some}
 
 pub then_none : {A B : Type 0} {m : Option A} (f : A → Option B) → m ≡ none → then_read m f ≡ none
 unfolding then_read
@@ -32,23 +32,6 @@ when_true m b x e f = e ∙ ap (λ (t : Bool). cond t x none) f
 
 pub when_false : {A : Type 0} (m : Option A) (b : Bool) (x : Option A) → m ≡ cond b x none → b ≡ false → m ≡ none
 when_false m b x e f = e ∙ ap (λ (t : Bool). cond t x none) f
-
--- ---- a number or a list that was read
-
-pub told_at : (text : List ℕ) (m : Option (Front ℕ)) {r : Number} (v q : ℕ) → r ≡ At v q → Told r m text
-    → Told (At v q) m text
-told_at text m v q e t = subst (λ (s : Number). Told s m text) e t
-
-pub told_not : (text : List ℕ) (m : Option (Front ℕ)) {r : Number} → r ≡ NoNumber → Told r m text → m ≡ none
-told_not text m e t = subst (λ (s : Number). Told s m text) e t
-
-pub list_at_lem : (text : List ℕ) (m : Option (Front (List ℕ))) {r : Numbers} (v c q : ℕ) → r ≡ Ends v c q
-    → ToldList r m text → ToldList (Ends v c q) m text
-list_at_lem text m v c q e t = subst (λ (s : Numbers). ToldList s m text) e t
-
-pub list_no : (text : List ℕ) (m : Option (Front (List ℕ))) {r : Numbers} → r ≡ NoNumbers → ToldList r m text
-    → m ≡ none
-list_no text m e t = subst (λ (s : Numbers). ToldList s m text) e t
 
 -- what follows a number stands further on
 pub number_later : (text : List ℕ) (p q n : ℕ) → p ≤ length text → q ≤ length text
@@ -66,27 +49,19 @@ number_later text p q n h k e =
 
 -- ---- a number and a byte
 
-module _ (text : List ℕ) (p c : ℕ) {r : Number} where
-  pub field_not : r ≡ NoNumber → Told r (read_number (since text p)) text → read_field c (since text p) ≡ none
-  field_not e t = field-none c (since text p) (told_not text (read_number (since text p)) e t)
+module _ (text : List ℕ) (p c : ℕ) (x : Number) (t : Told (Some x) (read_number (since text p)) text) {b : Bool}
+    (f : read_byte c (since text x.next) ≡ cond b (some (since text (x.next + 1))) none) where
+  pub field_at : b ≡ true → x.next < length text
+      → Told (Some (record { value = x.value; next = x.next + 1 })) (read_field c (since text p)) text
+  field_at g h = (
+    t.0,
+    field_some c (since text p) (front t.0 (since text x.next)) (since text (x.next + 1)) t.1 (when_true _ _ _ f g),
+    t.2,
+    omega arith,
+  )
 
-  module _ {v q : ℕ} (e : r ≡ At v q) (t : Told r (read_number (since text p)) text) where
-    number : Told (At v q) (read_number (since text p)) text
-    number = told_at text (read_number (since text p)) v q e t
-
-    module _ {b : Bool} (f : read_byte c (since text q) ≡ cond b (some (since text (q + 1))) none) where
-      pub field_at : b ≡ true → q < length text → Told (At v (q + 1)) (read_field c (since text p)) text
-      field_at g h = (
-        number.0,
-        field_some c (since text p) (front number.0 (since text q)) (since text (q + 1)) number.1
-            (when_true _ _ _ f g),
-        number.2,
-        omega arith,
-      )
-
-      pub field_bad : b ≡ false → read_field c (since text p) ≡ none
-      field_bad g =
-          field_other c (since text p) (front number.0 (since text q)) number.1 (when_false _ _ _ f g)
+  pub field_bad : b ≡ false → read_field c (since text p) ≡ none
+  field_bad g = field_other c (since text p) (front t.0 (since text x.next)) t.1 (when_false _ _ _ f g)
 
 -- ---- elements in front
 
@@ -179,81 +154,74 @@ module _ (text : List ℕ) (q : ℕ) where
     commas_broken : read_number (since text (q + 1)) ≡ none → commas_at text q ≡ none
     commas_broken f = at_comma ∙ then_none _ f
 
--- numbers from p up to q were read, behind a first number; each takes two bytes or more
-pub record Commas (text : List ℕ) (p first q top listed : ℕ) : Type 0 where
+-- numbers from p on were read, behind a first number; each takes two bytes or more
+pub record Commas (text : List ℕ) (p first : ℕ) (l : Numbers) : Type 0 where
   pub ns : List ℕ
-  pub within : q ≤ length text
-  pub left : commas_at text p ≡ with_all ns (commas_at text q)
-  pub highest : top ≡ max first (saturated (largest ns))
-  pub count : listed ≡ suc (length ns)
-  pub short : 2 * listed ≤ q + 2
+  pub within : l.next ≤ length text
+  pub left : commas_at text p ≡ with_all ns (commas_at text l.next)
+  pub highest : l.largest ≡ max first (saturated (largest ns))
+  pub count : l.listed ≡ suc (length ns)
+  pub short : 2 * l.listed ≤ l.next + 2
 
-pub commas_start : (text : List ℕ) (p first : ℕ) → p ≤ length text → Commas text p first p first 1
+pub commas_start : (text : List ℕ) (p first : ℕ) → p ≤ length text
+    → Commas text p first (record { largest = first; listed = 1; next = p })
 unfolding with_all largest saturated
 commas_start text p first h =
     record { ns = []; within = h; left = refl; highest = omega arith; count = refl; short = omega arith }
 
-module _ {text : List ℕ} {p first q top listed : ℕ} (k : Commas text p first q top listed) where
-  pub commas_end : (q < length text → ¬ (word text q ≡ 44))
-      → ToldMore (Ends top listed q) first (commas_at text p) text
+module _ {text : List ℕ} {p first : ℕ} (l : Numbers) (k : Commas text p first l) where
+  pub commas_end : (l.next < length text → ¬ (word text l.next ≡ 44))
+      → ToldMore (Some l) first (commas_at text p) text
   commas_end f = (
     k.ns,
-    k.left ∙ ap (with_all k.ns) (commas_other text q f) ∙ with_done k.ns (since text q),
+    k.left ∙ ap (with_all k.ns) (commas_other text l.next f) ∙ with_done k.ns (since text l.next),
     k.highest,
     k.count,
     k.within,
   )
 
-  pub commas_fail : {r : Number} → q < length text → word text q ≡ 44 → r ≡ NoNumber
-      → Told r (read_number (since text (q + 1))) text → commas_at text p ≡ none
-  commas_fail h e f t =
-      let broken = commas_broken text q h e (told_not text (read_number (since text (q + 1))) f t) in
-      k.left ∙ ap (with_all k.ns) broken ∙ with_none k.ns
+  module _ (h : l.next < length text) (e : word text l.next ≡ 44) where
+    pub commas_fail : read_number (since text (l.next + 1)) ≡ none → commas_at text p ≡ none
+    commas_fail t = k.left ∙ ap (with_all k.ns) (commas_broken text l.next h e t) ∙ with_none k.ns
 
-  pub commas_more : {r : Number} (v next top₁ : ℕ) → q < length text → word text q ≡ 44 → r ≡ At v next
-      → Told r (read_number (since text (q + 1))) text → top₁ ≡ max top v → Commas text p first next top₁ (listed + 1)
-  commas_more v next top₁ h e f t g =
-      let (n, a, s, w) = told_at text (read_number (since text (q + 1))) v next f t in
-      let snoc = ap saturated (largest_snoc k.ns n) in
-      record {
-        ns = k.ns ++ (n ∷ []);
-        within = w;
-        left =
-            k.left ∙ ap (with_all k.ns) (commas_next text q h e next n a)
-            ∙ sym (with_snoc k.ns n (commas_at text next));
-        highest = g ∙ omega (arith, k.highest, s, snoc, saturated-max (largest k.ns) n);
-        count = omega (arith, k.count, length-append k.ns (n ∷ []));
-        short = omega (arith, k.short, number_later text (q + 1) next n (omega arith) w a);
-      }
+    pub commas_more : (x : Number) → Told (Some x) (read_number (since text (l.next + 1))) text
+        → Commas text p first (record { largest = max l.largest x.value; listed = l.listed + 1; next = x.next })
+    commas_more x (n, a, s, w) =
+        let snoc = ap saturated (largest_snoc k.ns n) in
+        record {
+          ns = k.ns ++ (n ∷ []);
+          within = w;
+          left =
+              k.left ∙ ap (with_all k.ns) (commas_next text l.next h e x.next n a)
+              ∙ sym (with_snoc k.ns n (commas_at text x.next));
+          highest = omega (arith, k.highest, s, snoc, saturated-max (largest k.ns) n);
+          count = omega (arith, k.count, length-append k.ns (n ∷ []));
+          short = omega (arith, k.short, number_later text (l.next + 1) x.next n (omega arith) w a);
+        }
 
-pub commas_later : (text : List ℕ) {r : Number} (q v next : ℕ) → q < length text → r ≡ At v next
-    → Told r (read_number (since text (q + 1))) text → q < next
-commas_later text q v next h f t =
-    let (n, a, s, w) = told_at text (read_number (since text (q + 1))) v next f t in
-    omega (arith, number_later text (q + 1) next n (omega arith) w a)
+pub commas_later : (text : List ℕ) (q : ℕ) (x : Number) → q < length text
+    → Told (Some x) (read_number (since text (q + 1))) text → q < x.next
+commas_later text q x h (n, a, s, w) = omega (arith, number_later text (q + 1) x.next n (omega arith) w a)
 
 -- ---- a list
 
-module _ (text : List ℕ) (p : ℕ) {r : Number} where
-  pub list_not : r ≡ NoNumber → Told r (read_number (since text p)) text → read_list (since text p) ≡ none
+module _ (text : List ℕ) (p : ℕ) where
+  pub list_not : read_number (since text p) ≡ none → read_list (since text p) ≡ none
   unfolding read_list
-  list_not e t = then_none _ (told_not text (read_number (since text p)) e t)
+  list_not t = then_none _ t
 
   -- the rest of it
-  pub list-told : (v q : ℕ) → r ≡ At v q → Told r (read_number (since text p)) text → (s : Numbers)
-      → ToldMore s v (commas_at text q) text → ToldList s (read_list (since text p)) text
+  pub list-told : (x : Number) → Told (Some x) (read_number (since text p)) text → (s : Answer Numbers)
+      → ToldMore s x.value (commas_at text x.next) text → ToldList s (read_list (since text p)) text
   unfolding read_list with_first largest commas_at
-  list-told v q e t (Ends top listed z) (ns, a, g, d, w) =
-      let (n, b, s, x) = told_at text (read_number (since text p)) v q e t in (
-        n ∷ ns,
-        then-read _ (front n (since text q)) b ∙ ap (with_first n) a,
-        g ∙ omega (arith, s, saturated-max n (largest ns)),
-        d,
-        w,
-      )
-  list-told v q e t NoNumbers a =
-      let (n, b, s, x) = told_at text (read_number (since text p)) v q e t in
-      then-read _ (front n (since text q)) b ∙ ap (with_first n) a
+  list-told x (n, b, s, w) (Some l) (ns, a, g, d, z) = (
+    n ∷ ns,
+    then-read _ (front n (since text x.next)) b ∙ ap (with_first n) a,
+    g ∙ omega (arith, s, saturated-max n (largest ns)),
+    d,
+    z,
+  )
+  list-told x (n, b, s, w) None a = then-read _ (front n (since text x.next)) b ∙ ap (with_first n) a
 
 -- ---- a list, number by number
 

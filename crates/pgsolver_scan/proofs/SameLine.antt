@@ -1,21 +1,16 @@
 -- Places on one line: no number, space or comma has a newline. Assumes nothing.
-use Prim.Native.Nat.{ℕ, suc, ◌+◌, ◌≤◌, ◌<◌}
+use Prim.Native.Nat.{ℕ, suc, ◌+◌, ◌≤◌}
 use native.Mathlib.Omega.{arith}
-use mathlib.Core.Path.{◌≡◌, refl, sym, ap, ◌∙◌}
-use mathlib.Core.Bool.{Bool, true, cond}
+use mathlib.Core.Path.{◌≡◌, refl, ap}
 use mathlib.Core.List.{List, [], ◌∷◌, ◌++◌}
-use mathlib.Core.Option.{none, some}
+use mathlib.Core.Option.{some}
 use lib.ListN.{length, length-append, length-drop}
 use borrow.Author.Tests.{ne_eqb}
-use Rattle.rules.specs.Lists.{word}
 use Rattle.rules.specs.Texts.{decimal}
-use Rattle.rules.specs.TextReading.{front, read_byte, read_number, read_field}
+use Rattle.rules.specs.TextReading.{front, read_number, read_field}
 use Rattle.game_texts.proofs.Decimals.{Digits, digit_small, decimal-digits}
-use Rattle.game_texts.proofs.Parsing.{byte_sound, number_sound, field_sound}
+use Rattle.game_texts.proofs.Parsing.{number_sound, field_sound}
 use Rattle.pgsolver_scan.specs.Told.{since, line_length, past_line}
-use Rattle.pgsolver_scan.proofs.Scanning.{since-cons}
-use Rattle.pgsolver_scan.proofs.Reading.{when_true}
-use Rattle.pgsolver_scan.proofs.PastLines.{past_other}
 
 digits_line : (ds rest : List ℕ) → Digits ds → line_length (ds ++ rest) ≡ length ds + line_length rest
 unfolding line_length
@@ -60,13 +55,3 @@ field-line text p q n h k e =
       length-drop p text,
       length-drop q text,
     )
-
-pub comma_line : (text : List ℕ) (p : ℕ) {b : Bool} → read_byte 44 (since text p)
-    ≡ cond b (some (since text (p + 1))) none
-    → (b ≡ true → p < length text) → b ≡ true → past_line text p ≡ past_line text (p + 1)
-comma_line text p g k x =
-    let h = k x in
-    let y : word text p ≡ 44
-    = ap (λ (ts : List ℕ). word ts 0) (sym (since-cons text p h)
-    ∙ byte_sound 44 (since text p) (since text (p + 1)) (when_true _ _ _ g x)) in
-    past_other text p h (λ e. omega arith)

@@ -4,19 +4,21 @@ use native.Mathlib.Omega.{arith}
 use native.Mathlib.Decide.{dec_lt}
 use native.Mathlib.Numerals.{add-one}
 use mathlib.Core.Path.{◌≡◌, refl, sym, ap, ◌∙◌, subst}
-use mathlib.Core.Bool.{Bool, true, false, cond}
+use mathlib.Core.Bool.{Bool, true, false, cond, not, false≢true}
 use mathlib.Core.List.{List, [], ◌∷◌}
 use mathlib.Core.Option.{none, some}
 use lib.ListN.{length, drop, drop_of_length-le}
 use lib.Seq.{drop-cons}
 use lib.Dec.{eqb}
-use borrow.Author.Tests.{eq-eqb, ne_eqb, lt-leb, le-leb}
+use borrow.Author.Tests.{eq-eqb, ne_eqb}
 use Rattle.rules.specs.Lists.{word}
 use Rattle.rules.specs.TextReading.{is_digit, digits_at, past_digits, value_on, no_numeral}
 use Rattle.rules.specs.TextReading.{Front, front, then_read, read_byte, read_number, read_field}
 use Rattle.game_texts.proofs.Decimals.{digit_small}
-use Rattle.pgsolver_scan.specs.declared.Number.TheVariants.{At}
-use Rattle.pgsolver_scan.specs.Told.{saturated, since, Stopped, Told}
+use Rattle.std.specs.Prelude.{Some, None}
+use Rattle.std.specs.declared.option.Option.{Option as Answer}
+use Rattle.pgsolver_scan.specs.declared.Number.{Number}
+use Rattle.pgsolver_scan.specs.Told.{saturated, since, Stopped, Told, ToldDigit}
 
 -- ---- places
 
@@ -28,14 +30,28 @@ since_end text p h = drop_of_length-le text h
 
 -- ---- saturated numbers
 
-pub push_saturated : (v d : ℕ) → d ≤ 9 → v ≤ 18446744073709551610 → 1844674407370955160 < v
-    → 18446744073709551610 ≡ saturated (10 * v + d)
+pub push_saturated : (v d : ℕ) → 1844674407370955160 < v → 18446744073709551610 ≡ saturated (10 * v + d)
 unfolding saturated
-push_saturated v d h k l = omega arith
+push_saturated v d h = omega arith
 
-pub push_exact : (v d : ℕ) → d ≤ 9 → v ≤ 1844674407370955160 → 10 * v + d ≡ saturated (10 * v + d)
+pub push_exact : (v d : ℕ) → d ≤ 9 → v ≤ 1844674407370955160 → d + 10 * v ≡ saturated (10 * v + d)
 unfolding saturated
 push_exact v d h k = omega arith
+
+-- ---- whether the number is known to stand there
+
+pub is_known : (k : ℕ) → ¬ (k ≡ 0) → not (eqb k 0) ≡ true
+is_known k n = ap not (ne_eqb k 0 n)
+
+pub value_small : (known : Bool) (v : ℕ) → v ≤ cond known 4294967295 18446744073709551610 → known ≡ true
+    → v ≤ 1844674407370955160
+value_small true v h e = omega arith
+value_small false v h e = absurd (false≢true e)
+
+pub value_most : (known : Bool) (v : ℕ) → (known ≡ true → v < 4294967296) → v ≤ 18446744073709551610
+    → v ≤ cond known 4294967295 18446744073709551610
+value_most true v f h = omega (arith, f refl)
+value_most false v f h = h
 
 push_again : (n d : ℕ) → d ≤ 9 → saturated (10 * saturated n + d) ≡ saturated (10 * n + d)
 unfolding saturated
@@ -45,36 +61,20 @@ saturated_most : (n : ℕ) → saturated n ≤ 18446744073709551610
 unfolding saturated
 saturated_most n = omega arith
 
--- ---- the value of a digit, 10 for another byte
+-- ---- digits
 
-abbrev pub digit_of : ℕ → ℕ
-digit_of c = cond (is_digit c) (c - 48) 10
-
-pub digit_low : (c : ℕ) → c < 48 → 10 ≡ digit_of c
-unfolding is_digit
-digit_low c h = rw (lt-leb 48 c h) refl
-
-pub digit_high : (c : ℕ) → 57 < c → 10 ≡ digit_of c
-unfolding is_digit
-digit_high c h = rw (lt-leb c 57 h, le-leb 48 c (omega arith)) refl
-
-pub digit_here : (c : ℕ) → 48 ≤ c → c ≤ 57 → c - 48 ≡ digit_of c
-unfolding is_digit
-digit_here c h k = rw (le-leb 48 c h, le-leb c 57 k) refl
-
--- 10 says that it is no digit, another value that it is one
-record DigitTold (c d : ℕ) : Type 0 where
-  other : d ≡ 10 → is_digit c ≡ false
-  digit : ¬ (d ≡ 10) → (is_digit c ≡ true) × (d ≡ c - 48) × (d ≤ 9)
-
-digit_cases : (c d : ℕ) → d ≡ digit_of c → DigitTold c d
-digit_cases c d e = go (is_digit c) refl e
+pub digit_told : (text : List ℕ) (p : ℕ) (r : Answer ℕ) → p < length text
+    → r ≡ cond (is_digit (word text p)) (Some (word text p - 48)) None → ToldDigit r text p
+digit_told text p r h e = go (is_digit (word text p)) refl e
   where
-    go : (b : Bool) → is_digit c ≡ b → d ≡ cond b (c - 48) 10 → DigitTold c d
-    go true t f =
-        let (a, b) = digit_small c t in
-        record { other = λ z. absurd (omega arith); digit = λ n. (t, f, omega arith) }
-    go false t f = record { other = λ z. t; digit = λ n. absurd (n f) }
+    go : (b : Bool) → is_digit (word text p) ≡ b → r ≡ cond b (Some (word text p - 48)) None → ToldDigit r text p
+    go true t f = rw f (h, t, refl)
+    go false t f = rw f (λ l. t)
+
+pub digit_most : (text : List ℕ) (q : ℕ) {d : ℕ} → ToldDigit (Some d) text q → d ≤ 9
+digit_most text q (h, t, e) =
+    let (a, b) = digit_small _ t in
+    omega arith
 
 -- ---- the loop over digits
 
@@ -129,15 +129,11 @@ module _ (text : List ℕ) (q : ℕ) where
           let past = since_end text q (omega arith) in
           ap past_digits past ∙ sym past
 
-  pub scan-digit : (d : ℕ) → d ≡ digit_of (word text q) → ¬ (d ≡ 10) → d ≤ 9
-  scan-digit d e n = ((digit_cases (word text q) d e).digit n).2
-
 module _ {text : List ℕ} {p q value : ℕ} (s : Scan text p q value) where
-  pub scan_more : (d r : ℕ) → q < length text → d ≡ digit_of (word text q) → ¬ (d ≡ 10) → r ≡ saturated (10 * value + d)
-      → Scan text p (q + 1) r
+  pub scan_more : {d r : ℕ} → ToldDigit (Some d) text q → r ≡ saturated (10 * value + d) → Scan text p (q + 1) r
   unfolding value_on
-  scan_more d r h e n f =
-      let (t, g, l) = (digit_cases (word text q) d e).digit n in
+  scan_more {d} {r} (h, t, g) f =
+      let l = digit_most text q (h, t, g) in
       let (m, a, b) = s.right in
       let digits = digits_more text q h t in
       record {
@@ -154,7 +150,7 @@ module _ {text : List ℕ} {p q value : ℕ} (s : Scan text p q value) where
         );
       }
 
-  stopped : (q < length text → is_digit (word text q) ≡ false) → Stopped text p q value
+  pub stopped : (q < length text → is_digit (word text q) ≡ false) → Stopped text p q value
   unfolding value_on
   stopped f =
       let (m, a, b) = s.right in
@@ -166,12 +162,6 @@ module _ {text : List ℕ} {p q value : ℕ} (s : Scan text p q value) where
         past = s.past ∙ past_none text q f;
         right = a ∙ ap saturated (sym (b ∙ ap (λ (ds : List ℕ). value_on ds m) none_left));
       }
-
-  pub scan-other : (d : ℕ) → d ≡ digit_of (word text q) → d ≡ 10 → Stopped text p q value
-  scan-other d e f = stopped (λ h. (digit_cases (word text q) d e).other f)
-
-  pub scan-end : length text ≤ q → Stopped text p q value
-  scan-end l = stopped (λ h. absurd (omega arith))
 
 -- ---- the number
 
@@ -207,31 +197,31 @@ some_lead [] k n = absurd (omega arith)
 some_lead (d ∷ []) k n = refl
 some_lead (d ∷ c ∷ ds) k n = ne_eqb d 48 n
 
-module _ {text : List ℕ} {p q value : ℕ} (s : Stopped text p q value) where
+module _ {text : List ℕ} {p : ℕ} (x : Number) (s : Stopped text p x.next x.value) where
   no_number : no_numeral (digits_at (since text p)) ≡ true → read_number (since text p) ≡ none
   unfolding read_number
   no_number e = rw e refl
 
-  first_byte : p < q → word (digits_at (since text p)) 0 ≡ word text p
+  first_byte : p < x.next → word (digits_at (since text p)) 0 ≡ word text p
   first_byte h =
       front-word (since text p) (omega (arith, s.count))
       ∙ ap (λ (l : List ℕ). word l 0) (since-cons text p (omega (arith, s.within)))
 
-  pub told_none : p ≡ q → read_number (since text p) ≡ none
+  pub told_none : x.next ≡ p → read_number (since text p) ≡ none
   told_none e = no_number (none_empty (digits_at (since text p)) (omega (arith, s.count)))
 
-  pub told_zero : p + 1 < q → word text p ≡ 48 → read_number (since text p) ≡ none
+  pub told_zero : p + 1 < x.next → word text p ≡ 48 → read_number (since text p) ≡ none
   told_zero h e =
       no_number (none_zero (digits_at (since text p)) (omega (arith, s.count)) (first_byte (omega arith) ∙ e))
 
-  pub told_value : no_numeral (digits_at (since text p)) ≡ false → Told (At value q) (read_number (since text p)) text
+  pub told_value : no_numeral (digits_at (since text p)) ≡ false → Told (Some x) (read_number (since text p)) text
   unfolding read_number
   told_value e = (value_on (digits_at (since text p)) 0, rw (e, s.past) refl, s.right, s.within)
 
-  pub told_one : ¬ (p ≡ q) → q ≤ p + 1 → Told (At value q) (read_number (since text p)) text
+  pub told_one : ¬ (x.next ≡ p) → x.next ≤ p + 1 → Told (Some x) (read_number (since text p)) text
   told_one n h = told_value (some_one (digits_at (since text p)) (omega (arith, s.count, s.ordered)))
 
-  pub told_more : p + 1 < q → ¬ (word text p ≡ 48) → Told (At value q) (read_number (since text p)) text
+  pub told_more : p + 1 < x.next → ¬ (word text p ≡ 48) → Told (Some x) (read_number (since text p)) text
   told_more h n =
       told_value
       (some_lead (digits_at (since text p)) (omega (arith, s.count)) (λ e. n (sym (first_byte (omega arith)) ∙ e)))

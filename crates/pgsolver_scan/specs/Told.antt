@@ -2,21 +2,18 @@
 -- same name reads from its place on. Numbers are handed on saturated: equal up to a bound that is above every count of
 -- lines that fits in memory. Assumes nothing: these are definitions.
 use Rattle.std.specs.Prelude.{ℕ, suc, ◌+◌, ◌<◌, ◌≤◌, min, max, ◌≡◌, cond, List, [], ◌∷◌, length, drop, eqb}
+use Rattle.std.specs.Prelude.{◌-◌, ◌⊎◌, ◌||◌, ◌==◌, true, false, Some, None}
+use Rattle.std.specs.List.{position}
+use Rattle.std.specs.declared.option.Option.{Option as Answer}
 use Rattle.std.proofs.Math.Option.{Option, none, some}
 use Rattle.rules.specs.Lists.{word, largest}
 use Rattle.rules.specs.TextReading.{Front, front, then_read, read_bytes, read_number, read_field}
-use Rattle.rules.specs.TextReading.{digits_at, past_digits, value_on}
+use Rattle.rules.specs.TextReading.{is_digit, digits_at, past_digits, value_on}
 use Rattle.rules.specs.Pgsolver.{SolverLine}
 use Rattle.rules.specs.PgsolverParse.{read_commas, read_list, read_named}
 use Rattle.pgsolver_scan.specs.declared.Number.{Number}
-use Rattle.pgsolver_scan.specs.declared.Number.TheVariants.{At, NoNumber}
 use Rattle.pgsolver_scan.specs.declared.Numbers.{Numbers}
-use Rattle.pgsolver_scan.specs.declared.Numbers.TheVariants.{Ends, NoNumbers}
-use Rattle.pgsolver_scan.specs.declared.Skip.{Skip}
-use Rattle.pgsolver_scan.specs.declared.Skip.TheVariants.{To, NoSkip}
 use Rattle.pgsolver_scan.specs.declared.VertexLine.{VertexLine}
-use Rattle.pgsolver_scan.specs.declared.Row.{Row}
-use Rattle.pgsolver_scan.specs.declared.Row.TheVariants.{Given, NoRow}
 
 -- the bound is ten times a number: whoever is above its tenth is above it with one digit more
 unfoldable pub saturated : ℕ → ℕ
@@ -70,25 +67,31 @@ pub record StandsField (text : List ℕ) (place : ℕ) : Type 0 where
   pub reads : read_field 32 (since text place) ≡ some (front number rest)
   pub small : number < 4_294_967_296
 
+-- a digit was read: none stands there, or this one
+abbrev pub ToldDigit : Answer ℕ → List ℕ → (place : ℕ) → Type 0
+ToldDigit (Some digit) text place =
+    (place < length text) × (is_digit (word text place) ≡ true) × (digit ≡ word text place - 48)
+ToldDigit None text place = place < length text → is_digit (word text place) ≡ false
+
 -- a number was read
-abbrev pub Told : Number → Option (Front ℕ) → List ℕ → Type 0
-Told (At value next) m text =
-    (n : ℕ) × (m ≡ some (front n (since text next))) × (value ≡ saturated n) × (next ≤ length text)
-Told NoNumber m text = m ≡ none
+abbrev pub Told : Answer Number → Option (Front ℕ) → List ℕ → Type 0
+Told (Some x) m text =
+    (n : ℕ) × (m ≡ some (front n (since text x.next))) × (x.value ≡ saturated n) × (x.next ≤ length text)
+Told None m text = m ≡ none
 
 -- numbers were read
-abbrev pub ToldList : Numbers → Option (Front (List ℕ)) → List ℕ → Type 0
-ToldList (Ends top listed next) m text =
-    (ns : List ℕ) × (m ≡ some (front ns (since text next))) × (top ≡ saturated (largest ns)) × (listed ≡ length ns)
-    × (next ≤ length text)
-ToldList NoNumbers m text = m ≡ none
+abbrev pub ToldList : Answer Numbers → Option (Front (List ℕ)) → List ℕ → Type 0
+ToldList (Some l) m text =
+    (ns : List ℕ) × (m ≡ some (front ns (since text l.next))) × (l.largest ≡ saturated (largest ns))
+    × (l.listed ≡ length ns) × (l.next ≤ length text)
+ToldList None m text = m ≡ none
 
 -- numbers were read behind a first one, which is counted with them
-abbrev pub ToldMore : Numbers → ℕ → Option (Front (List ℕ)) → List ℕ → Type 0
-ToldMore (Ends top listed next) first m text =
-    (ns : List ℕ) × (m ≡ some (front ns (since text next))) × (top ≡ max first (saturated (largest ns)))
-    × (listed ≡ suc (length ns)) × (next ≤ length text)
-ToldMore NoNumbers first m text = m ≡ none
+abbrev pub ToldMore : Answer Numbers → ℕ → Option (Front (List ℕ)) → List ℕ → Type 0
+ToldMore (Some l) first m text =
+    (ns : List ℕ) × (m ≡ some (front ns (since text l.next))) × (l.largest ≡ max first (saturated (largest ns)))
+    × (l.listed ≡ suc (length ns)) × (l.next ≤ length text)
+ToldMore None first m text = m ≡ none
 
 -- none of the bytes from p up to q is one of these two
 pub record Lacks (text : List ℕ) (p q one other : ℕ) : Type 0 where
@@ -96,10 +99,20 @@ pub record Lacks (text : List ℕ) (p q one other : ℕ) : Type 0 where
   pub within : q ≤ length text
   pub free : (i : ℕ) → p ≤ i → i < q → (¬ (word text i ≡ one)) × (¬ (word text i ≡ other))
 
+-- which of some bytes is the first that is one of these two
+unfoldable pub first_of : (one other : ℕ) → List ℕ → Answer ℕ
+first_of one other bytes = position (λ c. (c == one) || (c == other)) bytes
+
+-- the first from p on that is one of these two stands there; there is none
+abbrev pub ToldFirst : Answer ℕ → List ℕ → (p one other : ℕ) → Type 0
+ToldFirst (Some q) text p one other =
+    Lacks text p q one other × (q < length text) × ((word text q ≡ one) ⊎ (word text q ≡ other))
+ToldFirst None text p one other = Lacks text p (length text) one other
+
 -- something was passed over
-abbrev pub ToldSkip : {A : Type 0} → Skip → Option (Front A) → List ℕ → Type 0
-ToldSkip {A = A} (To next) m text = (a : A) × (m ≡ some (front a (since text next))) × (next ≤ length text)
-ToldSkip NoSkip m text = m ≡ none
+abbrev pub ToldSkip : {A : Type 0} → Answer ℕ → Option (Front A) → List ℕ → Type 0
+ToldSkip {A = A} (Some next) m text = (a : A) × (m ≡ some (front a (since text next))) × (next ≤ length text)
+ToldSkip None m text = m ≡ none
 
 -- what is told of a line that was read
 pub record RowAt (text : List ℕ) (line : SolverLine) (row : VertexLine) : Type 0 where
@@ -110,8 +123,8 @@ pub record RowAt (text : List ℕ) (line : SolverLine) (row : VertexLine) : Type
   pub listed : row.listed ≡ length line.successors
 
 -- a line was read
-abbrev pub ToldRow : Row → Option (Front SolverLine) → List ℕ → Type 0
-ToldRow (Given row) m text =
+abbrev pub ToldRow : Answer VertexLine → Option (Front SolverLine) → List ℕ → Type 0
+ToldRow (Some row) m text =
     (line : SolverLine) × (m ≡ some (front line (since text row.next))) × RowAt text line row
     × (row.next ≤ length text)
-ToldRow NoRow m text = m ≡ none
+ToldRow None m text = m ≡ none

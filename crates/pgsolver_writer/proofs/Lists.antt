@@ -1,12 +1,11 @@
 -- The text of a list of successors, with one number more. Assumes nothing.
 use mathlib.Core.Path.{◌≡◌, refl, sym, ap, ◌∙◌}
-use mathlib.Core.Bool.{Bool, true, false, not, true≢false}
+use mathlib.Core.Bool.{Bool, true, false, cond, not, true≢false}
 use mathlib.Core.List.{List, [], ◌∷◌, ◌++◌, append_assoc, append-nil}
 use Prim.Native.Nat.{ℕ, ◌+◌, ◌≤◌}
 use native.Mathlib.Omega.{arith}
 use lib.ListN.{length, length-append}
 use lib.Dec.{eqb}
-use borrow.Author.Tests.{eq-eqb, ne_eqb}
 use Rattle.rules.specs.Lists.{insert}
 use Rattle.rules.specs.Texts.{decimal}
 use Rattle.rules.specs.Pgsolver.{comma_text, list_text}
@@ -44,29 +43,33 @@ spaced_longer (x ∷ xs) ys =
 
 -- ---- a number at the end
 
-spaced_some : (x : ℕ) (xs : List ℕ) → 1 ≤ length (spaced_list (x ∷ xs))
-unfolding spaced_list
-spaced_some x xs = omega arith
-
-spaced_snoc : (start p : ℕ) (xs : List ℕ) (t : ℕ) → p ≡ start + length (spaced_list xs)
-    → spaced_list (xs ++ (t ∷ [])) ≡ spaced_list xs ++ (separator start p ∷ decimal t)
+spaced_snoc : (xs : List ℕ) (t : ℕ) → spaced_list (xs ++ (t ∷ [])) ≡ spaced_list xs ++ (separator xs ∷ decimal t)
 unfolding spaced_list separator comma_text
-spaced_snoc start p [] t e =
-    let f : start ≡ p = omega arith in
-    rw (eq-eqb start p f) (ap (λ (l : List ℕ). 32 ∷ l) (append-nil (decimal t)))
-spaced_snoc start p (x ∷ xs) t e =
+spaced_snoc [] t = ap (λ (l : List ℕ). 32 ∷ l) (append-nil (decimal t))
+spaced_snoc (x ∷ xs) t =
     let more = ap (λ (l : List ℕ). spaced_list (x ∷ xs) ++ l) (commas_one t) in
-    rw (ne_eqb start p (λ f. omega (arith, spaced_some x xs))) (spaced-append x xs (t ∷ []) ∙ more)
+    spaced-append x xs (t ∷ []) ∙ more
+
+separator_snoc : (xs : List ℕ) (t : ℕ) → separator (xs ++ (t ∷ [])) ≡ 44
+unfolding separator
+separator_snoc [] t = refl
+separator_snoc (x ∷ xs) t = refl
 
 -- a number is met
-pub spaced_met : (start p : ℕ) (bits xs : List ℕ) (t : ℕ) → Holds bits xs → p ≡ start + length (spaced_list xs)
-    → spaced_list (insert eqb xs t) ≡ spaced_list xs ++ unless (marked bits t) (separator start p ∷ decimal t)
-unfolding unless
-spaced_met start p bits xs t h e =
-    let number : List ℕ = separator start p ∷ decimal t in
-    insert_cases number_equality (λ ys. spaced_list ys ≡ spaced_list xs ++ unless (marked bits t) number) xs t
-    (λ i. rw (h.marks t ∙ in_has number_equality t xs i) (sym (append-nil (spaced_list xs))))
-    (λ n. rw (h.marks t ∙ not_in number_equality t xs n) (spaced_snoc start p xs t e))
+module _ (bits xs : List ℕ) (t : ℕ) (h : Holds bits xs) where
+  pub spaced_met : spaced_list (insert eqb xs t) ≡ spaced_list xs ++ unless (marked bits t) (separator xs ∷ decimal t)
+  unfolding unless
+  spaced_met =
+      insert_cases number_equality
+      (λ ys. spaced_list ys ≡ spaced_list xs ++ unless (marked bits t) (separator xs ∷ decimal t)) xs t
+      (λ i. rw (h.marks t ∙ in_has number_equality t xs i) (sym (append-nil (spaced_list xs))))
+      (λ n. rw (h.marks t ∙ not_in number_equality t xs n) (spaced_snoc xs t))
+
+  pub separator_met : separator (insert eqb xs t) ≡ cond (marked bits t) (separator xs) 44
+  separator_met =
+      insert_cases number_equality (λ ys. separator ys ≡ cond (marked bits t) (separator xs) 44) xs t
+      (λ i. rw (h.marks t ∙ in_has number_equality t xs i) refl)
+      (λ n. rw (h.marks t ∙ not_in number_equality t xs n) (separator_snoc xs t))
 
 -- whatever the separator is
 unless-length : (b : Bool) (x y : ℕ) (s : List ℕ) → length (unless b (x ∷ s)) ≡ length (unless b (y ∷ s))
@@ -75,15 +78,14 @@ unless-length true x y s = refl
 unless-length false x y s = refl
 
 pub length_met : (bits xs : List ℕ) (t : ℕ) → Holds bits xs
-    → length (spaced_list (insert eqb xs t)) ≡ length (spaced_list xs) + length (unless (marked bits t) (32 ∷ decimal t))
+    → length (spaced_list (insert eqb xs t))
+    ≡ length (spaced_list xs) + length (unless (marked bits t) (32 ∷ decimal t))
 length_met bits xs t h =
-    let p = length (spaced_list xs) in
-    let number = unless (marked bits t) (separator 0 p ∷ decimal t) in
     omega (
       arith,
-      ap length (spaced_met 0 p bits xs t h (omega arith)),
-      length-append (spaced_list xs) number,
-      unless-length (marked bits t) (separator 0 p) 32 (decimal t),
+      ap length (spaced_met bits xs t h),
+      length-append (spaced_list xs) (unless (marked bits t) (separator xs ∷ decimal t)),
+      unless-length (marked bits t) (separator xs) 32 (decimal t),
     )
 
 -- ---- a number that was met before, or not

@@ -8,7 +8,7 @@ use native.Mathlib.Omega.{arith}
 use lib.ListN.{length, length-append}
 use lib.Dec.{eqb}
 use Rattle.rules.specs.Lists.{word, In, from, once}
-use Rattle.rules.specs.Game.{vertex_count, edges_in, owner_in, priority_in, offset_in, edges_from, targets_in}
+use Rattle.rules.specs.Game.{vertex_count, edges_in, owner_in, priority_in, offset_in, targets_in}
 use Rattle.rules.specs.Texts.{decimal}
 use Rattle.rules.specs.Pgsolver.{parity_word, header_text, comma_text, line_text, lines_text, spelled}
 use Rattle.rules.specs.PgsolverWriting.{line_in, text_in, game_text}
@@ -16,8 +16,8 @@ use Rattle.lists.proofs.Inserts.{once_in, once_length}
 use Rattle.lists.proofs.Equalities.{number_equality}
 use Rattle.restrictions.proofs.Accepted.{degree, target_below}
 use Rattle.game_texts.proofs.Decimals.{decimal-word}
-use Rattle.pgsolver_writer.specs.Successors.{Writable, spaced_list, once_at}
-use Rattle.pgsolver_writer.proofs.Lines.{Read, successors_at, line-size}
+use Rattle.pgsolver_writer.specs.Successors.{Writable, spaced_list}
+use Rattle.pgsolver_writer.proofs.Lines.{line_parts, line_size}
 
 -- ---- the lines from v on
 
@@ -45,7 +45,7 @@ pub header_stretches : (h : ℕ) → header_text h ≡ parity_word ++ (decimal h
 unfolding header_text
 header_stretches h = refl
 
-header_size : (h : ℕ) → length (header_text h) ≡ length (decimal h) + 9
+pub header_size : (h : ℕ) → length (header_text h) ≡ length (decimal h) + 9
 unfolding header_text parity_word
 header_size h = omega (arith, length-append (decimal h) (59 ∷ 10 ∷ []))
 
@@ -94,30 +94,11 @@ spaced_short (n ∷ ns) h =
     let rest = commas_short ns (λ m i. h m (inr i)) in
     omega (arith, length-append (decimal n) (comma_text ns), decimal-word n (h n (inl refl)), rest)
 
--- what stands in the words
-read_in : (g : List ℕ) (v : ℕ) → Read g v
-read_in g v =
-    record {
-      priority = priority_in g v;
-      owner = owner_in g v;
-      first = edges_from g 0 v;
-      end = edges_from g 0 (v + 1);
-      ranked = refl;
-      owned = refl;
-      begins = refl;
-      ends = refl;
-    }
-
 module _ (g : List ℕ) (w : Writable g) (words : (i : ℕ) → word g i < 4_294_967_296) where
   successors_short : (v : ℕ) → v < vertex_count g
-      → length (spaced_list (once_at g (edges_from g 0 v) (edges_from g 0 (v + 1)))) ≤ 11 * length (targets_in g v)
+      → length (spaced_list (once eqb (targets_in g v))) ≤ 11 * length (targets_in g v)
   successors_short v h =
-      omega (
-        arith,
-        ap (λ (l : List ℕ). length (spaced_list l)) (successors_at g w.good v _ _ h refl refl),
-        once_length number_equality (targets_in g v),
-        spaced_short (once eqb (targets_in g v)) small,
-      )
+      omega (arith, once_length number_equality (targets_in g v), spaced_short (once eqb (targets_in g v)) small)
     where
       small : (n : ℕ) → In n (once eqb (targets_in g v)) → n < 4_294_967_296
       small n i =
@@ -125,11 +106,11 @@ module _ (g : List ℕ) (w : Writable g) (words : (i : ℕ) → word g i < 4_294
           omega (arith, w.good.few, target_below g w.good v h n target)
 
   line_short : (v : ℕ) → v < vertex_count g → length (line_text (line_in g v)) ≤ 34 + 11 * length (targets_in g v)
-  unfolding read_in
   line_short v h =
       omega (
         arith,
-        line-size w h (read_in g v),
+        ap length (line_parts g w v h),
+        line_size v (priority_in g v) (owner_in g v) (targets_in g v),
         decimal-word v (omega (arith, w.good.few)),
         decimal-word (priority_in g v) (words _),
         decimal-word (owner_in g v) (words _),

@@ -5,19 +5,20 @@ use Prim.Native.Nat.{ℕ}
 use lib.ListN.{length}
 use Rattle.rules.specs.declared.Answer.{Answer}
 use Rattle.rules.specs.declared.Answer.TheVariants.{Refused}
-use Rattle.rules.specs.declared.Check.TheVariants.{Passed, Fault}
+use Rattle.std.specs.declared.result.Result.TheVariants.{Ok}
+use Rattle.rules.specs.Answers.{fault}
 use Rattle.rules.specs.Answers.{said}
 use Rattle.rules.specs.Texts.{Written, text_into}
 use Rattle.rules.specs.PgsolverWriting.{game_text, writing_refusal, written_or, written_game}
 use Rattle.rules.specs.PgsolverCalls.{WritingDemand}
 use Rattle.game_texts.proofs.WritingDemands.{writing_demand}
 
-pub refused : (g text : List ℕ) (n p : ℕ) → writing_refusal g ≡ Fault n p
+pub refused : (g text : List ℕ) (n p : ℕ) → writing_refusal g ≡ fault n p
     → ◌≡◌ {A = Written} (record { answer = Refused n p; text = text }) (written_game g text)
 unfolding written_game written_or
 refused g text n p e = rw e refl
 
-pub accepted : (g text : List ℕ) → writing_refusal g ≡ Passed
+pub accepted : (g text : List ℕ) → writing_refusal g ≡ Ok tt
     → text_into (length (game_text g)) (game_text g) text ≡ written_game g text
 unfolding written_game written_or
 accepted g text e = rw e refl

@@ -2,80 +2,102 @@
 // `write_pgsolver` is the one function for users; the others are its parts.
 #![tactic(auto)]
 
-ghost use Rattle.std.specs.Prelude.{◌≡◌, [], ◌∷◌, ◌+◌, ◌-◌, ◌*◌, ◌<◌, ◌≤◌, length};
-ghost use Rattle.std.proofs.Math.Seq.{slice};
-ghost use Rattle.rules.specs.declared.Check.TheVariants.{Passed};
+ghost use Rattle.std.specs.Prelude.{Ok, ◌≡◌, cond, [], ◌∷◌, ◌*◌, ◌<◌, ◌≤◌, length, eqb};
 ghost use Rattle.rules.specs.Answers.{said};
+ghost use Rattle.rules.specs.Lists.{once};
 ghost use Rattle.rules.specs.Game.{vertex_count};
 ghost use Rattle.rules.specs.Texts.{decimal, Written};
 ghost use Rattle.rules.specs.Pgsolver.{header_text, line_text};
 ghost use Rattle.rules.specs.PgsolverWriting.{line_in, game_text, refusal98, writing_refusal, written_game};
 ghost use Rattle.rules.specs.PgsolverCalls.{WritingDemand};
-ghost use Rattle.words.specs.Stretches.{Wrote};
+ghost use Rattle.text_writer.specs.Appending.{Room, Appended};
 ghost use Rattle.restrictions.specs.GoodGame.{GoodGame};
 ghost use Rattle.bitmap.specs.Marks.{bitmap_words, bitmap_numbers, marked, Met, Holds, Only};
-ghost use Rattle.pgsolver_writer.specs.Successors.{Writable, spaced_list, separator, unless, once_at, Places};
+ghost use Rattle.pgsolver_writer.specs.Successors.{Writable, spaced_list, unless, Vertices, line_of};
 
 use bitmap::{Bitmap, WORDS};
-use rules::{Answer, Check};
+use rules::{Answer, Fault};
+use text_writer::Text;
 
 // ---- the check
 
 // 98: a vertex without successors.
-fn check_successors(game: &[u32]) -> Check
+fn check_successors(game: &[u32]) -> Result<(), Fault>
     requires { GoodGame game.now }
     ensures { result ≡ refusal98 game.now }
 {
     let vertices = words::at(game, 0);
-    let mut vertex = 0;
-    while vertex < vertices {
+    for vertex in 0..vertices {
         let first = parity_game::edges_from(game, 0, vertex);
         let end = parity_game::edges_from(game, 0, vertex + 1);
         if first == end {
-            return Check::Fault(98, 0);
+            return Err(Fault {
+                number: 98,
+                place: 0,
+            });
         }
-        vertex += 1;
     }
-    Check::Passed
+    Ok(())
 }
 
 // 51, 52, 53, then 98.
-fn check_writing(game: &[u32]) -> Check
+#[tactic(auto, unfolding(rules::specs::PgsolverWriting::writing_refusal, rules::specs::Answers::and_then))]
+fn check_writing(game: &[u32]) -> Result<(), Fault>
     ensures { result ≡ writing_refusal game.now }
 {
-    let checked = parity_game::check_game(game);
-    match checked {
-        Check::Fault(number, place) => Check::Fault(number, place),
-        Check::Passed => check_successors(game),
+    parity_game::check_game(game)?;
+    check_successors(game)
+}
+
+// ---- what a line shows
+
+// A vertex of a game.
+#[derive(Clone, Copy)]
+struct Vertex<'a> {
+    number: usize,
+    priority: usize,
+    owner: usize,
+    targets: &'a [u32],
+}
+
+fn vertex_of<'a>(game: &'a [u32], number: usize) -> Vertex<'a>
+    requires { Writable game.now × (number < vertex_count game.now) }
+    ensures line { line_of result ≡ line_text (line_in game.now number) }
+    ensures targets { Vertices result.targets.now }
+{
+    let first = parity_game::edges_from(game, 0, number);
+    let end = parity_game::edges_from(game, 0, number + 1);
+    Vertex {
+        number,
+        priority: parity_game::vertex_word(game, 1, number),
+        owner: parity_game::vertex_word(game, 0, number),
+        targets: &game[first..end],
     }
 }
 
 // ---- successors, each once: the bitmap marks those that were met, and is empty between two vertices
 
-// Empties the bitmap, in which only vertices that stand at these places are marked.
-fn wipe_all(game: &[u32], first: usize, end: usize, bits: &mut Bitmap)
-    requires places { Places game.now first end }
-    requires only { Only bits.old (slice first end game.now) }
+// Empties the bitmap, in which only these vertices are marked.
+fn wipe_all(targets: &[u32], bits: &mut Bitmap)
+    requires vertices { Vertices targets.now }
+    requires only { Only bits.old targets.now }
     ensures { Holds bits.new [] }
 {
-    let mut place = first;
-    while place < end {
-        let target = words::at(game, place);
-        bitmap::wipe(bits, target);
-        place += 1;
+    for target in targets {
+        bitmap::wipe(bits, *target as usize);
     }
 }
 
-// The same; where there are more places than words of the bitmap, by clearing all of it.
-fn empty(game: &[u32], first: usize, end: usize, bits: &mut Bitmap)
-    requires places { Places game.now first end }
-    requires only { Only bits.old (slice first end game.now) }
+// The same; where there are more vertices than words of the bitmap, by clearing all of it.
+fn empty(targets: &[u32], bits: &mut Bitmap)
+    requires vertices { Vertices targets.now }
+    requires only { Only bits.old targets.now }
     ensures { Holds bits.new [] }
 {
-    if WORDS < end - first {
+    if WORDS < targets.len() {
         bitmap::clear(bits);
     } else {
-        wipe_all(game, first, end, bits);
+        wipe_all(targets, bits);
     }
 }
 
@@ -92,38 +114,33 @@ fn successor_length(target: usize, bits: &mut Bitmap) -> usize
     0
 }
 
-// How many bytes the successors at these places take.
-fn successors_length(game: &[u32], first: usize, end: usize, bits: &mut Bitmap) -> usize
-    requires places { Places game.now first end }
+// How many bytes the successors take.
+fn successors_length(targets: &[u32], bits: &mut Bitmap) -> usize
+    requires vertices { Vertices targets.now }
     requires holds { Holds bits.old [] }
-    ensures value { (result ≡ length (spaced_list (once_at game.now first end))) × (result ≤ 11 * (end - first)) }
+    ensures value { (result ≡ length (spaced_list (once eqb targets.now))) × (result ≤ 11 * length targets.now) }
     ensures holds_2 { Holds bits.new [] }
 {
     let mut size = 0;
-    let mut place = first;
-    while place < end {
-        let target = words::at(game, place);
-        size += successor_length(target, bits);
-        place += 1;
+    for target in targets {
+        size += successor_length(*target as usize, bits);
     }
-    empty(game, first, end, bits);
+    empty(targets, bits);
     size
 }
 
 // ---- lengths
 
 // How many bytes the line of a vertex has: the parts, two spaces, a semicolon and a newline.
-fn line_length(game: &[u32], vertex: usize, bits: &mut Bitmap) -> usize
-    requires writable { Writable game.now × (vertex < vertex_count game.now) }
+fn line_length(vertex: &Vertex<'_>, bits: &mut Bitmap) -> usize
+    requires vertices { Vertices vertex.now.targets.now }
     requires holds { Holds bits.old [] }
-    ensures { (result ≡ length (line_text (line_in game.now vertex))) × Holds bits.new [] }
+    ensures { (result ≡ length (line_of vertex.now)) × Holds bits.new [] }
 {
-    let first = parity_game::edges_from(game, 0, vertex);
-    let end = parity_game::edges_from(game, 0, vertex + 1);
-    let number = text_writer::digit_count(vertex);
-    let priority = text_writer::digit_count(parity_game::vertex_word(game, 1, vertex));
-    let owner = text_writer::digit_count(parity_game::vertex_word(game, 0, vertex));
-    let successors = successors_length(game, first, end, bits);
+    let number = text_writer::digit_count(vertex.number);
+    let priority = text_writer::digit_count(vertex.priority);
+    let owner = text_writer::digit_count(vertex.owner);
+    let successors = successors_length(vertex.targets, bits);
     number + priority + owner + successors + 4
 }
 
@@ -136,134 +153,92 @@ fn text_length(game: &[u32], bits: &mut Bitmap) -> usize
 {
     let vertices = words::at(game, 0);
     let mut size = text_writer::digit_count(vertices - 1) + 9;
-    let mut vertex = 0;
-    while vertex < vertices {
-        size += line_length(game, vertex, bits);
-        vertex += 1;
+    for number in 0..vertices {
+        let vertex = vertex_of(game, number);
+        size += line_length(&vertex, bits);
     }
     size
 }
 
-// ---- writing: each function appends to the text and answers the place past what it wrote
+// ---- writing: each function appends to the text
 
-// The byte before a successor: a space before the first one, which stands at `start`, a comma before the others.
-fn separator_at(start: usize, place: usize) -> u8
-    ensures { result ≡ separator start place }
-{
-    if start == place {
-        return 32;
-    }
-    44
-}
-
-// A byte and a number.
-fn put_parted(text: &mut [u8], start: usize, byte: u8, number: usize) -> usize
-    requires { start + length (byte ∷ decimal number) ≤ length text.old }
-    ensures { Wrote start (byte ∷ decimal number) text.old text.new result }
-{
-    let past_byte = text_writer::put_byte(text, start, byte);
-    text_writer::put_decimal(text, past_byte, number)
-}
-
-// A successor, unless it was met before; the first one stands at `start`.
-fn put_successor(
-    text: &mut [u8],
-    start: usize,
-    place: usize,
-    target: usize,
-    bits: &mut Bitmap,
-) -> usize
+// A successor behind its separator, unless it was met before. Answers the next one's separator.
+fn put_successor(text: &mut Text<'_>, separator: u8, target: usize, bits: &mut Bitmap) -> u8
     requires target_lt_bitmap_numbers { (target < bitmap_numbers) × (length bits.old ≡ bitmap_words) }
-    requires target_in_bounds { place + length (unless (marked bits.old target) (separator start place ∷ decimal target))
-        ≤ length text.old }
-    ensures wrote { Wrote place (unless (marked bits.old target) (separator start place ∷ decimal target))
-        text.old text.new result }
+    requires room { Room text.old (unless (marked bits.old target) (separator ∷ decimal target)) }
+    ensures wrote { Appended (unless (marked bits.old target) (separator ∷ decimal target)) text.old text.new }
+    ensures next { result ≡ cond (marked bits.old target) separator 44 }
     ensures met { Met bits.old bits.new target }
 {
     let new = bitmap::meet(bits, target);
     if new {
-        let byte = separator_at(start, place);
-        return put_parted(text, place, byte, target);
+        text.put_byte(separator);
+        text.put_decimal(target);
+        return b',';
     }
-    place
+    separator
 }
 
-// The successors that stand at these places of the game, each once.
-fn put_successors(
-    text: &mut [u8],
-    start: usize,
-    game: &[u32],
-    first: usize,
-    end: usize,
-    bits: &mut Bitmap,
-) -> usize
-    requires places { Places game.now first end }
+// The successors, each once: a space before the first one, a comma before the others.
+fn put_successors(text: &mut Text<'_>, targets: &[u32], bits: &mut Bitmap)
+    requires vertices { Vertices targets.now }
     requires holds { Holds bits.old [] }
-    requires end_in_bounds { start + length (spaced_list (once_at game.now first end)) ≤ length text.old }
-    ensures wrote { Wrote start (spaced_list (once_at game.now first end))
-        text.old text.new result }
+    requires room { Room text.old (spaced_list (once eqb targets.now)) }
+    ensures wrote { Appended (spaced_list (once eqb targets.now)) text.old text.new }
     ensures holds_2 { Holds bits.new [] }
 {
-    let mut past = start;
-    let mut place = first;
-    while place < end {
-        let target = words::at(game, place);
-        past = put_successor(text, start, past, target, bits);
-        place += 1;
+    let mut separator = b' ';
+    for target in targets {
+        separator = put_successor(text, separator, *target as usize, bits);
     }
-    empty(game, first, end, bits);
-    past
+    empty(targets, bits);
 }
 
 // The line of a vertex.
-fn put_line(text: &mut [u8], start: usize, game: &[u32], vertex: usize, bits: &mut Bitmap) -> usize
-    requires writable { Writable game.now × (vertex < vertex_count game.now) }
+#[tactic(auto, using(crate::proofs::Lines::line_size))]
+fn put_line(text: &mut Text<'_>, vertex: &Vertex<'_>, bits: &mut Bitmap)
+    requires vertices { Vertices vertex.now.targets.now }
     requires holds { Holds bits.old [] }
-    requires vertex_in_bounds { start + length (line_text (line_in game.now vertex)) ≤ length text.old }
-    ensures wrote { Wrote start (line_text (line_in game.now vertex))
-        text.old text.new result }
+    requires room { Room text.old (line_of vertex.now) }
+    ensures wrote { Appended (line_of vertex.now) text.old text.new }
     ensures holds_2 { Holds bits.new [] }
 {
-    let first = parity_game::edges_from(game, 0, vertex);
-    let end = parity_game::edges_from(game, 0, vertex + 1);
-    let priority = parity_game::vertex_word(game, 1, vertex);
-    let owner = parity_game::vertex_word(game, 0, vertex);
-    let past_number = text_writer::put_decimal(text, start, vertex);
-    let past_priority = text_writer::put_number(text, past_number, priority);
-    let past_owner = text_writer::put_number(text, past_priority, owner);
-    let past_successors = put_successors(text, past_owner, game, first, end, bits);
-    text_writer::put_bytes(text, past_successors, b";\n")
+    text.put_decimal(vertex.number);
+    text.put_number(vertex.priority);
+    text.put_number(vertex.owner);
+    put_successors(text, vertex.targets, bits);
+    text.put_bytes(b";\n");
 }
 
 // The first line.
-fn put_header(text: &mut [u8], highest: usize) -> usize
-    requires { length (header_text highest) ≤ length text.old }
-    ensures { Wrote 0 (header_text highest) text.old text.new result }
+#[tactic(auto, using(crate::proofs::Texts::header_size))]
+fn put_header(text: &mut Text<'_>, highest: usize)
+    requires { Room text.old (header_text highest) }
+    ensures { Appended (header_text highest) text.old text.new }
 {
-    let past_word = text_writer::put_bytes(text, 0, b"parity ");
-    let past_number = text_writer::put_decimal(text, past_word, highest);
-    text_writer::put_bytes(text, past_number, b";\n")
+    text.put_bytes(b"parity ");
+    text.put_decimal(highest);
+    text.put_bytes(b";\n");
 }
 
 // The text of a game.
-fn put_text(text: &mut [u8], game: &[u32], bits: &mut Bitmap) -> usize
-    requires writable { Writable game.now × (length (game_text game.now) ≤ length text.old) }
+fn put_text(text: &mut Text<'_>, game: &[u32], bits: &mut Bitmap)
+    requires writable { Writable game.now }
     requires holds { Holds bits.old [] }
-    ensures { Wrote 0 (game_text game.now) text.old text.new result }
+    requires room { Room text.old (game_text game.now) }
+    ensures { Appended (game_text game.now) text.old text.new }
 {
     let vertices = words::at(game, 0);
-    let mut past = put_header(text, vertices - 1);
-    let mut vertex = 0;
-    while vertex < vertices {
-        past = put_line(text, past, game, vertex, bits);
-        vertex += 1;
+    put_header(text, vertices - 1);
+    for number in 0..vertices {
+        let vertex = vertex_of(game, number);
+        put_line(text, &vertex, bits);
     }
-    past
 }
 
 // The text of a game that is not refused, and zeros past it; 2 for a slice that is too short.
 fn write_checked(game: &[u32], text: &mut [u8]) -> Answer
-    requires { writing_refusal game.now ≡ Passed }
+    requires { writing_refusal game.now ≡ Ok tt }
     ensures { record { answer = result; text = text.new }
         ≡ written_game game.now text.old }
 {
@@ -272,8 +247,9 @@ fn write_checked(game: &[u32], text: &mut [u8]) -> Answer
     if text.len() < size {
         return Answer::Refused(2, 0);
     }
-    let past = put_text(text, game, &mut bits);
-    text_writer::finish(text, past)
+    let mut written = Text::new(text);
+    put_text(&mut written, game, &mut bits);
+    written.finish()
 }
 
 // Writes a game as PGSolver text into the text slice. Refused are 51, 52 and 53 as a restriction is, 98 for a vertex
@@ -288,9 +264,8 @@ pub fn write_pgsolver(game: &[u32], text: &mut [u8]) -> Answer
     ensures coded { said result ≡ said (written_game game.now text.old).answer }
     ensures demand { WritingDemand game.now text.old result text.new }
 {
-    let checked = check_writing(game);
-    match checked {
-        Check::Fault(number, place) => Answer::Refused(number, place),
-        Check::Passed => write_checked(game, text),
+    match check_writing(game) {
+        Err(fault) => Answer::from(fault),
+        Ok(()) => write_checked(game, text),
     }
 }

@@ -5,36 +5,39 @@
 ghost use Rattle.std.specs.Prelude.{◌≡◌};
 ghost use Rattle.player.specs.Player.{player_index, other_player};
 
-#[derive(Clone, Copy)]
+#[derive(Clone, Copy, Debug, PartialEq, Eq)]
 pub enum Player {
     Even,
     Odd,
 }
 
 // The number of a vertex. Only where words are written is it taken apart.
-#[derive(Clone, Copy)]
+#[derive(Clone, Copy, Debug, PartialEq, Eq)]
 pub struct VertexIndex(pub u32);
 
 // The priority of a vertex. Only where words are written is it taken apart.
-#[derive(Clone, Copy)]
+#[derive(Clone, Copy, Debug, PartialEq, Eq)]
 pub struct Priority(pub u32);
 
 // Even is 0, Odd is 1.
-pub fn to_index(player: Player) -> u32
-    ensures { result ≡ player_index player }
-{
-    match player {
-        Player::Even => 0,
-        Player::Odd => 1,
+impl From<Player> for u32 {
+    ghost from_gives = { λ player word. word ≡ player_index player };
+
+    fn from(player: Player) -> u32 {
+        match player {
+            Player::Even => 0,
+            Player::Odd => 1,
+        }
     }
 }
 
-// The opponent of a player.
-pub fn opponent(player: Player) -> Player
-    ensures { result ≡ other_player player }
-{
-    match player {
-        Player::Even => Player::Odd,
-        Player::Odd => Player::Even,
+impl Player {
+    pub fn opponent(self) -> Player
+        ensures { result ≡ other_player self }
+    {
+        match self {
+            Player::Even => Player::Odd,
+            Player::Odd => Player::Even,
+        }
     }
 }

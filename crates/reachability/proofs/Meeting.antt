@@ -3,12 +3,12 @@
 use mathlib.Core.Path.{◌≡◌, sym, ap, ◌∙◌, subst}
 use mathlib.Core.List.{List, [], ◌∷◌, ◌++◌}
 use mathlib.Core.Logic.{inl, inr, ⊎_elim}
-use Prim.Native.Nat.{ℕ, ◌+◌, ◌-◌, ◌≤◌, ◌<◌}
+use Prim.Native.Nat.{ℕ, ◌+◌, ◌≤◌, ◌<◌}
 use native.Mathlib.Decide.{ℕ_discrete}
 use native.Mathlib.Numerals.{add-one}
 use native.Mathlib.Omega.{arith}
 use lib.Dec.{eqb}
-use lib.ListN.{length, get_or, take, set, replicate, length-set, length-replicate, get_or-replicate}
+use lib.ListN.{length, get_or, take, set, replicate, length-set, get_or-replicate}
 use lib.Seq.{take-suc-set, get_or-set_same, get_or-set_other, length-take-le, get_or-take}
 use Rattle.rules.specs.Lists.{word, In, from, insert}
 use Rattle.rules.specs.Restrict.{new_number}
@@ -119,9 +119,7 @@ knows_at {count} {mapping} {work} k i h =
     let e : get_or (take count work) i 0 ≡ get_or work i 0 = get_or-take count work i 0 h in
     k.below (word work i) (subst (λ (x : ℕ). In x (take count work)) e (in_at (take count work) i 0 (omega (arith, length_known k))))
 
--- a slice that is filled from its first word on
-pub filled : (v : ℕ) (ws ws' : List ℕ) → ws' ≡ take 0 ws ++ replicate (length ws - 0) v → ws' ≡ replicate (length ws') v
-filled v ws ws' e =
-    let z : length ws - 0 ≡ length ws = omega arith in
-    let f : ws' ≡ replicate (length ws) v = e ∙ ap (λ (k : ℕ). replicate k v) z in
-    f ∙ ap (λ (k : ℕ). replicate k v) (sym (ap length f ∙ length-replicate (length ws) v))
+-- a slice that is filled
+pub filled : (v : ℕ) (ws ws' : List ℕ) → length ws' ≡ length ws → ws' ≡ replicate (length ws) v
+    → ws' ≡ replicate (length ws') v
+filled v ws ws' l e = e ∙ ap (λ (k : ℕ). replicate k v) (sym l)

@@ -1,156 +1,208 @@
 -- The stretches of the game that is written, one vertex reached at a time. Assumes nothing.
-use mathlib.Core.Path.{◌≡◌, refl, sym, ap, ◌∙◌}
+use mathlib.Core.Path.{◌≡◌, refl, sym, ap, ◌∙◌, subst}
 use mathlib.Core.List.{List, [], ◌∷◌, ◌++◌, map, map-map}
-use Prim.Native.Nat.{ℕ, zero, suc, ◌+◌, ◌-◌, ◌*◌, ◌≤◌, ◌<◌}
+use mathlib.Core.Logic.{inl, inr}
+use Prim.Native.Nat.{ℕ, ◌+◌, ◌-◌, ◌*◌, ◌≤◌, ◌<◌}
 use native.Mathlib.Numerals.{add-one}
 use native.Mathlib.Omega.{arith}
-use lib.ListN.{length, take, drop, length-map}
-use lib.Seq.{slice, slice-cons, length-take-le}
-use Rattle.rules.specs.Lists.{word}
+use lib.ListN.{length, take, drop, set, replicate, length-map, drop_of_length-le}
+use lib.Seq.{slice, take_all, drop-cons, get_or-take}
+use Rattle.rules.specs.Lists.{word, In}
 use Rattle.rules.specs.Game.{Edge, Vertex, vertex_columns, edge_columns, edge_count, offsets, all_edges, columns}
-use Rattle.rules.specs.Game.{vertex_count, vertex_word, edges_from, edges_at}
+use Rattle.rules.specs.Game.{game_words, edges_in}
+use Rattle.rules.specs.Game.{vertex_count, vertex_word, edge_words_in, edges_at, game_of, padded}
 use Rattle.rules.specs.Restrict.{new_number, kept_edge, kept_vertex, kept_vertices}
-use Rattle.words.proofs.Stretches.{Writing, carry_length}
+use Rattle.words.specs.Stretches.{Wrote}
+use Rattle.words.proofs.Stretches.{Writing, start, turn, put, called, done}
 use Rattle.games.proofs.Columns.{each_vertex_column, each_edge_column, rise}
-use Rattle.games.proofs.Reading.{length-offsets, length_edges, length_edge_column}
+use Rattle.games.proofs.Reading.{length_edges, length_edge_column}
 use Rattle.games.specs.Columns.{vertex_column, edge_column, edge_column_of}
 use Rattle.parity_game.proofs.Stretches.{offsets_none, offsets_more, column_none, column-more, edges_none, edges_more}
-use Rattle.parity_game.proofs.Stretches.{columns_room, columns_room_from}
+use Rattle.parity_game.proofs.Stretches.{columns_room}
+use Rattle.parity_game.proofs.Calls.{behind_header, behind_columns, behind_offsets, header_done, columns_fit, offsets_fit}
+use Rattle.parity_game.proofs.Calls.{edges_fit as edges_fit_behind, last_done, game_fits, game_done}
 use Rattle.restrictions.specs.GoodGame.{GoodGame}
-use Rattle.restrictions.proofs.Accepted.{edges_column}
+use Rattle.restrictions.proofs.Accepted.{edges_column, target_below}
 use Rattle.restrictions.proofs.Kept.{kept_length, edges_fit}
-use Rattle.reachability.specs.Search.{Knows, Chosen}
-use Rattle.reachability.proofs.Edges.{edges_between, edges_rise, edges_within, targets_end, leads_at, degree}
-use Rattle.reachability.proofs.Meeting.{knows_at}
-use Rattle.reachability.proofs.Turns.{slice_none}
+use Rattle.reachability.specs.Search.{Knows, Chosen, Numbered}
+use Rattle.reachability.proofs.Edges.{degree}
+use Rattle.reachability.proofs.Meeting.{knows_at, length_known}
 
--- the vertices that stand at the places from i up to count of the work slice
-pub some_of : List ℕ → List ℕ → ℕ → ℕ → List Vertex
-some_of g work count i = map (kept_vertex g (take count work)) (slice i count work)
+-- the same place, told otherwise
+moved : {p q : ℕ} {left out : List ℕ} {at₀ : ℕ} {stretch out₀ : List ℕ} → p ≡ q
+    → Writing p left out at₀ stretch out₀ → Writing q left out at₀ stretch out₀
+moved {left = left} {out} {at₀} {stretch} {out₀} e w = subst (λ (k : ℕ). Writing k left out at₀ stretch out₀) e w
 
-pub all_some : (g work : List ℕ) (count : ℕ) → kept_vertices g (take count work) ≡ some_of g work count 0
-unfolding some_of kept_vertices
-all_some g work count = refl
+-- ---- a word for each element of a list, the first at place `at`
 
-some_more : (g work : List ℕ) (count i : ℕ) → i < count → count ≤ length work
-    → some_of g work count i ≡ kept_vertex g (take count work) (word work i) ∷ some_of g work count (i + 1)
-unfolding some_of
-some_more g work count i h k = rw (add-one i) (ap (map (kept_vertex g (take count work))) (slice-cons i count work 0 h k))
+-- those of the first i elements are written
+abbrev pub Row : (ℕ → ℕ) → List ℕ → (i at : ℕ) → (out out₀ : List ℕ) → Type 0
+Row f xs i at out out₀ = Writing (at + i) (map f (drop i xs)) out at (map f xs) out₀
 
-some-none : (g work : List ℕ) (count i : ℕ) → count ≤ i → some_of g work count i ≡ []
-unfolding some_of
-some-none g work count i h = rw (slice_none i count work h)
+pub row_start : (f : ℕ → ℕ) (xs : List ℕ) (at : ℕ) (out : List ℕ) → Row f xs 0 at out out
+row_start f xs at out = let here : at ≡ at + 0 = omega arith in moved here start
 
--- how many edges the vertex at place i has, by the places that were read
-kept_degree : (c : ℕ) → c < length edge_columns → (g work : List ℕ) (count i v a b : ℕ) → Chosen g count work
-    → i < count → v ≡ word work i → a ≡ edges_from g c v → b ≡ edges_from g c (v + 1)
-    → length (kept_vertex g (take count work) (word work i)).edges ≡ b - a
-unfolding kept_vertex
-kept_degree c l g work count i v a b k h e p q =
-    length-map (edges_at g (word work i)) (kept_edge (take count work))
-    ∙ degree g k.good c (word work i) l (k.inside i h) ∙ sym (rw (p, q, e))
+module _ (f : ℕ → ℕ) (xs : List ℕ) (i at : ℕ) {out out₀ : List ℕ} where
+  pub row_put : (x : ℕ) → x ≡ f (word xs i) → i < length xs → at + length xs ≤ length out₀ → Row f xs i at out out₀
+      → Row f xs (i + 1) at (set out (at + i) x) out₀
+  row_put x e h k w =
+      let here : at + i < length out = omega (arith, w.long) in
+      let cons : drop i xs ≡ word xs i ∷ drop (i + 1) xs = rw (add-one i) (drop-cons xs i 0 h) in
+      let more = ap (map f) cons ∙ ap (λ (y : ℕ). y ∷ map f (drop (i + 1) xs)) (sym e) in
+      let next : at + i + 1 ≡ at + (i + 1) = omega arith in
+      moved next (put here (turn more w))
 
--- those places are in order
-pub rises_read : (c : ℕ) (g work : List ℕ) (count i v a b : ℕ) → Chosen g count work → i < count → v ≡ word work i
-    → a ≡ edges_from g c v → b ≡ edges_from g c (v + 1) → a ≤ b
-rises_read c g work count i v a b k h e p q = rw (p, q) (edges_rise g k.good c v (omega (arith, k.inside i h)))
+  pub row_done : i ≤ length xs → length xs ≤ i → Row f xs i at out out₀ → Wrote at (map f xs) out₀ out (at + length xs)
+  row_done h k w =
+      let here : at + i ≡ at + length xs = omega arith in
+      done (moved here (turn (ap (map f) (drop_of_length-le xs k)) w))
 
--- ---- the number of edges
+-- ---- the vertices reached
 
-pub count-more : (c : ℕ) → c < length edge_columns → (g work : List ℕ) (count i v a b : ℕ) → Chosen g count work
-    → i < count → v ≡ word work i → a ≡ edges_from g c v → b ≡ edges_from g c (v + 1)
-    → edge_count (some_of g work count i) ≡ (b - a) + edge_count (some_of g work count (i + 1))
-count-more c l g work count i v a b k h e p q =
-    ap edge_count (some_more g work count i h k.within)
-    ∙ edges_more (kept_vertex g (take count work) (word work i)) (some_of g work count (i + 1))
-    ∙ ap (λ (n : ℕ). n + edge_count (some_of g work count (i + 1))) (kept_degree c l g work count i v a b k h e p q)
+-- the vertices that are kept, from number i on
+abbrev pub later : List ℕ → List ℕ → ℕ → List Vertex
+later g reached i = map (kept_vertex g reached) (drop i reached)
 
-pub count_none : (g work : List ℕ) (count i : ℕ) → count ≤ i → edge_count (some_of g work count i) ≡ 0
-count_none g work count i h = ap edge_count (some-none g work count i h) ∙ edges_none
+pub all_later : (g reached : List ℕ) → kept_vertices g reached ≡ later g reached 0
+unfolding kept_vertices
+all_later g reached = refl
 
--- ---- the offsets
+later_more : (g reached : List ℕ) (i : ℕ) → i < length reached
+    → later g reached i ≡ kept_vertex g reached (word reached i) ∷ later g reached (i + 1)
+later_more g reached i h = rw (add-one i) (ap (map (kept_vertex g reached)) (drop-cons reached i 0 h))
 
-pub offsets_next : (g work : List ℕ) (count i v a b e : ℕ) → Chosen g count work → i < count → v ≡ word work i
-    → a ≡ edges_from g 0 v → b ≡ edges_from g 0 (v + 1)
-    → offsets e (some_of g work count i) ≡ e ∷ offsets (e + (b - a)) (some_of g work count (i + 1))
-offsets_next g work count i v a b e k h r p q =
-    ap (offsets e) (some_more g work count i h k.within)
-    ∙ offsets_more e (kept_vertex g (take count work) (word work i)) (some_of g work count (i + 1))
-    ∙ ap (λ (n : ℕ). e ∷ offsets (e + n) (some_of g work count (i + 1)))
-    (kept_degree 0 (omega arith) g work count i v a b k h r p q)
+later_none : (g reached : List ℕ) (i : ℕ) → length reached ≤ i → later g reached i ≡ []
+later_none g reached i h = ap (map (kept_vertex g reached)) (drop_of_length-le reached h)
 
-pub offsets_last : (g work : List ℕ) (count i e : ℕ) → count ≤ i → offsets e (some_of g work count i) ≡ e ∷ []
-offsets_last g work count i e h = ap (offsets e) (some-none g work count i h) ∙ offsets_none e
+module _ (g reached : List ℕ) (k : Chosen g reached) where
+  -- how many edges the next vertex has, by the words that were read
+  kept_degree : (c i : ℕ) (words : List ℕ) → c < length edge_columns → i < length reached
+      → words ≡ edge_words_in g c (word reached i)
+      → length (kept_vertex g reached (word reached i)).edges ≡ length words
+  unfolding kept_vertex
+  kept_degree c i words l h e =
+      length-map (edges_at g (word reached i)) (kept_edge reached)
+      ∙ degree g k.good c (word reached i) l (k.inside i h) ∙ sym (ap length e)
 
--- ---- a column of the edges
+  pub count-more : (c i : ℕ) (words : List ℕ) → c < length edge_columns → i < length reached
+      → words ≡ edge_words_in g c (word reached i)
+      → edge_count (later g reached i) ≡ length words + edge_count (later g reached (i + 1))
+  count-more c i words l h e =
+      ap edge_count (later_more g reached i h)
+      ∙ edges_more (kept_vertex g reached (word reached i)) (later g reached (i + 1))
+      ∙ ap (λ (n : ℕ). n + edge_count (later g reached (i + 1))) (kept_degree c i words l h e)
 
--- the words of the vertex at place i, and those of the vertices behind it
-column_next : (c : ℕ) (g work words : List ℕ) (count i : ℕ) → Chosen g count work → i < count
-    → map (edge_column c) (kept_vertex g (take count work) (word work i)).edges ≡ words
-    → edge_column_of c (some_of g work count i) ≡ words ++ edge_column_of c (some_of g work count (i + 1))
-column_next c g work words count i k h e =
-    ap (edge_column_of c) (some_more g work count i h k.within)
-    ∙ column-more (edge_column c) (kept_vertex g (take count work) (word work i)) (some_of g work count (i + 1))
-    ∙ ap (λ (l : List ℕ). l ++ edge_column_of c (some_of g work count (i + 1))) e
+  pub count_none : (i : ℕ) → length reached ≤ i → edge_count (later g reached i) ≡ 0
+  count_none i h = ap edge_count (later_none g reached i h) ∙ edges_none
 
-pub column_last : (c : ℕ) (g work : List ℕ) (count i : ℕ) → count ≤ i → edge_column_of c (some_of g work count i) ≡ []
-column_last c g work count i h = ap (edge_column_of c) (some-none g work count i h) ∙ column_none (edge_column c)
+  -- ---- the offsets
 
--- ---- the targets
+  -- those of the first i vertices are written, from place `at` on, and b edges stand before the next
+  abbrev pub Offsets : (b i at : ℕ) → (out out₀ : List ℕ) → Type 0
+  Offsets b i at out out₀ =
+      (b + edge_count (later g reached i) ≡ edge_count (kept_vertices g reached))
+      × Writing (at + i) (offsets b (later g reached i)) out at (offsets 0 (kept_vertices g reached)) out₀
 
--- two functions that agree at the words from a up to b
-alike : (f h : ℕ → ℕ) (g : List ℕ) (a b : ℕ) → b ≤ length g → ((p : ℕ) → a ≤ p → p < b → f (word g p) ≡ h (word g p)) → map f (slice a b g) ≡ map h (slice a b g)
-alike f h g a b k same = go (b - a) a (omega arith) same
-  where
-    go : (d a' : ℕ) → b - a' ≡ d → ((p : ℕ) → a' ≤ p → p < b → f (word g p) ≡ h (word g p)) → map f (slice a' b g) ≡ map h (slice a' b g)
-    go zero a' e w =
-        let n : slice a' b g ≡ [] = slice_none a' b g (omega arith) in
-        rw n
-    go (suc d) a' e w =
-        let m : slice a' b g ≡ word g a' ∷ slice (suc a') b g = slice-cons a' b g 0 (omega arith) k in
-        let ih = go d (suc a') (omega arith) (λ p l. w p (omega arith)) in
-        rw m (ap (λ (x : ℕ). x ∷ map f (slice (suc a') b g)) (w a' (omega arith) (omega arith)) ∙ ap (λ (l : List ℕ). h (word g a') ∷ l) ih)
+  pub offsets_start : (at : ℕ) (out : List ℕ) → Offsets 0 0 at out out
+  offsets_start at out =
+      let here : at ≡ at + 0 = omega arith in (
+        omega (arith, ap edge_count (all_later g reached)),
+        moved here (turn (ap (offsets 0) (all_later g reached)) start),
+      )
 
--- the new numbers of the targets
-kept_targets : (g met : List ℕ) (v : ℕ) → GoodGame g → v < vertex_count g
-    → map (edge_column 0) (kept_vertex g met v).edges
-    ≡ map (new_number met) (slice (edges_from g 0 v) (edges_from g 0 (v + 1)) g)
-unfolding kept_vertex kept_edge
-kept_targets g met v good h =
-    map-map (λ (e : Edge). e.target) (kept_edge met) (edges_at g v)
-    ∙ sym (map-map (new_number met) (λ (e : Edge). e.target) (edges_at g v))
-    ∙ ap (map (new_number met)) (edges_column g good 0 v (omega arith) h ∙ edges_between g 0 v)
+  -- no offset is above the edge count
+  pub offsets_few : (b i at : ℕ) {out out₀ : List ℕ} → Offsets b i at out out₀ → b ≤ edges_in g
+  offsets_few b i at w = omega (arith, w.0, k.fit)
 
--- the map holds them
-kept_edges : (g mapping work : List ℕ) (count v : ℕ) → GoodGame g → Knows count mapping work → length mapping ≡ vertex_count g → v < vertex_count g
-    → map (edge_column 0) (kept_vertex g (take count work) v).edges
-    ≡ map (λ t. word mapping t) (slice (edges_from g 0 v) (edges_from g 0 (v + 1)) g)
-kept_edges g mapping work count v good n k h =
-    kept_targets g (take count work) v good h
-    ∙ sym (alike (λ t. word mapping t) (new_number (take count work)) g (edges_from g 0 v)
-    (edges_from g 0 (v + 1)) (edges_within g good 0 (v + 1) (omega arith) (omega arith)) same)
-  where
-    same : (r : ℕ) → edges_from g 0 v ≤ r → r < edges_from g 0 (v + 1)
-        → word mapping (word g r) ≡ new_number (take count work) (word g r)
-    same r l m =
-        let last = targets_end g good v (edges_from g 0 (v + 1)) h refl in
-        n.right (word g r) (omega (arith, leads_at g good r (omega arith) (omega (arith, last))))
+  pub offsets_put : (b i at : ℕ) (words : List ℕ) {out out₀ : List ℕ} → i < length reached
+      → words ≡ edge_words_in g 0 (word reached i) → at + (length reached + 1) ≤ length out₀ → Offsets b i at out out₀
+      → Offsets (b + length words) (i + 1) at (set out (at + i) b) out₀
+  offsets_put b i at words {out} {out₀} h e l w =
+      let here : at + i < length out = omega (arith, w.1.long) in
+      let many = kept_degree 0 i words (omega arith) h e in
+      let more = ap (offsets b) (later_more g reached i h)
+      ∙ offsets_more b (kept_vertex g reached (word reached i)) (later g reached (i + 1))
+      ∙ ap (λ (n : ℕ). b ∷ offsets (b + n) (later g reached (i + 1))) many in
+      let next : at + i + 1 ≡ at + (i + 1) = omega arith in
+      (omega (arith, w.0, count-more 0 i words (omega arith) h e), moved next (put here (turn more w.1)))
 
-pub targets_next : (g mapping work : List ℕ) (count i v a b : ℕ) → Chosen g count work → Knows count mapping work → length mapping ≡ vertex_count g → i < count
-    → v ≡ word work i → a ≡ edges_from g 0 v → b ≡ edges_from g 0 (v + 1)
-    → edge_column_of 0 (some_of g work count i) ≡ map (λ t. word mapping t) (slice a b g)
-    ++ edge_column_of 0 (some_of g work count (i + 1))
-targets_next g mapping work count i v a b c n k h e p q =
-    column_next 0 g work (map (λ t. word mapping t) (slice a b g)) count i c h
-    (kept_edges g mapping work count (word work i) c.good n k (c.inside i h) ∙ read)
-  where
-    read : map (λ t. word mapping t) (slice (edges_from g 0 (word work i)) (edges_from g 0 (word work i + 1)) g)
-        ≡ map (λ t. word mapping t) (slice a b g)
-    read = rw (p, q, e)
+  pub offsets_done : (b i at : ℕ) {out out₀ : List ℕ} → i ≤ length reached → length reached ≤ i
+      → at + (length reached + 1) ≤ length out₀ → Offsets b i at out out₀
+      → Wrote at (offsets 0 (kept_vertices g reached)) out₀ (set out (at + length reached) b) (at + length reached + 1)
+  offsets_done b i at {out} {out₀} h m l w =
+      let here : at + length reached < length out = omega (arith, w.1.long) in
+      let same : at + i ≡ at + length reached = omega arith in
+      let last = ap (offsets b) (later_none g reached i m) ∙ offsets_none b in
+      done (put here (moved same (turn last w.1)))
 
--- ---- the columns that are copied
+  -- ---- a column of the edges
 
--- only the target of an edge is another
+  pub edges_start : (c : ℕ) {at : ℕ} {out : List ℕ}
+      → Writing at (edge_column_of c (later g reached 0)) out at (edge_column_of c (kept_vertices g reached)) out
+  edges_start c = turn (ap (edge_column_of c) (all_later g reached)) start
+
+  -- there is room for the words of the next vertex
+  pub edges_room : (c i : ℕ) {p at₀ : ℕ} {out out₀ : List ℕ} → c < length edge_columns → i < length reached
+      → at₀ + edge_count (kept_vertices g reached) ≤ length out₀
+      → Writing p (edge_column_of c (later g reached i)) out at₀ (edge_column_of c (kept_vertices g reached)) out₀
+      → p + length (edge_words_in g c (word reached i)) ≤ length out
+  edges_room c i l h r w =
+      omega (
+        arith,
+        w.long,
+        w.last,
+        length_edge_column (edge_column c) (later g reached i),
+        length_edge_column (edge_column c) (kept_vertices g reached),
+        count-more c i (edge_words_in g c (word reached i)) l h refl,
+      )
+
+  pub edges_put : (c i : ℕ) {p r at₀ : ℕ} {stretch out out' out₀ : List ℕ} → i < length reached
+      → length out' ≡ length out → Wrote p (map (edge_column c) (kept_vertex g reached (word reached i)).edges) out out' r
+      → Writing p (edge_column_of c (later g reached i)) out at₀ stretch out₀
+      → Writing r (edge_column_of c (later g reached (i + 1))) out' at₀ stretch out₀
+  edges_put c i h l wrote w =
+      called l wrote
+      (turn (ap (edge_column_of c) (later_more g reached i h)
+      ∙ column-more (edge_column c) (kept_vertex g reached (word reached i)) (later g reached (i + 1))) w)
+
+  pub edges_done : (c i : ℕ) {p at₀ : ℕ} {stretch out out₀ : List ℕ} → length reached ≤ i
+      → Writing p (edge_column_of c (later g reached i)) out at₀ stretch out₀ → Wrote at₀ stretch out₀ out p
+  edges_done c i h w = done (turn (ap (edge_column_of c) (later_none g reached i h) ∙ column_none (edge_column c)) w)
+
+-- ---- the words of one vertex
+
+-- words that are written, told otherwise
+pub wrote_as : {at r : ℕ} {xs ys out out' : List ℕ} → xs ≡ ys → Wrote at xs out out' r → Wrote at ys out out' r
+wrote_as {at} {r} {out = out} {out' = out'} e w = subst (λ (l : List ℕ). Wrote at l out out' r) e w
+
+pub slice_whole : (xs : List ℕ) → slice 0 (length xs) xs ≡ xs
+slice_whole xs = let all : length xs ≤ length xs = omega arith in take_all (length xs) xs all
+
+-- functions that agree at each element
+alike : (f h : ℕ → ℕ) (xs : List ℕ) → ((x : ℕ) → In x xs → f x ≡ h x) → map f xs ≡ map h xs
+alike f h [] same = refl
+alike f h (x ∷ xs) same =
+    ap (λ (y : ℕ). y ∷ map f xs) (same x (inl refl))
+    ∙ ap (λ (l : List ℕ). h x ∷ l) (alike f h xs (λ y m. same y (inr m)))
+
+module _ (g mapping reached : List ℕ) (good : GoodGame g) (n : Numbered g mapping reached) (v : ℕ) (h : v < vertex_count g) where
+  kept_targets : map (edge_column 0) (kept_vertex g reached v).edges ≡ map (new_number reached) (edge_words_in g 0 v)
+  unfolding kept_vertex kept_edge
+  kept_targets =
+      map-map (λ (e : Edge). e.target) (kept_edge reached) (edges_at g v)
+      ∙ sym (map-map (new_number reached) (λ (e : Edge). e.target) (edges_at g v))
+      ∙ ap (map (new_number reached)) (edges_column g good 0 v (omega arith) h)
+
+  -- the targets by the numbers that the map holds
+  pub numbers_written : (c : ℕ) (words : List ℕ) → c ≡ 0 → words ≡ edge_words_in g c v
+      → map (λ t. word mapping t) words ≡ map (edge_column c) (kept_vertex g reached v).edges
+  numbers_written c words z e =
+      ap (map (λ t. word mapping t)) (e ∙ ap (λ (d : ℕ). edge_words_in g d v) z)
+      ∙ alike (λ t. word mapping t) (new_number reached) (edge_words_in g 0 v)
+      (λ t m. n.right t (omega (arith, target_below g good v h t m, n.long)))
+      ∙ sym kept_targets ∙ ap (λ (d : ℕ). map (edge_column d) (kept_vertex g reached v).edges) (sym z)
+
+-- the other columns as they are: only the target of an edge is another
 kept_others : (met : List ℕ) (es : List Edge) (c : ℕ) → c < length edge_columns → 0 < c
     → map (edge_column c) (map (kept_edge met) es) ≡ map (edge_column c) es
 unfolding kept_edge
@@ -158,125 +210,135 @@ kept_others met es =
     each_edge_column (λ c. 0 < c → map (edge_column c) (map (kept_edge met) es) ≡ map (edge_column c) es)
     (λ h. absurd (omega arith)) (λ h. map-map (λ (e : Edge). e.count) (kept_edge met) es)
 
-kept_column : (c : ℕ) (g met : List ℕ) (v : ℕ) → c < length edge_columns → 0 < c → GoodGame g → v < vertex_count g
-    → map (edge_column c) (kept_vertex g met v).edges ≡ slice (edges_from g c v) (edges_from g c (v + 1)) g
+pub others_written : (g reached : List ℕ) (c v : ℕ) (words : List ℕ) → GoodGame g → v < vertex_count g
+    → c < length edge_columns → 0 < c → words ≡ edge_words_in g c v
+    → words ≡ map (edge_column c) (kept_vertex g reached v).edges
 unfolding kept_vertex
-kept_column c g met v l z good h =
-    kept_others met (edges_at g v) c l z ∙ edges_column g good c v l h ∙ edges_between g c v
-
-pub copied_next : (c : ℕ) → c < length edge_columns → 0 < c → (g work : List ℕ) (count i v a b : ℕ)
-    → Chosen g count work → i < count → v ≡ word work i → a ≡ edges_from g c v → b ≡ edges_from g c (v + 1)
-    → edge_column_of c (some_of g work count i) ≡ slice a b g ++ edge_column_of c (some_of g work count (i + 1))
-copied_next c l z g work count i v a b k h e p q =
-    column_next c g work (slice a b g) count i k h
-    (kept_column c g (take count work) (word work i) l z k.good (k.inside i h) ∙ read)
-  where
-    read : slice (edges_from g c (word work i)) (edges_from g c (word work i + 1)) g ≡ slice a b g
-    read = rw (p, q, e)
-
--- there is room for the next of them
-pub copied_room : (c : ℕ) (vs : List Vertex) {p at₀ : ℕ} {out out₀ : List ℕ} → c < length edge_columns
-    → at₀ + (length edge_columns - 1) * edge_count vs ≤ length out₀
-    → Writing p (columns (drop c edge_columns) (all_edges vs)) out at₀ (columns (drop 1 edge_columns) (all_edges vs)) out₀
-    → p + edge_count vs ≤ length out
-copied_room c vs h l w =
-    omega (
-      arith,
-      columns_room_from edge_columns (all_edges vs) 1 c h (omega (arith, length_edges vs)) w,
-      length_edges vs,
-    )
-
--- ---- the room that is left
-
-pub offsets_room : (g work : List ℕ) (count i e : ℕ) {p at₀ : ℕ} {out out₀ : List ℕ} → Chosen g count work → at₀ + (count + 1) ≤ length out₀
-    → Writing p (offsets e (some_of g work count i)) out at₀ (offsets 0 (kept_vertices g (take count work))) out₀ → p < length out
-offsets_room g work count i e k h w =
-    omega (
-      arith,
-      w.long,
-      w.last,
-      length-offsets e (some_of g work count i),
-      length-offsets 0 (kept_vertices g (take count work)),
-      kept_length g (take count work),
-      length-take-le count work k.within,
-    )
-
-pub edges_room : (c : ℕ) (g work : List ℕ) (count i : ℕ) {p at₀ : ℕ} {out out₀ : List ℕ}
-    → at₀ + edge_count (kept_vertices g (take count work)) ≤ length out₀
-    → Writing p (edge_column_of c (some_of g work count i)) out at₀
-    (edge_column_of c (kept_vertices g (take count work))) out₀ → p + edge_count (some_of g work count i) ≤ length out
-edges_room c g work count i h w =
-    omega (
-      arith,
-      w.long,
-      w.last,
-      length_edge_column (edge_column c) (some_of g work count i),
-      length_edge_column
-          (edge_column c) (kept_vertices g (take count work)),
-    )
-
--- ---- a vertex that was met, as it is read from the work slice: its edges can be asked for
-
-pub met_vertex : {g work : List ℕ} {count : ℕ} (c i v : ℕ) → c < length edge_columns → Chosen g count work → i < count
-    → v ≡ word work i → GoodGame g × ((c < length edge_columns) × (v < vertex_count g))
-met_vertex c i v l k h e = (k.good, (l, omega (arith, e, k.inside i h)))
+others_written g reached c v words good h l z e =
+    e ∙ sym (edges_column g good c v l h) ∙ sym (kept_others reached (edges_at g v) c l z)
 
 -- ---- the vertices met can be written
 
-pub chosen : (g mapping work : List ℕ) (count : ℕ) → GoodGame g → Knows count mapping work → length mapping ≡ vertex_count g → Chosen g count work
-chosen g mapping work count good k n =
-    record {
-      good = good;
-      within = omega (arith, k.within, k.work_long);
-      few = omega (arith, k.within);
-      inside = λ i h. omega (arith, knows_at k i h);
-      fit = edges_fit g good (take count work) k.distinct (λ v m. omega (arith, k.below v m));
-    }
+module _ (g mapping work : List ℕ) (count : ℕ) (good : GoodGame g) (k : Knows count mapping work) (n : length mapping ≡ vertex_count g) where
+  pub chosen : Chosen g (take count work)
+  chosen =
+      let long : length (take count work) ≡ count = length_known k in
+      record {
+        good = good;
+        few = omega (arith, long, k.within);
+        inside = λ i h. inside i (omega (arith, long));
+        fit = edges_fit g good (take count work) k.distinct (λ v m. omega (arith, k.below v m));
+      }
+    where
+      inside : (i : ℕ) → i < count → word (take count work) i < vertex_count g
+      inside i h = rw (get_or-take count work i 0 h) (omega (arith, knows_at k i h))
 
--- ---- the targets of one vertex
-
-pub numbers_room : (g mapping : List ℕ) (from q end : ℕ) {p at₀ : ℕ} {out out₀ : List ℕ} → q < end → end ≤ length g → at₀ + (end - from) ≤ length out₀
-    → Writing p (map (λ t. word mapping t) (slice q end g)) out at₀ (map (λ t. word mapping t) (slice from end g)) out₀ → p < length out
-numbers_room g mapping from q end h k r w =
-    omega (arith, w.long, w.last, carry_length (λ t. word mapping t) g from end k, carry_length (λ t. word mapping t) g q end k)
+  pub numbered : Numbered g mapping (take count work)
+  numbered = record { long = n; right = k.right }
 
 -- ---- the columns of the vertices
 
-module _ (g work : List ℕ) (count : ℕ) (k : Chosen g count work) where
-  abbrev vs : List Vertex
-  vs = kept_vertices g (take count work)
-
-  kept_many : length vs ≡ count
-  kept_many = kept_length g (take count work) ∙ length-take-le count work k.within
+module _ (g reached : List ℕ) (k : Chosen g reached) where
+  kept_many : length (kept_vertices g reached) ≡ length reached
+  kept_many = kept_length g reached
 
   -- a column is carried over: the word of each vertex is within the game
   pub column-inside : (c base n : ℕ) → n ≡ vertex_count g → base ≡ 3 + c * n → c < length vertex_columns → (i : ℕ)
-      → i < count
-      → base + word work i < length g
+      → i < length reached
+      → base + word reached i < length g
   column-inside c base n e f h i l = omega (arith, rise c (length vertex_columns) n h, k.inside i l, k.good.sized)
 
   -- and it is the column of the vertices that are kept
   pub column_kept : (c base n : ℕ) → n ≡ vertex_count g → base ≡ 3 + c * n → c < length vertex_columns
-      → map (λ v. word g (base + v)) (take count work) ≡ map (vertex_column c) (kept_vertices g (take count work))
+      → map (λ v. word g (base + v)) reached ≡ map (vertex_column c) (kept_vertices g reached)
   unfolding kept_vertices
   column_kept c base n e f h =
-      ap (λ (p : ℕ). map (λ v. word g (p + v)) (take count work)) (f ∙ ap (λ (m : ℕ). 3 + c * m) e)
-      ∙ go (take count work)
+      ap (λ (p : ℕ). map (λ v. word g (p + v)) reached) (f ∙ ap (λ (m : ℕ). 3 + c * m) e)
+      ∙ go reached
     where
-      kept_word : (v : ℕ) → vertex_word g c v ≡ vertex_column c (kept_vertex g (take count work) v)
+      kept_word : (v : ℕ) → vertex_word g c v ≡ vertex_column c (kept_vertex g reached v)
       kept_word v =
           unfold kept_vertex in
-          each_vertex_column (λ d. vertex_word g d v ≡ vertex_column d (kept_vertex g (take count work) v)) refl refl c h
+          each_vertex_column (λ d. vertex_word g d v ≡ vertex_column d (kept_vertex g reached v)) refl refl c h
 
       go : (xs : List ℕ)
-          → map (λ v. vertex_word g c v) xs ≡ map (vertex_column c) (map (kept_vertex g (take count work)) xs)
+          → map (λ v. vertex_word g c v) xs ≡ map (vertex_column c) (map (kept_vertex g reached) xs)
       go [] = refl
       go (x ∷ xs) =
           ap (λ (w : ℕ). w ∷ map (λ v. vertex_word g c v) xs) (kept_word x)
-          ∙ ap (λ (l : List ℕ). vertex_column c (kept_vertex g (take count work) x) ∷ l) (go xs)
+          ∙ ap (λ (l : List ℕ). vertex_column c (kept_vertex g reached x) ∷ l) (go xs)
+
+  -- as it is carried: the words of all vertices
+  pub column_carried : (c base n : ℕ) → n ≡ vertex_count g → base ≡ 3 + c * n → c < length vertex_columns
+      → map (λ v. word g (base + v)) (take (length reached) reached) ≡ map (vertex_column c) (kept_vertices g reached)
+  column_carried c base n e f h =
+      let all : length reached ≤ length reached = omega arith in
+      ap (map (λ v. word g (base + v))) (take_all (length reached) reached all) ∙ column_kept c base n e f h
 
   -- there is room for the next column
   pub column_room : (c : ℕ) {p at₀ : ℕ} {out out₀ : List ℕ} → c < length vertex_columns
-      → at₀ + length vertex_columns * count ≤ length out₀
-      → Writing p (columns (drop c vertex_columns) vs) out at₀ (columns vertex_columns vs) out₀ → p + count ≤ length out
-  column_room c h l w = omega (arith, columns_room vertex_columns vs c h (omega (arith, kept_many)) w, kept_many)
+      → at₀ + length vertex_columns * length reached ≤ length out₀
+      → Writing p (columns (drop c vertex_columns) (kept_vertices g reached)) out at₀
+      (columns vertex_columns (kept_vertices g reached)) out₀ → p + length reached ≤ length out
+  column_room c h l w =
+      omega (
+        arith,
+        columns_room vertex_columns (kept_vertices g reached) c h (omega (arith, kept_many)) w,
+        kept_many,
+      )
+
+-- there is room for the next column of the edges
+pub edge_column_room : (vs : List Vertex) (c : ℕ) {p at₀ : ℕ} {out out₀ : List ℕ} → c < length edge_columns
+    → at₀ + length edge_columns * edge_count vs ≤ length out₀
+    → Writing p (columns (drop c edge_columns) (all_edges vs)) out at₀ (columns edge_columns (all_edges vs)) out₀
+    → p + edge_count vs ≤ length out
+edge_column_room vs c h l w =
+    omega (arith, columns_room edge_columns (all_edges vs) c h (omega (arith, length_edges vs)) w, length_edges vs)
+
+-- ---- the calls that write the game, one after the other: the header, the columns of the vertices, the offsets, the
+-- columns of the edges, zeros
+
+module _ (g reached : List ℕ) (k : Chosen g reached) (out : List ℕ) (fits : length out ≡ length g) (m : ℕ)
+    (most : m ≡ edge_count (kept_vertices g reached)) where
+  many : length reached ≡ length (kept_vertices g reached)
+  many = sym (kept_length g reached)
+
+  room : game_words (length reached) m ≤ length out
+  room = omega (arith, most, k.few, k.fit, fits, k.good.sized)
+
+  module _ {a : ℕ} {out₁ : List ℕ} (l : length out₁ ≡ length out) (header : Wrote 0 (length reached ∷ m ∷ 0 ∷ []) out out₁ a) where
+    headed : Writing a (behind_header (kept_vertices g reached)) out₁ 0 (game_of 0 (kept_vertices g reached)) out
+    headed = header_done (kept_vertices g reached) (length reached) m many most l header
+
+    pub places_room : a + length vertex_columns * length reached ≤ length out₁
+    places_room = columns_fit (kept_vertices g reached) (length reached) m many most room headed
+
+    module _ {b : ℕ} {out₂ : List ℕ} (l₂ : length out₂ ≡ length out₁)
+        (places : Wrote a (columns vertex_columns (kept_vertices g reached)) out₁ out₂ b) where
+      placed : Writing b (behind_columns (kept_vertices g reached)) out₂ 0 (game_of 0 (kept_vertices g reached)) out
+      placed = called l₂ places headed
+
+      pub begin_room : b + (length reached + 1) ≤ length out₂
+      begin_room = offsets_fit (kept_vertices g reached) (length reached) m many most room placed
+
+      module _ {d : ℕ} {out₃ : List ℕ} (l₃ : length out₃ ≡ length out₂)
+          (begin : Wrote b (offsets 0 (kept_vertices g reached)) out₂ out₃ d) where
+        begun : Writing d (behind_offsets (kept_vertices g reached)) out₃ 0 (game_of 0 (kept_vertices g reached)) out
+        begun = called l₃ begin placed
+
+        pub columns_fits : d + length edge_columns * edge_count (kept_vertices g reached) ≤ length out₃
+        columns_fits =
+            let fit = edges_fit_behind (kept_vertices g reached) (length reached) m many most room begun in
+            omega (arith, fit, most)
+
+        module _ {f : ℕ} {out₄ : List ℕ} (l₄ : length out₄ ≡ length out₃)
+            (edges : Wrote d (columns edge_columns (all_edges (kept_vertices g reached))) out₃ out₄ f) where
+          ended : Writing f [] out₄ 0 (game_of 0 (kept_vertices g reached)) out
+          ended = last_done l₄ edges begun
+
+          pub end_fits : f ≤ length out₄
+          end_fits = game_fits (kept_vertices g reached) (length reached) m many most room ended
+
+          pub written : (out₅ : List ℕ) → out₅ ≡ take f out₄ ++ replicate (length out₄ - f) 0
+              → out₅ ≡ padded (length out) (game_of 0 (kept_vertices g reached))
+          written out₅ zeros = game_done ended zeros

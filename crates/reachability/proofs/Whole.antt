@@ -4,7 +4,8 @@ use mathlib.Core.Path.{◌≡◌, sym, ap, ◌∙◌, subst}
 use mathlib.Core.List.{List}
 use Prim.Native.Nat.{ℕ}
 use lib.ListN.{length, take, replicate}
-use Rattle.rules.specs.declared.Check.TheVariants.{Passed, Fault}
+use Rattle.std.specs.declared.result.Result.TheVariants.{Ok}
+use Rattle.rules.specs.Answers.{fault}
 use Rattle.rules.specs.declared.Answer.{Answer}
 use Rattle.rules.specs.declared.Answer.TheVariants.{Done, Refused}
 use Rattle.rules.specs.Lists.{zeros}
@@ -19,10 +20,10 @@ use Rattle.reachability.specs.Search.{Knows}
 use Rattle.reachability.proofs.Meeting.{length_known}
 use Rattle.reachability.proofs.Written.{map_is}
 
--- as many zeros
-pub zeros_long : (ws ws' : List ℕ) → length ws ≡ length ws' → zeros ws ≡ zeros ws'
+-- a slice is cleared
+pub cleared : (ws ws₁ ws' : List ℕ) → length ws₁ ≡ length ws → ws' ≡ replicate (length ws₁) 0 → ws' ≡ zeros ws
 unfolding zeros
-zeros_long ws ws' e = ap (λ (n : ℕ). replicate n 0) e
+cleared ws ws₁ ws' l e = e ∙ ap (λ (n : ℕ). replicate n 0) l
 
 -- what a call leaves
 abbrev pub left : Answer → List ℕ → List ℕ → List ℕ → Restricted
@@ -66,10 +67,10 @@ module _ (g out mapping work : List ℕ) where
     ),
   )
 
-  pub refused : (n p : ℕ) → restriction_refusal g (length out) (length mapping) (length work) ≡ Fault n p
+  pub refused : (n p : ℕ) → restriction_refusal g (length out) (length mapping) (length work) ≡ fault n p
       → Promise (left (Refused n p) out mapping work)
   refused n p e = promised (left (Refused n p) out mapping work) (sym (restriction_refused g out mapping work n p e))
 
-  pub restricted : (r : Restricted) → restriction_refusal g (length out) (length mapping) (length work) ≡ Passed
+  pub restricted : (r : Restricted) → restriction_refusal g (length out) (length mapping) (length work) ≡ Ok tt
       → r ≡ restricted_to g (reached_vertices g) out work → Promise r
   restricted r e h = promised r (h ∙ sym (restriction_passed g out mapping work e))

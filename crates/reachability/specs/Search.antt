@@ -16,10 +16,14 @@ pub record Knows (count : ℕ) (mapping work : List ℕ) : Type 0 where
   pub distinct : Distinct (take count work)
   pub below : (v : ℕ) → In v (take count work) → v < length mapping
 
--- the first `count` words of `work` are vertices of the game g, with no more edges than g has
-pub record Chosen (g : List ℕ) (count : ℕ) (work : List ℕ) : Type 0 where
+-- the vertices `reached` are vertices of the game g, with no more edges than g has
+pub record Chosen (g reached : List ℕ) : Type 0 where
   pub good : GoodGame g
-  pub within : count ≤ length work
-  pub few : count ≤ vertex_count g
-  pub inside : (i : ℕ) → i < count → word work i < vertex_count g
-  pub fit : edge_count (kept_vertices g (take count work)) ≤ edges_in g
+  pub few : length reached ≤ vertex_count g
+  pub inside : (i : ℕ) → i < length reached → word reached i < vertex_count g
+  pub fit : edge_count (kept_vertices g reached) ≤ edges_in g
+
+-- `mapping` holds the new number of each vertex of g
+pub record Numbered (g mapping reached : List ℕ) : Type 0 where
+  pub long : length mapping ≡ vertex_count g
+  pub right : (v : ℕ) → v < length mapping → word mapping v ≡ new_number reached v

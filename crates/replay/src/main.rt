@@ -3,42 +3,20 @@
 // docs/STORED-RUNS.md lays out a record and a line.
 #![tactic(auto)]
 
-ghost use Rattle.std.specs.Prelude.{◌+◌, ◌≤◌, ◌<◌, length, ◌≡◌};
+ghost use Rattle.std.specs.Prelude.{◌≤◌, ◌<◌, length, ◌≡◌};
 
 use rules::Room;
 use std::io;
-use std::io::Read;
+use stored_runs::Groups;
 
 fn bad_record(rt: &impl Print) -> io::Result<()> {
-    rt.write_all(b"bad record\n")
-}
-
-fn run_build(
-    rt: &impl Print,
-    labels: &[u32],
-    system: &[u32],
-    actions: &[u32],
-    formula: &[u32],
-    room: Room,
-    limit: u32,
-    game: &mut [u32],
-    work: &mut [u32],
-) -> io::Result<()> {
-    let vertices = room.vertices;
-    let edges = room.edges;
-    let answer = translate::translate(
-        labels, system, actions, formula, vertices, edges, limit, game, work,
-    );
-    stored_runs::outcome_line(rt, answer, game, &[], work)
+    println!(rt; "bad record")
 }
 
 // A build whose lent slices have so many words, each word `fill` before the call.
 fn lend_build(
     rt: &impl Print,
-    labels: &[u32],
-    system: &[u32],
-    actions: &[u32],
-    formula: &[u32],
+    input: Groups<'_>,
     room: Room,
     limit: u32,
     fill: u32,
@@ -47,19 +25,21 @@ fn lend_build(
 ) -> io::Result<()>
     requires { (game_length ≤ 117) × (work_length ≤ 193) }
 {
-    let mut game = [fill; 117];
-    let mut work = [fill; 193];
-    run_build(
-        rt,
-        labels,
-        system,
-        actions,
-        formula,
-        room,
+    let mut game = stored_runs::filled::<u32, 117>(fill);
+    let mut work = stored_runs::filled::<u32, 193>(fill);
+    let (game, work) = (&mut game[..game_length], &mut work[..work_length]);
+    let answer = translate::translate(
+        input.labels,
+        input.system,
+        input.actions,
+        input.formula,
+        room.vertices,
+        room.edges,
         limit,
-        &mut game[..game_length],
-        &mut work[..work_length],
-    )
+        game,
+        work,
+    );
+    stored_runs::outcome_line(rt, answer, game, &[], work)
 }
 
 // The length at a place; one above 4,096 counts as 4,096, which is too long for all words of a record.
@@ -83,18 +63,20 @@ fn replay_build(rt: &impl Print, stored: &[u32]) -> io::Result<()>
     if end > 76 || game_length > 117 || work_length > 193 {
         return bad_record(rt);
     }
-    let vertices = stored[1];
-    let edges = stored[2];
+    let input = Groups {
+        labels: &stored[12..labels_end],
+        system: &stored[labels_end..system_end],
+        actions: &stored[system_end..actions_end],
+        formula: &stored[actions_end..end],
+    };
+    let room = Room {
+        vertices: stored[1],
+        edges: stored[2],
+    };
     lend_build(
         rt,
-        &stored[12..labels_end],
-        &stored[labels_end..system_end],
-        &stored[system_end..actions_end],
-        &stored[actions_end..end],
-        Room {
-            vertices: vertices,
-            edges: edges,
-        },
+        input,
+        room,
         stored[3],
         stored[11],
         game_length,
@@ -127,35 +109,23 @@ fn replay_restrict(rt: &impl Print, stored: &[u32]) -> io::Result<()>
 fn replay(rt: &impl Print, stored: &[u32]) -> io::Result<()>
     requires { length stored.now ≡ 76 }
 {
-    let call = stored[0];
-    if call == 0 {
-        replay_build(rt, stored)
-    } else if call == 1 {
-        replay_restrict(rt, stored)
-    } else {
-        bad_record(rt)
+    match stored[0] {
+        0 => replay_build(rt, stored),
+        1 => replay_restrict(rt, stored),
+        _ => bad_record(rt),
     }
-}
-
-// Reads a record and replays it, or answers false where no whole record is left.
-fn replay_next<R: Read>(rt: &impl Print, input: &mut R) -> io::Result<bool> {
-    let mut text = [0u8; 304];
-    if stored_runs::read_full(input, &mut text)? < 304 {
-        return Ok(false);
-    }
-    let mut stored = [0u32; 76];
-    stored_runs::read_words(&text, 0, &mut stored);
-    replay(rt, &stored)?;
-    Ok(true)
 }
 
 // At most a million records, so that the program ends whatever it reads.
 fn main(rt: HostRuntime) -> io::Result<()> {
     let mut input = rt.stdin();
     for _ in 0..1000000 {
-        if !replay_next(&rt, &mut input)? {
+        let Some(text) = stored_runs::read_array::<_, 304>(&mut input)? else {
             return Ok(());
-        }
+        };
+        let mut stored = [0u32; 76];
+        stored_runs::read_words(&text, 0, &mut stored);
+        replay(&rt, &stored)?;
     }
     Ok(())
 }

@@ -8,7 +8,7 @@ use lib.ListN.{length, length-map}
 use lib.Seq.{slice, slice_empty, slice-cons, length-slice}
 use lib.Dec.{eqb, ltb}
 use borrow.Author.Tests.{ltb-false, leb-false, eqb-false}
-use Rattle.rules.specs.declared.Check.TheVariants.{Passed}
+use Rattle.std.specs.declared.result.Result.TheVariants.{Ok}
 use Rattle.rules.specs.Lists.{word, In}
 use Rattle.rules.specs.Words.{most_vertices, most_edges}
 use Rattle.rules.specs.Game.{Edge, edge_columns, vertex_count, edges_in, initial_in, vertex_column_at, offsets_at}
@@ -24,7 +24,7 @@ use Rattle.games.specs.Columns.{edge_column}
 use Rattle.games.proofs.Offsets.{offset_within}
 use Rattle.games.proofs.Stretches.{edges_words}
 
-module _ (g : List ℕ) (r51 : refusal51 g ≡ Passed) (r52 : refusal52 g ≡ Passed) (r53 : refusal53 g ≡ Passed) where
+module _ (g : List ℕ) (r51 : refusal51 g ≡ Ok tt) (r52 : refusal52 g ≡ Ok tt) (r53 : refusal53 g ≡ Ok tt) where
   sizes : (length g ≡ game_end g) × (1 ≤ vertex_count g) × (vertex_count g ≤ 1_048_576) × (edges_in g ≤ 4_194_304)
   unfolding above_room refusal51
   sizes =
@@ -97,13 +97,13 @@ module _ (g : List ℕ) (r51 : refusal51 g ≡ Passed) (r52 : refusal52 g ≡ Pa
         leads = λ e h. target_small (edge_column_at g 0 + e) (omega arith) (omega arith);
       }
 
-pub good_game : (g : List ℕ) → game_refusal g ≡ Passed → GoodGame g
+pub good_game : (g : List ℕ) → game_refusal g ≡ Ok tt → GoodGame g
 unfolding game_refusal
 good_game g e = good_words g (first_passed _ e 0) (first_passed _ e 1) (first_passed _ e 2)
 
 -- the lent slices have the right lengths too
-pub accepted_slices : (g : List ℕ) (out numbers work : ℕ) → restriction_refusal g out numbers work ≡ Passed
-    → (game_refusal g ≡ Passed) × (out ≡ length g) × (numbers ≡ vertex_count g) × (work ≡ vertex_count g)
+pub accepted_slices : (g : List ℕ) (out numbers work : ℕ) → restriction_refusal g out numbers work ≡ Ok tt
+    → (game_refusal g ≡ Ok tt) × (out ≡ length g) × (numbers ≡ vertex_count g) × (work ≡ vertex_count g)
 unfolding restriction_refusal
 accepted_slices g out numbers work e =
     let (a, b) = then_both (game_refusal g) _ e in
@@ -112,8 +112,8 @@ accepted_slices g out numbers work e =
     (a, differ_false out (length g) c, differ_false numbers (vertex_count g) m, differ_false work (vertex_count g) n)
 
 -- and slices of these lengths are accepted with a game that is
-pub slices_accepted : (g : List ℕ) (out numbers work : ℕ) → game_refusal g ≡ Passed → out ≡ length g → numbers ≡ vertex_count g → work ≡ vertex_count g
-    → restriction_refusal g out numbers work ≡ Passed
+pub slices_accepted : (g : List ℕ) (out numbers work : ℕ) → game_refusal g ≡ Ok tt → out ≡ length g → numbers ≡ vertex_count g → work ≡ vertex_count g
+    → restriction_refusal g out numbers work ≡ Ok tt
 unfolding restriction_refusal
 slices_accepted g out numbers work e a b c =
     then_passed _ e ∙ if-false 2 0 (rw (differ_no a, differ_no b, differ_no c) refl)

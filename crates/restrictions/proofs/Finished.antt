@@ -9,8 +9,8 @@ use native.Mathlib.Omega.{arith}
 use lib.ListN.{length, get_or, replicate}
 use Rattle.rules.specs.declared.Answer.{Answer}
 use Rattle.rules.specs.declared.Answer.TheVariants.{Done}
-use Rattle.rules.specs.declared.Check.{Check}
-use Rattle.rules.specs.declared.Check.TheVariants.{Passed, Fault}
+use Rattle.rules.specs.Answers.{Check}
+use Rattle.std.specs.declared.result.Result.TheVariants.{Ok, Err}
 use Rattle.rules.specs.Lists.{In, from}
 use Rattle.rules.specs.declared.Room.{Room}
 use Rattle.rules.specs.Words.{Input}
@@ -83,7 +83,7 @@ module _ (rank : Ranking) (x : Input) (k : ℕ) (a : Answer) (g : List ℕ) (ps 
 
 -- ---- a game of which every vertex is reachable
 
-module _ (g : List ℕ) (passed : game_refusal g ≡ Passed) (all : (v : ℕ) → v < vertex_count g → Reachable (targets_in g) (initial_in g) v)
+module _ (g : List ℕ) (passed : game_refusal g ≡ Ok tt) (all : (v : ℕ) → v < vertex_count g → Reachable (targets_in g) (initial_in g) v)
     (out numbers work : List ℕ) (a : length out ≡ length g) (b : length numbers ≡ vertex_count g) (c : length work ≡ vertex_count g) where
   good : GoodGame g
   good = good_game g passed
@@ -99,7 +99,7 @@ module _ (g : List ℕ) (passed : game_refusal g ≡ Passed) (all : (v : ℕ) �
       let i = no_more (from 0 (vertex_count g)) met (from_distinct 0 (vertex_count g)) (λ v m. let l = (in_from v 0 (vertex_count g) m).1 in in_met v (omega arith)) in
       omega (arith, from-length 0 (vertex_count g), reached_few g good)
 
-  accepted : restriction_refusal g (length out) (length numbers) (length work) ≡ Passed
+  accepted : restriction_refusal g (length out) (length numbers) (length work) ≡ Ok tt
   accepted = slices_accepted g (length out) (length numbers) (length work) passed a b c
 
   abbrev r : Restricted
@@ -144,7 +144,7 @@ module _ (rank : Ranking) (x : Input) (r : Room) (k : ℕ) (game work : List ℕ
   accepted-run = subst Accepted (sym done) tt
 
   -- the run was neither refused nor out of room, and nothing waits
-  finished_run : (refusal x r (length game) (length work) ≡ Passed) × (exceeds r vs ≡ false) × (o.game ≡ padded (length game) (game_of 0 vs)) × ((walk_of x k).waiting ≡ [])
+  finished_run : (refusal x r (length game) (length work) ≡ Ok tt) × (exceeds r vs ≡ false) × (o.game ≡ padded (length game) (game_of 0 vs)) × ((walk_of x k).waiting ≡ [])
   unfolding out_of_room built_outcome
   finished_run = go (refusal x r (length game) (length work)) refl (exceeds r vs) refl
     where
@@ -152,10 +152,10 @@ module _ (rank : Ranking) (x : Input) (r : Room) (k : ℕ) (game work : List ℕ
       kept q e = subst (λ (p : Outcome). Accepted p.answer) e accepted-run
 
       go : (c : Check) → refusal x r (length game) (length work) ≡ c → (t : Bool) → exceeds r vs ≡ t
-          → (refusal x r (length game) (length work) ≡ Passed) × (exceeds r vs ≡ false) × (o.game ≡ padded (length game) (game_of 0 vs)) × ((walk_of x k).waiting ≡ [])
-      go (Fault n p) e t f = absurd (kept _ (run_refused rank x r k game work n p e))
-      go Passed e true f = absurd (kept _ (run-exceeds rank x r k game work e f))
-      go Passed e false f =
+          → (refusal x r (length game) (length work) ≡ Ok tt) × (exceeds r vs ≡ false) × (o.game ≡ padded (length game) (game_of 0 vs)) × ((walk_of x k).waiting ≡ [])
+      go (Err g) e t f = absurd (kept _ (run_refused rank x r k game work g.number g.place e))
+      go (Ok u) e true f = absurd (kept _ (run-exceeds rank x r k game work e f))
+      go (Ok u) e false f =
           let q = run_fits rank x r k game work e f in
           let w = none_waits (walk_of x k).waiting _ _ _ s n m (sym (ap (λ (p : Outcome). p.answer) q) ∙ done) in
           (e, f, ap (λ (p : Outcome). p.game) q, w)
@@ -163,7 +163,7 @@ module _ (rank : Ranking) (x : Input) (r : Room) (k : ℕ) (game work : List ℕ
   trimmed_is : trimmed o.game ≡ game_of 0 vs
   trimmed_is = ap trimmed finished_run.2 ∙ trimmed_game vs (length game)
 
-  pub finished_accepted : game_refusal (trimmed (run rank x r k game work).game) ≡ Passed
+  pub finished_accepted : game_refusal (trimmed (run rank x r k game work).game) ≡ Ok tt
   finished_accepted = let (e, f, p, w) = finished_run in ap game_refusal trimmed_is ∙ done_passes rank x r k game work e f w
 
   cut : CutTheorem rank x k o.answer o.game (walk_of x k).known

@@ -4,7 +4,8 @@ use mathlib.Core.Path.{◌≡◌, ap, sym, subst, ◌∙◌}
 use mathlib.Core.List.{List}
 use Prim.Native.Nat.{ℕ}
 use lib.ListN.{length}
-use Rattle.rules.specs.declared.Check.TheVariants.{Passed, Fault}
+use Rattle.std.specs.declared.result.Result.TheVariants.{Ok}
+use Rattle.rules.specs.Answers.{fault}
 use Rattle.rules.specs.declared.Answer.{Answer}
 use Rattle.rules.specs.declared.Answer.TheVariants.{Refused}
 use Rattle.rules.specs.Lists.{zeros}
@@ -19,7 +20,7 @@ module _ (g out numbers work : List ℕ) (a : Answer) (out' numbers' work' : Lis
   left = record { answer = a; out = out'; mapping = numbers'; work = work' }
 
   refusal_leaves : (n p : ℕ) → left ≡ restriction g out numbers work
-      → restriction_refusal g (length out) (length numbers) (length work) ≡ Fault n p
+      → restriction_refusal g (length out) (length numbers) (length work) ≡ fault n p
       → (a ≡ Refused n p) × (out' ≡ out) × (numbers' ≡ numbers) × (work' ≡ work)
   refusal_leaves n p e f =
       let h = e ∙ restriction_refused g out numbers work n p f in (
@@ -30,7 +31,7 @@ module _ (g out numbers work : List ℕ) (a : Answer) (out' numbers' work' : Lis
       )
 
   pass_leaves : left ≡ restriction g out numbers work
-      → restriction_refusal g (length out) (length numbers) (length work) ≡ Passed
+      → restriction_refusal g (length out) (length numbers) (length work) ≡ Ok tt
       → Accepted a × (work' ≡ zeros work)
   unfolding restricted_to
   pass_leaves e f =

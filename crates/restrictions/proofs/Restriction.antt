@@ -7,8 +7,9 @@ use Prim.Native.Nat.{ℕ, ◌-◌, ◌≤◌, ◌<◌}
 use native.Mathlib.Omega.{arith}
 use lib.ListN.{length, get_or, replicate, length-append, length-replicate}
 use Rattle.rules.specs.declared.Answer.TheVariants.{Done, Refused}
-use Rattle.rules.specs.declared.Check.{Check}
-use Rattle.rules.specs.declared.Check.TheVariants.{Passed, Fault}
+use Rattle.rules.specs.Answers.{Check}
+use Rattle.std.specs.declared.result.Result.TheVariants.{Ok, Err}
+use Rattle.rules.specs.Answers.{fault}
 use Rattle.rules.specs.Lists.{word, In, Distinct, zeros}
 use Rattle.rules.specs.Answers.{Accepted}
 use Rattle.rules.specs.Reach.{Reachable}
@@ -33,29 +34,29 @@ module _ (g out numbers work : List ℕ) where
   abbrev checked : Check
   checked = restriction_refusal g (length out) (length numbers) (length work)
 
-  pub restriction_passed : restriction_refusal g (length out) (length numbers) (length work) ≡ Passed → restriction g out numbers work ≡ restricted_to g (reached_vertices g) out work
+  pub restriction_passed : restriction_refusal g (length out) (length numbers) (length work) ≡ Ok tt → restriction g out numbers work ≡ restricted_to g (reached_vertices g) out work
   unfolding restriction restricted_or
   restriction_passed e = rw e
 
   -- a refusal says why, and alters nothing
-  pub restriction_refused : (n p : ℕ) → restriction_refusal g (length out) (length numbers) (length work) ≡ Fault n p
+  pub restriction_refused : (n p : ℕ) → restriction_refusal g (length out) (length numbers) (length work) ≡ fault n p
       → restriction g out numbers work ≡ record { answer = Refused n p; out = out; mapping = numbers; work = work }
   unfolding restriction restricted_or
   restriction_refused n p e = rw e
 
   -- the answer is Refused exactly if the check says so
-  pub passed_accepted : restriction_refusal g (length out) (length numbers) (length work) ≡ Passed
+  pub passed_accepted : restriction_refusal g (length out) (length numbers) (length work) ≡ Ok tt
       → Accepted (restriction g out numbers work).answer
   unfolding restricted_to
   passed_accepted e = subst (λ (r : Restricted). Accepted r.answer) (sym (restriction_passed e)) tt
 
   pub accepted_passed : Accepted (restriction g out numbers work).answer
-      → restriction_refusal g (length out) (length numbers) (length work) ≡ Passed
+      → restriction_refusal g (length out) (length numbers) (length work) ≡ Ok tt
   accepted_passed a = go checked refl
     where
-      go : (c : Check) → checked ≡ c → checked ≡ Passed
-      go Passed e = e
-      go (Fault m p) e = absurd (subst (λ (r : Restricted). Accepted r.answer) (restriction_refused m p e) a)
+      go : (c : Check) → checked ≡ c → checked ≡ Ok tt
+      go (Ok u) e = e
+      go (Err f) e = absurd (subst (λ (r : Restricted). Accepted r.answer) (restriction_refused f.number f.place e) a)
 
 -- ---- what is written
 
@@ -179,7 +180,7 @@ module _ (g out numbers work : List ℕ) where
   abbrev Claim : Restricted → Type 0
   Claim r = Restricts g r.answer r.out r.mapping (reached_vertices g)
 
-  pub passed_restricts : restriction_refusal g (length out) (length numbers) (length work) ≡ Passed
+  pub passed_restricts : restriction_refusal g (length out) (length numbers) (length work) ≡ Ok tt
       → Restricts g (restriction g out numbers work).answer (restriction g out numbers work).out (restriction g out numbers work).mapping (reached_vertices g)
   unfolding restricted_to
   passed_restricts e =

@@ -7,7 +7,7 @@ use native.Mathlib.Omega.{arith}
 use lib.ListN.{length, get_or, take, replicate}
 use lib.Seq.{take-append_seam}
 use Rattle.rules.specs.declared.Answer.TheVariants.{Done}
-use Rattle.rules.specs.declared.Check.TheVariants.{Passed}
+use Rattle.std.specs.declared.result.Result.TheVariants.{Ok}
 use Rattle.rules.specs.Lists.{In, from, zeros}
 use Rattle.rules.specs.Answers.{Accepted}
 use Rattle.rules.specs.Game.{Edge, Vertex, waiting_vertex, edge_count, game_of, padded}
@@ -48,7 +48,7 @@ no-pad ws = let e : length ws - length ws ≡ 0 = omega arith in ap (λ (k : ℕ
 
 -- ---- the result is accepted
 
-module _ (g : List ℕ) (passed : game_refusal g ≡ Passed) where
+module _ (g : List ℕ) (passed : game_refusal g ≡ Ok tt) where
   abbrev met : List ℕ
   met = reached_vertices g
 
@@ -79,7 +79,7 @@ module _ (g : List ℕ) (passed : game_refusal g ≡ Passed) where
       let k : u < length met = omega (arith, kept_length g met) in
       subst (λ (v : Vertex). v.owner < 2) (sym (kept_at g met u waiting_vertex k)) (good.owned (get_or met u 0) (reached_below g good (get_or met u 0) (in_at met u 0 k)))
 
-  pub result_accepted : game_refusal (game_of 0 (kept_vertices g (reached_vertices g))) ≡ Passed
+  pub result_accepted : game_refusal (game_of 0 (kept_vertices g (reached_vertices g))) ≡ Ok tt
   result_accepted =
       owned_passes vs waiting_vertex
       (omega (arith, (met_first g met (reached_searched g good)).0, kept_length g met))
@@ -102,7 +102,7 @@ module _ (g : List ℕ) (passed : game_refusal g ≡ Passed) where
     abbrev r : Restricted
     r = restriction (game_of 0 vs) out numbers work
 
-    again_passed : restriction_refusal (game_of 0 vs) (length out) (length numbers) (length work) ≡ Passed
+    again_passed : restriction_refusal (game_of 0 vs) (length out) (length numbers) (length work) ≡ Ok tt
     again_passed = slices_accepted (game_of 0 vs) (length out) (length numbers) (length work) result_accepted a b c
 
     pub result_again : restriction (game_of 0 (kept_vertices g (reached_vertices g))) out numbers work
@@ -127,10 +127,10 @@ module _ (g : List ℕ) (passed : game_refusal g ≡ Passed) where
 -- ---- the theorem
 
 module _ (g out numbers work : List ℕ) (accepted : Accepted (restriction g out numbers work).answer) where
-  passed : restriction_refusal g (length out) (length numbers) (length work) ≡ Passed
+  passed : restriction_refusal g (length out) (length numbers) (length work) ≡ Ok tt
   passed = accepted_passed g out numbers work accepted
 
-  game_passed : game_refusal g ≡ Passed
+  game_passed : game_refusal g ≡ Ok tt
   game_passed = (accepted_slices g (length out) (length numbers) (length work) passed).0
 
   once : restriction g out numbers work ≡ restricted_to g (reached_vertices g) out work
@@ -147,7 +147,7 @@ module _ (g out numbers work : List ℕ) (accepted : Accepted (restriction g out
   answer_is = ap (λ (r : Restricted). r.answer) once
 
   -- the game that was written is accepted: its lent slices need only have the right lengths
-  pub restricted_accepted : game_refusal (trimmed (restriction g out numbers work).out) ≡ Passed
+  pub restricted_accepted : game_refusal (trimmed (restriction g out numbers work).out) ≡ Ok tt
   restricted_accepted = ap game_refusal restricted_trimmed ∙ result_accepted g game_passed
 
   pub restricted_twice : (h : List ℕ) → h ≡ trimmed (restriction g out numbers work).out

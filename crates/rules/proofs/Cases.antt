@@ -12,8 +12,9 @@ use mathlib.Core.Option.{Option, some}
 use lib.ListN.{length, replicate}
 use Rattle.rules.specs.declared.Answer.{Answer}
 use Rattle.rules.specs.declared.Answer.TheVariants.{Done, Cut, Refused}
-use Rattle.rules.specs.declared.Check.{Check}
-use Rattle.rules.specs.declared.Check.TheVariants.{Passed, Fault}
+use Rattle.rules.specs.Answers.{Check}
+use Rattle.std.specs.declared.result.Result.TheVariants.{Ok}
+use Rattle.rules.specs.Answers.{fault}
 use Rattle.rules.specs.Lists.{from}
 use Rattle.rules.specs.declared.Room.{Room}
 use Rattle.rules.specs.Words.{Input, input_of, room_of, game_length, work_length}
@@ -382,8 +383,8 @@ refusal_cases = refl
 abbrev pub two_faults : List Case
 two_faults =
     -- 1 and 2, 2 and 11
-    checks (refusal (looping formula1) (room_of 0 8) 0 0) (Fault 1 0)
-    ∷ checks (refusal (labelled "" formula1) (room_of 6 8) 37 0) (Fault 2 0)
+    checks (refusal (looping formula1) (room_of 0 8) 0 0) (fault 1 0)
+    ∷ checks (refusal (labelled "" formula1) (room_of 6 8) 37 0) (fault 2 0)
     -- 11 and 12, 12 and 13, 13 and 21
     ∷ refuses (labelled "4097 1, 0" formula1) 11 0
     ∷ refuses (labelled "4097 2, 1 0, 7 7" formula1) 12 0
@@ -420,56 +421,56 @@ order_cases = refl
 abbrev pub limits : List Case
 limits =
     -- 1: each end of both ranges
-    checks (refusal1 (room_of 0 1)) (Fault 1 0)
-    ∷ checks (refusal1 (room_of 1 0)) (Fault 1 0)
-    ∷ checks (refusal1 (room_of 1_048_577 1)) (Fault 1 0)
-    ∷ checks (refusal1 (room_of 1 4_194_305)) (Fault 1 0)
-    ∷ checks (refusal1 (room_of 1 1)) Passed
-    ∷ checks (refusal1 (room_of 1_048_576 4_194_304)) Passed
+    checks (refusal1 (room_of 0 1)) (fault 1 0)
+    ∷ checks (refusal1 (room_of 1 0)) (fault 1 0)
+    ∷ checks (refusal1 (room_of 1_048_577 1)) (fault 1 0)
+    ∷ checks (refusal1 (room_of 1 4_194_305)) (fault 1 0)
+    ∷ checks (refusal1 (room_of 1 1)) (Ok tt)
+    ∷ checks (refusal1 (room_of 1_048_576 4_194_304)) (Ok tt)
     -- 2: each slice one word shorter and longer
-    ∷ checks (refusal2 (room_of 6 8) 38 64) Passed
-    ∷ checks (refusal2 (room_of 6 8) 37 64) (Fault 2 0)
-    ∷ checks (refusal2 (room_of 6 8) 39 64) (Fault 2 0)
-    ∷ checks (refusal2 (room_of 6 8) 38 63) (Fault 2 0)
-    ∷ checks (refusal2 (room_of 6 8) 38 65) (Fault 2 0)
-    ∷ checks (refusal2 (room_of 6 8) 11_534_340 16_777_216) (Fault 2 0)
-    ∷ checks (refusal2 (room_of 1_048_576 4_194_304) 11_534_340 16_777_216) Passed
+    ∷ checks (refusal2 (room_of 6 8) 38 64) (Ok tt)
+    ∷ checks (refusal2 (room_of 6 8) 37 64) (fault 2 0)
+    ∷ checks (refusal2 (room_of 6 8) 39 64) (fault 2 0)
+    ∷ checks (refusal2 (room_of 6 8) 38 63) (fault 2 0)
+    ∷ checks (refusal2 (room_of 6 8) 38 65) (fault 2 0)
+    ∷ checks (refusal2 (room_of 6 8) 11_534_340 16_777_216) (fault 2 0)
+    ∷ checks (refusal2 (room_of 1_048_576 4_194_304) 11_534_340 16_777_216) (Ok tt)
     -- 11, 21, 31, 41: one word shorter and longer
-    ∷ checks (refusal11 (words "1 1, 0")) (Fault 11 0)
-    ∷ checks (refusal11 (words "1 1, 0, 7 0")) (Fault 11 0)
-    ∷ checks (refusal11 (words "0 0")) Passed
-    ∷ checks (refusal21 (words "1 1 0, 1, 0")) (Fault 21 0)
-    ∷ checks (refusal21 (words "1 1 0, 1, 0, 0 0")) (Fault 21 0)
-    ∷ checks (refusal21 (words "1 0")) (Fault 21 0)
-    ∷ checks (refusal31 (words "1; 2")) (Fault 31 0)
-    ∷ checks (refusal31 (words "1; 2; 0 0")) (Fault 31 0)
-    ∷ checks (refusal31 (words "0")) Passed
-    ∷ checks (refusal41 (words "1; 0")) (Fault 41 0)
-    ∷ checks (refusal41 (words "1; 0; 0 0")) (Fault 41 0)
+    ∷ checks (refusal11 (words "1 1, 0")) (fault 11 0)
+    ∷ checks (refusal11 (words "1 1, 0, 7 0")) (fault 11 0)
+    ∷ checks (refusal11 (words "0 0")) (Ok tt)
+    ∷ checks (refusal21 (words "1 1 0, 1, 0")) (fault 21 0)
+    ∷ checks (refusal21 (words "1 1 0, 1, 0, 0 0")) (fault 21 0)
+    ∷ checks (refusal21 (words "1 0")) (fault 21 0)
+    ∷ checks (refusal31 (words "1; 2")) (fault 31 0)
+    ∷ checks (refusal31 (words "1; 2; 0 0")) (fault 31 0)
+    ∷ checks (refusal31 (words "0")) (Ok tt)
+    ∷ checks (refusal41 (words "1; 0")) (fault 41 0)
+    ∷ checks (refusal41 (words "1; 0; 0 0")) (fault 41 0)
     -- 12, 22, 32, 42: each limit on both sides
-    ∷ checks (refusal12 (words "4096 16384")) Passed
-    ∷ checks (refusal12 (words "4097 0")) (Fault 12 0)
-    ∷ checks (refusal12 (words "0 16385")) (Fault 12 0)
-    ∷ checks (refusal22 (words "1 262144")) Passed
-    ∷ checks (refusal22 (words "65535 0")) Passed
-    ∷ checks (refusal22 (words "0 0")) (Fault 22 0)
-    ∷ checks (refusal22 (words "65536 0")) (Fault 22 0)
-    ∷ checks (refusal22 (words "1 262145")) (Fault 22 0)
-    ∷ checks (refusal32 (words "1024")) Passed
-    ∷ checks (refusal32 (words "1025")) (Fault 32 0)
-    ∷ checks (refusal42 (words "1")) Passed
-    ∷ checks (refusal42 (words "1024")) Passed
-    ∷ checks (refusal42 (words "0")) (Fault 42 0)
-    ∷ checks (refusal42 (words "1025")) (Fault 42 0)
+    ∷ checks (refusal12 (words "4096 16384")) (Ok tt)
+    ∷ checks (refusal12 (words "4097 0")) (fault 12 0)
+    ∷ checks (refusal12 (words "0 16385")) (fault 12 0)
+    ∷ checks (refusal22 (words "1 262144")) (Ok tt)
+    ∷ checks (refusal22 (words "65535 0")) (Ok tt)
+    ∷ checks (refusal22 (words "0 0")) (fault 22 0)
+    ∷ checks (refusal22 (words "65536 0")) (fault 22 0)
+    ∷ checks (refusal22 (words "1 262145")) (fault 22 0)
+    ∷ checks (refusal32 (words "1024")) (Ok tt)
+    ∷ checks (refusal32 (words "1025")) (fault 32 0)
+    ∷ checks (refusal42 (words "1")) (Ok tt)
+    ∷ checks (refusal42 (words "1024")) (Ok tt)
+    ∷ checks (refusal42 (words "0")) (fault 42 0)
+    ∷ checks (refusal42 (words "1025")) (fault 42 0)
     -- 23: the last state and the first that is none
-    ∷ checks (refusal23 (words "2 0 1")) Passed
-    ∷ checks (refusal23 (words "2 0 2")) (Fault 23 2)
+    ∷ checks (refusal23 (words "2 0 1")) (Ok tt)
+    ∷ checks (refusal23 (words "2 0 2")) (fault 23 2)
     -- 13, 25, 26, 33, 43: the last that passes
-    ∷ checks (refusal13 (words "2 2, 1 1, 7 7")) Passed
-    ∷ checks (refusal25 (words "2 0") (words "1 1 0, 1, 1, 0")) Passed
-    ∷ checks (refusal26 (words "2 1 0, 1 0, 0, 1")) Passed
-    ∷ checks (refusal33 (words "1; 5; 0")) Passed
-    ∷ checks (refusal43 (words "1; 8; 0")) Passed
+    ∷ checks (refusal13 (words "2 2, 1 1, 7 7")) (Ok tt)
+    ∷ checks (refusal25 (words "2 0") (words "1 1 0, 1, 1, 0")) (Ok tt)
+    ∷ checks (refusal26 (words "2 1 0, 1 0, 0, 1")) (Ok tt)
+    ∷ checks (refusal33 (words "1; 5; 0")) (Ok tt)
+    ∷ checks (refusal43 (words "1; 8; 0")) (Ok tt)
     -- 51: each room limit on both sides
     ∷ tests (above_room 1_048_576 4_194_304) false
     ∷ tests (above_room 1_048_577 0) true
@@ -486,25 +487,25 @@ abbrev pub handed : List Case
 handed =
     -- without edges (C1), beginning anywhere (C3), with words past its end (C4), cut (C5), with an offset above the
     -- edge count (C6), with a repeated edge (C7)
-    checks (game_refusal (words "1 0 0, 1, 0, 0 0")) Passed
-    ∷ checks (game_refusal (words "2 1 1, 0 0, 0 0, 0 0 1, 1, 4294967295")) Passed
-    ∷ checks (game_refusal (words "1 1 0, 0, 0, 0 1, 0, 0 0")) (Fault 51 0)
-    ∷ checks (game_refusal (words "1 0 0, 2, 0, 0 0")) (Fault 53 3)
-    ∷ checks (game_refusal (words "2 2 0, 0 0, 0 0, 0 5 2, 0 0, 0 0")) (Fault 52 9)
-    ∷ checks (game_refusal (words "1 2 0, 0, 0, 0 2, 0 0, 1 0")) Passed
+    checks (game_refusal (words "1 0 0, 1, 0, 0 0")) (Ok tt)
+    ∷ checks (game_refusal (words "2 1 1, 0 0, 0 0, 0 0 1, 1, 4294967295")) (Ok tt)
+    ∷ checks (game_refusal (words "1 1 0, 0, 0, 0 1, 0, 0 0")) (fault 51 0)
+    ∷ checks (game_refusal (words "1 0 0, 2, 0, 0 0")) (fault 53 3)
+    ∷ checks (game_refusal (words "2 2 0, 0 0, 0 0, 0 5 2, 0 0, 0 0")) (fault 52 9)
+    ∷ checks (game_refusal (words "1 2 0, 0, 0, 0 2, 0 0, 1 0")) (Ok tt)
     -- without the counts (#102)
-    ∷ checks (game_refusal (words "1 1 0, 0, 0, 0 1, 0")) (Fault 51 0)
+    ∷ checks (game_refusal (words "1 1 0, 0, 0, 0 1, 0")) (fault 51 0)
     -- 51 to 53: too short, no vertex, a first offset, a last offset, an initial vertex, a target; the smallest place
-    ∷ checks (game_refusal (words "1 0")) (Fault 51 0)
-    ∷ checks (game_refusal (words "0 0 0, 0")) (Fault 51 0)
-    ∷ checks (game_refusal (words "1 1 0, 0, 0, 1 1, 0, 0")) (Fault 52 5)
-    ∷ checks (game_refusal (words "1 1 0, 0, 0, 0 0, 0, 0")) (Fault 52 6)
-    ∷ checks (game_refusal (words "1 1 1, 0, 0, 0 1, 0, 0")) (Fault 53 2)
-    ∷ checks (game_refusal (words "1 1 0, 0, 0, 0 1, 1, 0")) (Fault 53 7)
-    ∷ checks (game_refusal (words "1 1 0, 2, 0, 0 1, 1, 0")) (Fault 53 3)
+    ∷ checks (game_refusal (words "1 0")) (fault 51 0)
+    ∷ checks (game_refusal (words "0 0 0, 0")) (fault 51 0)
+    ∷ checks (game_refusal (words "1 1 0, 0, 0, 1 1, 0, 0")) (fault 52 5)
+    ∷ checks (game_refusal (words "1 1 0, 0, 0, 0 0, 0, 0")) (fault 52 6)
+    ∷ checks (game_refusal (words "1 1 1, 0, 0, 0 1, 0, 0")) (fault 53 2)
+    ∷ checks (game_refusal (words "1 1 0, 0, 0, 0 1, 1, 0")) (fault 53 7)
+    ∷ checks (game_refusal (words "1 1 0, 2, 0, 0 1, 1, 0")) (fault 53 3)
     -- two faults at once: 51 and 52, 52 and 53
-    ∷ checks (game_refusal (words "1 1 0, 0, 0, 1 1, 0, 0 0")) (Fault 51 0)
-    ∷ checks (game_refusal (words "1 1 1, 0, 0, 1 1, 0, 0")) (Fault 52 5)
+    ∷ checks (game_refusal (words "1 1 0, 0, 0, 1 1, 0, 0 0")) (fault 51 0)
+    ∷ checks (game_refusal (words "1 1 1, 0, 0, 1 1, 0, 0")) (fault 52 5)
     ∷ []
 
 pub handed_cases : All handed
@@ -527,15 +528,15 @@ restrictions =
     ∷ restricts "1 0 0, 1, 0, 0 0" (Done 1 1 0) "1 0 0, 1, 0, 0 0" "0"
     ∷ restricts "1 2 0, 0, 0, 0 2, 0 0, 3 1" (Done 1 1 2) "1 2 0, 0, 0, 0 2, 0 0, 3 1" "0"
     -- 53 and 2 at once: 2 comes last (C2)
-    ∷ checks (restriction_refusal (words "1 1 1, 0, 0, 0 1, 0, 0") 0 0 0) (Fault 53 2)
+    ∷ checks (restriction_refusal (words "1 1 1, 0, 0, 0 1, 0, 0") 0 0 0) (fault 53 2)
     -- 2: each slice one word shorter and longer
-    ∷ checks (restriction_refusal (words "1 0 0, 1, 0, 0 0") 7 1 1) Passed
-    ∷ checks (restriction_refusal (words "1 0 0, 1, 0, 0 0") 6 1 1) (Fault 2 0)
-    ∷ checks (restriction_refusal (words "1 0 0, 1, 0, 0 0") 8 1 1) (Fault 2 0)
-    ∷ checks (restriction_refusal (words "1 0 0, 1, 0, 0 0") 7 0 1) (Fault 2 0)
-    ∷ checks (restriction_refusal (words "1 0 0, 1, 0, 0 0") 7 2 1) (Fault 2 0)
-    ∷ checks (restriction_refusal (words "1 0 0, 1, 0, 0 0") 7 1 0) (Fault 2 0)
-    ∷ checks (restriction_refusal (words "1 0 0, 1, 0, 0 0") 7 1 2) (Fault 2 0)
+    ∷ checks (restriction_refusal (words "1 0 0, 1, 0, 0 0") 7 1 1) (Ok tt)
+    ∷ checks (restriction_refusal (words "1 0 0, 1, 0, 0 0") 6 1 1) (fault 2 0)
+    ∷ checks (restriction_refusal (words "1 0 0, 1, 0, 0 0") 8 1 1) (fault 2 0)
+    ∷ checks (restriction_refusal (words "1 0 0, 1, 0, 0 0") 7 0 1) (fault 2 0)
+    ∷ checks (restriction_refusal (words "1 0 0, 1, 0, 0 0") 7 2 1) (fault 2 0)
+    ∷ checks (restriction_refusal (words "1 0 0, 1, 0, 0 0") 7 1 0) (fault 2 0)
+    ∷ checks (restriction_refusal (words "1 0 0, 1, 0, 0 0") 7 1 2) (fault 2 0)
     ∷ []
 
 pub restriction_cases : All restrictions

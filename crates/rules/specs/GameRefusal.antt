@@ -1,7 +1,7 @@
 -- Why a game that is handed over is refused (document 01, "Whoever hands a game to the restriction"): one definition
 -- for each number, with its place, a word number. Assumes nothing: these are definitions.
 use Rattle.std.specs.Prelude.{ℕ, ◌+◌, ◌-◌, Bool, ◌||◌, List, [], ◌∷◌, length, eqb, ltb, leb}
-use Rattle.rules.specs.declared.Check.{Check}
+use Rattle.rules.specs.Answers.{Check}
 use Rattle.rules.specs.Lists.{word}
 use Rattle.rules.specs.Words.{most_vertices, most_edges}
 use Rattle.rules.specs.Answers.{fault_if, first_fault}

@@ -6,8 +6,9 @@ use Rattle.std.specs.Prelude.{ℕ, suc, Bool, true, cond, not, ◌&&◌, ◌||�
 use Rattle.std.proofs.Math.Option.{Option, none, some}
 use Rattle.rules.specs.declared.Answer.{Answer}
 use Rattle.rules.specs.declared.Answer.TheVariants.{Done, Refused}
-use Rattle.rules.specs.declared.Check.{Check}
-use Rattle.rules.specs.declared.Check.TheVariants.{Passed, Fault}
+use Rattle.rules.specs.Answers.{Check}
+use Rattle.std.specs.declared.result.Result.TheVariants.{Ok, Err}
+use Rattle.rules.specs.Answers.{fault}
 use Rattle.rules.specs.declared.Room.{Room}
 use Rattle.rules.specs.Lists.{from, has, once}
 use Rattle.rules.specs.Words.{game_length}
@@ -69,7 +70,7 @@ refusal93 r t =
 
 -- "91 for text that isn't this form", then 92 and 93 of what it says
 unfoldable pub text_refusal : Room → Option SolverText → Check
-text_refusal r none = Fault 91 0
+text_refusal r none = fault 91 0
 text_refusal r (some t) = and_then (refusal92 t) (refusal93 r t)
 
 -- "after 1 and 2": the room, then the length of the game slice; no work slice is lent (decision M1)
@@ -95,8 +96,8 @@ vertices_in (some t) = read_vertices t
 
 -- a refusal alters nothing
 unfoldable pub read_or : Check → List Vertex → List ℕ → Readback
-read_or Passed vs game = read_as vs game
-read_or (Fault n p) vs game = record { answer = Refused n p; game = game }
+read_or (Ok u) vs game = read_as vs game
+read_or (Err f) vs game = record { answer = Refused f.number f.place; game = game }
 
 -- the game that the bytes say, in room r, with the game slice as it is at entry
 unfoldable pub read_game : Room → (bytes game : List ℕ) → Readback

@@ -3,8 +3,8 @@
 use Rattle.std.specs.Prelude.{ℕ, ◌-◌, Bool, not, List, map, length, eqb}
 use Rattle.std.proofs.Math.Option.{none}
 use Rattle.rules.specs.declared.Answer.TheVariants.{Refused}
-use Rattle.rules.specs.declared.Check.{Check}
-use Rattle.rules.specs.declared.Check.TheVariants.{Passed, Fault}
+use Rattle.rules.specs.Answers.{Check}
+use Rattle.std.specs.declared.result.Result.TheVariants.{Ok, Err}
 use Rattle.rules.specs.Lists.{from, once, every}
 use Rattle.rules.specs.Answers.{fault_if, and_then}
 use Rattle.rules.specs.Game.{vertex_count, owner_in, priority_in, targets_in}
@@ -47,8 +47,8 @@ writing_refusal g = and_then (game_refusal g) (refusal98 g)
 
 -- "then 2 for too short a text slice" (decision E1): one that has fewer bytes than the text
 unfoldable pub written_or : Check → List ℕ → List ℕ → Written
-written_or Passed g text = text_into (length (game_text g)) (game_text g) text
-written_or (Fault n p) g text = record { answer = Refused n p; text = text }
+written_or (Ok u) g text = text_into (length (game_text g)) (game_text g) text
+written_or (Err f) g text = record { answer = Refused f.number f.place; text = text }
 
 -- game g as text, with the text slice as it is at entry
 unfoldable pub written_game : List ℕ → (text : List ℕ) → Written

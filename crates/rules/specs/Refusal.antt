@@ -4,8 +4,9 @@
 -- said". All sums are of integers: none wraps. Assumes nothing: these are definitions.
 use Rattle.std.specs.Prelude.{ℕ, suc, ◌+◌, ◌*◌, ◌-◌, min, Bool, false, not, ◌&&◌, ◌||◌, List, [], ◌∷◌, length, eqb, ltb, leb}
 use Rattle.std.proofs.Math.Option.{Option, none, some}
-use Rattle.rules.specs.declared.Check.{Check}
-use Rattle.rules.specs.declared.Check.TheVariants.{Passed, Fault}
+use Rattle.rules.specs.Answers.{Check}
+use Rattle.std.specs.declared.result.Result.TheVariants.{Ok, Err}
+use Rattle.rules.specs.Answers.{fault}
 use Rattle.rules.specs.Lists.{word, seek, sum_words}
 use Rattle.rules.specs.declared.Room.{Room}
 use Rattle.rules.specs.Words.{Input, most_labels, most_actions, most_states, most_transitions, most_nodes, most_vertices, most_edges, game_length, work_length}
@@ -31,9 +32,9 @@ fault_from n p e bad = let found = seek bad p (e - p) in fault_if n found (ltb f
 
 -- of two checks for one number the fault at the smaller place
 unfoldable pub lower_fault : Check → Check → Check
-lower_fault Passed d = d
-lower_fault (Fault n p) Passed = Fault n p
-lower_fault (Fault n p) (Fault m q) = Fault n (min p q)
+lower_fault (Ok u) d = d
+lower_fault (Err f) (Ok u) = Err f
+lower_fault (Err f) (Err g) = fault f.number (min f.place g.place)
 
 -- ---- the host program
 
@@ -154,7 +155,7 @@ bad_formula_operand no_tree f v =
 
 -- the formula's tree is unfinished, or nodes are left over past its end
 unfoldable pub wrong_end : (size : ℕ) → Option ℕ → Check
-wrong_end n none = Fault 44 n
+wrong_end n none = fault 44 n
 wrong_end n (some e) = fault_if 44 e (ltb e n)
 
 -- "44: operand of kinds 0 to 7, unfinished tree, or nodes left over": one pool (decision A12)

@@ -4,8 +4,8 @@
 use Rattle.std.specs.Prelude.{ℕ, zero, suc, cond, ◌||◌, List, [], ◌∷◌, map, length, get_or, eqb, ltb}
 use Rattle.rules.specs.declared.Answer.{Answer}
 use Rattle.rules.specs.declared.Answer.TheVariants.{Done, Refused}
-use Rattle.rules.specs.declared.Check.{Check}
-use Rattle.rules.specs.declared.Check.TheVariants.{Passed, Fault}
+use Rattle.rules.specs.Answers.{Check}
+use Rattle.std.specs.declared.result.Result.TheVariants.{Ok, Err}
 use Rattle.rules.specs.Lists.{from, zeros, has, position, insert_all}
 use Rattle.rules.specs.Answers.{fault_if, and_then}
 use Rattle.rules.specs.Game.{Edge, Vertex, edge_count, game_of, padded}
@@ -77,8 +77,8 @@ restricted_to g met out work =
 
 -- a refusal alters nothing
 unfoldable pub restricted_or : Check → List ℕ → List ℕ → List ℕ → List ℕ → Restricted
-restricted_or Passed g out mapping work = restricted_to g (reached_vertices g) out work
-restricted_or (Fault n p) g out mapping work = record { answer = Refused n p; out = out; mapping = mapping; work = work }
+restricted_or (Ok u) g out mapping work = restricted_to g (reached_vertices g) out work
+restricted_or (Err f) g out mapping work = record { answer = Refused f.number f.place; out = out; mapping = mapping; work = work }
 
 -- the restriction of game g, with the slices as they are at entry
 unfoldable pub restriction : List ℕ → (out mapping work : List ℕ) → Restricted

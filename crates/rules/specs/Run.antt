@@ -3,8 +3,8 @@
 use Rattle.std.specs.Prelude.{ℕ, ◌-◌, Bool, cond, ◌||◌, List, [], ◌∷◌, length, ltb}
 use Rattle.rules.specs.declared.Answer.{Answer}
 use Rattle.rules.specs.declared.Answer.TheVariants.{Done, Cut, Refused}
-use Rattle.rules.specs.declared.Check.{Check}
-use Rattle.rules.specs.declared.Check.TheVariants.{Passed, Fault}
+use Rattle.rules.specs.Answers.{Check}
+use Rattle.std.specs.declared.result.Result.TheVariants.{Ok, Err}
 use Rattle.rules.specs.Lists.{zeros}
 use Rattle.rules.specs.declared.Room.{Room}
 use Rattle.rules.specs.Words.{Input}
@@ -56,8 +56,8 @@ walk_outcome r st vs game work = cond (exceeds r vs) (out_of_room game work) (bu
 
 -- "Except for 60, a refusal alters nothing"
 unfoldable pub refused_or : Check → Outcome → List ℕ → List ℕ → Outcome
-refused_or Passed o game work = o
-refused_or (Fault n p) o game work = record { answer = Refused n p; game = game; work = work }
+refused_or (Ok u) o game work = o
+refused_or (Err f) o game work = record { answer = Refused f.number f.place; game = game; work = work }
 
 -- the run on x in room r, with step limit k and the slices as they are at entry
 unfoldable pub run : Ranking → Input → Room → (k : ℕ) → (game work : List ℕ) → Outcome

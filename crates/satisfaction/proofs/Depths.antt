@@ -11,7 +11,7 @@ use native.Mathlib.Omega.{arith}
 use native.Mathlib.Decide.{dec_lt, ℕ_discrete}
 use lib.Dec.{eqb, ltb}
 use borrow.Author.Tests.{ltb-true}
-use Rattle.rules.specs.declared.Check.TheVariants.{Passed}
+use Rattle.std.specs.declared.result.Result.TheVariants.{Ok}
 use Rattle.rules.specs.Lists.{In, has, one}
 use Rattle.rules.specs.Words.{Input}
 use Rattle.rules.specs.Table.{size, operand, formula_node, formula_children, tree_end}
@@ -273,7 +273,7 @@ module _ (m : ℕ) (x : Input) (good : GoodFormula m x.formula) (row : List Acti
 -- ---- the ranking by depth
 
 -- for every input that is not refused
-pub by_depth_pass_sound : (x : Input) → input_refusal x ≡ Passed → PassSound by_depth x
+pub by_depth_pass_sound : (x : Input) → input_refusal x ≡ Ok tt → PassSound by_depth x
 unfolding by_depth least_bit
 by_depth_pass_sound x passed =
     let good = accepted x passed in

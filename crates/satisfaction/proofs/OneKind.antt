@@ -10,7 +10,7 @@ use native.Mathlib.Omega.{arith}
 use native.Mathlib.Decide.{ℕ_discrete}
 use lib.Dec.{eqb}
 use lib.ListN.{length}
-use Rattle.rules.specs.declared.Check.TheVariants.{Passed}
+use Rattle.std.specs.declared.result.Result.TheVariants.{Ok}
 use Rattle.rules.specs.declared.Room.{Room}
 use Rattle.rules.specs.Lists.{has, one}
 use Rattle.rules.specs.Words.{Input}
@@ -93,7 +93,7 @@ module _ (m : ℕ) (x : Input) (good : GoodFormula m x.formula) (kinds : OneKind
 
 -- ---- the ranking
 
-pub one-kind_sound : (x : Input) → input_refusal x ≡ Passed → OneKind x.formula → Sound by_depth x
+pub one-kind_sound : (x : Input) → input_refusal x ≡ Ok tt → OneKind x.formula → Sound by_depth x
 unfolding by_depth
 one-kind_sound x passed kinds =
     record {

@@ -4,8 +4,8 @@ use mathlib.Core.Path.{◌≡◌, refl, sym, subst}
 use mathlib.Core.List.{List}
 use Prim.Native.Nat.{ℕ, ◌≤◌}
 use lib.ListN.{length}
-use Rattle.rules.specs.declared.Check.{Check}
-use Rattle.rules.specs.declared.Check.TheVariants.{Passed, Fault}
+use Rattle.rules.specs.Answers.{Check}
+use Rattle.std.specs.declared.result.Result.TheVariants.{Ok, Err}
 use Rattle.rules.specs.declared.Room.{Room}
 use Rattle.rules.specs.Words.{Input}
 use Rattle.rules.specs.Answers.{Accepted}
@@ -36,12 +36,12 @@ module _ (rank : Ranking) (x : Input) (r : Room) (k : ℕ) (game work : List ℕ
   done_accepted (s, n, m, d) = subst Accepted (sym d) tt
 
   -- it was not refused
-  pub done_passed : Finished o.answer → refusal x r (length game) (length work) ≡ Passed
+  pub done_passed : Finished o.answer → refusal x r (length game) (length work) ≡ Ok tt
   done_passed d = go (refusal x r (length game) (length work)) refl
     where
-      go : (c : Check) → refusal x r (length game) (length work) ≡ c → c ≡ Passed
-      go Passed e = refl
-      go (Fault n p) e = absurd (subst (λ (u : Outcome). Accepted u.answer) (run_refused rank x r k game work n p e) (done_accepted d))
+      go : (c : Check) → refusal x r (length game) (length work) ≡ c → c ≡ Ok tt
+      go (Ok u) e = refl
+      go (Err f) e = absurd (subst (λ (u : Outcome). Accepted u.answer) (run_refused rank x r k game work f.number f.place e) (done_accepted d))
 
   pub done_good : Finished o.answer → GoodInput x
   done_good d = accepted_words x r (length game) (length work) (done_passed d)

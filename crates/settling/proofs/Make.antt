@@ -1,12 +1,17 @@
 -- Targets one after another: none, one, and one stretch of them after another. Assumes nothing.
 use mathlib.Core.Path.{◌≡◌, refl, sym, ◌∙◌, ap, ap₂, subst}
 use mathlib.Core.List.{List, [], ◌∷◌, ◌++◌, append_assoc, append-nil}
+use mathlib.Core.Bool.{false≢true}
 use mathlib.Core.Logic.{inl, inr, ⊎_elim}
 use Prim.Native.Nat.{ℕ, ◌+◌, ◌-◌, ◌*◌, ◌≤◌, ◌<◌}
 use native.Mathlib.Decide.{dec_lt}
 use native.Mathlib.Omega.{arith}
 use lib.Dec.{eqb, lit≤, lit<}
 use lib.ListN.{length, drop, length-append}
+use Rattle.std.specs.Prelude.{Result}
+use Rattle.std.specs.Result.{IsErr}
+use Rattle.std.specs.declared.result.Result.TheVariants.{Ok, Err}
+use Rattle.pairs.specs.declared.NoRoom.{NoRoom}
 use Rattle.rules.specs.Lists.{word, In, position, insert, insert_all}
 use Rattle.rules.specs.Walk.{push_new}
 use Rattle.lists.specs.Shapes.{Begins, positions}
@@ -19,7 +24,7 @@ use Rattle.pairs.specs.Table.{keys_of}
 use Rattle.pairs.proofs.Uses.{keys_kept, table_kept}
 use Rattle.settling.specs.declared.Counters.{Counters}
 use Rattle.settling.specs.Stand.{waiting_in, waiting_of, edges_of, counts_of, marks_of, put_edge}
-use Rattle.settling.specs.Made.{Marks, Ready, Meeting, Made, TooMany, MarksCleared}
+use Rattle.settling.specs.Made.{Marks, Ready, Meeting, Made, TooMany, Answer, MarksCleared}
 use Rattle.settling.proofs.Buffer.{regions_same, edges_same, counts_same, past_marks, mark_at}
 use Rattle.settling.proofs.Buffer.{region_edge, edges_more, counts_more, edges_rest, counts_rest}
 use Rattle.settling.proofs.Buffer.{length-put_edge, ready_on}
@@ -205,6 +210,13 @@ module _ (v e : ℕ) (w w₁ w₂ w₃ : List ℕ) (c : Counters) (t u n m count
 pub many_one : (w : List ℕ) (v e : ℕ) (c : Counters) (t : ℕ) → v < length (insert eqb (keys_of w v c.known) t) → TooMany w v e c (t ∷ [])
 unfolding insert_all
 many_one w v e c t l = inl l
+
+-- ---- where a part answers that there is no room
+
+pub answer_failed : (w : List ℕ) (v e : ℕ) (c : Counters) (ts cs w' : List ℕ) (r : Result Counters NoRoom) → IsErr r
+    → TooMany w v e c ts → Answer w v e c ts cs w' r
+answer_failed w v e c ts cs w' (Ok c') h f = absurd (false≢true h)
+answer_failed w v e c ts cs w' (Err x) h f = f
 
 pub marks_rest : (w w' : List ℕ) (v b : ℕ) → drop (5 * v) w' ≡ drop (5 * v) w → Marks w v b → Marks w' v b
 marks_rest w w' v b e m i h = subst (λ (l : List ℕ). word l i ≤ b) (sym (rest_region 5 7 v w w' e (lit≤ tt))) (m i h)

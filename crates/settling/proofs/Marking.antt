@@ -1,7 +1,7 @@
 -- The targets of a modality, met one for each transition: a mark tells whether a target has its edge from this step and
 -- where, and the edge's count says how often it was met. Assumes nothing.
 use mathlib.Core.Path.{◌≡◌, refl, sym, ◌∙◌, ap, ap₂, subst}
-use mathlib.Core.Bool.{Bool, true, false, cond}
+use mathlib.Core.Bool.{false≢true}
 use mathlib.Core.List.{List, [], ◌∷◌, ◌++◌, map}
 use mathlib.Core.Logic.{◌⊎◌, inl, inr, ⊎_elim}
 use Prim.Native.Nat.{ℕ, suc, ◌+◌, ◌-◌, ◌*◌, ◌≤◌, ◌<◌}
@@ -11,6 +11,10 @@ use lib.Dec.{eqb, lit≤, lit<}
 use lib.ListN.{length, set, drop, length-append, length-map}
 use lib.Seq.{get_or-append-add, get_or-set_same, get_or-set_other}
 use borrow.Author.Tests.{eq-eqb, ne_eqb}
+use Rattle.std.specs.Prelude.{Result}
+use Rattle.std.specs.Result.{IsErr}
+use Rattle.std.specs.declared.result.Result.TheVariants.{Ok, Err}
+use Rattle.pairs.specs.declared.NoRoom.{NoRoom}
 use Rattle.rules.specs.Lists.{word, In, Distinct, one, occurrences, position, insert, insert_all, once}
 use Rattle.rules.specs.Walk.{push_new}
 use Rattle.rules.specs.Words.{most_vertices, most_edges}
@@ -29,10 +33,12 @@ use Rattle.pairs.specs.Table.{keys_of}
 use Rattle.pairs.proofs.Uses.{keys_kept, table_kept, length-keys}
 use Rattle.walks.proofs.Pushes.{push_none, push_on}
 use Rattle.settling.specs.declared.Counters.{Counters}
+use Rattle.settling.specs.declared.MarkedBy.{MarkedBy}
+use Rattle.settling.specs.declared.MarkedBy.TheVariants.{State, Vertex}
 use Rattle.settling.specs.declared.Operand.{Operand}
 use Rattle.settling.specs.Stand.{waiting_in, waiting_of, edges_of, counts_of, marks_of, put_edge, put_count, put_mark}
-use Rattle.settling.specs.Made.{Ready, Meeting, Made, TooMany, MarkedIn, Marked, tallies, Gathering}
-use Rattle.settling.specs.Made.{Apart, Raisable}
+use Rattle.settling.specs.Made.{Ready, Meeting, Made, TooMany, MarkedIn, Marked, tallies, Gathering, Gathered}
+use Rattle.settling.specs.Made.{Apart, Raisable, marker}
 use Rattle.settling.proofs.Buffer.{region_edge, region_count, length-put_count, length_counts}
 use Rattle.settling.proofs.Buffer.{edges_rest, counts_rest, edges_raised, counts_raised, counts_word, ready_on}
 use Rattle.settling.proofs.Buffer.{length_marks, length-put_mark, mark_at, mark_put, first_marks, marks_rest}
@@ -197,11 +203,11 @@ module _ (marks : List ℕ) (name name₁ : ℕ → ℕ) (many n n₁ s t u : �
 -- ---- what was gathered
 
 -- where no mark is above the edges none tells of a target, of either kind
-marked_none : (by_state : Bool) (item : ℕ) (marks ks : List ℕ) (many n s : ℕ)
-    → ((i : ℕ) → i < many → word marks i ≤ s) → Marked by_state item marks ks many n s []
-marked_none true item marks ks many n s k =
+marked_none : (by : MarkedBy) (item : ℕ) (marks ks : List ℕ) (many n s : ℕ)
+    → ((i : ℕ) → i < many → word marks i ≤ s) → Marked by item marks ks many n s []
+marked_none State item marks ks many n s k =
     record { only = λ i l p. absurd (omega (arith, k i l)); every = λ i l p. absurd p }
-marked_none false item marks ks many n s k =
+marked_none Vertex item marks ks many n s k =
     record { only = λ i l p. absurd (omega (arith, k i l)); every = λ i l p. absurd p }
 
 -- nothing was met
@@ -212,7 +218,7 @@ gathering_none w v e c o r k =
     record {
       made = made_none w v e c r;
       marked =
-          marked_none o.by_state o.item (marks_of w v o.marks) (keys_of w v c.known) o.marks c.known
+          marked_none o.marked_by o.item.number (marks_of w v o.marks) (keys_of w v c.known) o.marks c.known
           c.edges k;
     }
 
@@ -248,10 +254,10 @@ marked_most marks name many n s ts m i h = go (dec_lt s (word marks i))
     go (no d) = omega arith
 
 pub gathering_marks : (w : List ℕ) (v e : ℕ) (c : Counters) (o : Operand) (ks w' : List ℕ) (c' : Counters)
-    → v ≤ o.marks → (o.by_state ≡ false → o.marks ≡ v) → Gathering w v e c o ks w' c'
+    → v ≤ o.marks → (o.marked_by ≡ Vertex → o.marks ≡ v) → Gathering w v e c o ks w' c'
     → (i : ℕ) → i < o.marks → word (marks_of w' v o.marks) i ≤ c'.edges
 gathering_marks w v e c o ks w' c' wide own g i h =
-    omega (arith, g.made.row_length, go o.by_state g.marked)
+    omega (arith, g.made.row_length, go o.marked_by g.marked)
   where
     marks : List ℕ
     marks = marks_of w' v o.marks
@@ -259,10 +265,10 @@ gathering_marks w v e c o ks w' c' wide own g i h =
     known : List ℕ
     known = keys_of w' v c'.known
 
-    go : (b : Bool) → Marked b o.item marks known o.marks c'.known c.edges (once eqb ks)
+    go : (b : MarkedBy) → Marked b o.item.number marks known o.marks c'.known c.edges (once eqb ks)
         → word marks i ≤ c.edges + length (once eqb ks)
-    go true m = marked_most marks (λ s. key_of s o.item) o.marks o.marks c.edges (once eqb ks) m i h
-    go false m = marked_most marks (word known) o.marks c'.known c.edges (once eqb ks) m i h
+    go State m = marked_most marks (λ s. key_of s o.item.number) o.marks o.marks c.edges (once eqb ks) m i h
+    go Vertex m = marked_most marks (word known) o.marks c'.known c.edges (once eqb ks) m i h
 
 -- too many are too many at the end, whatever is met later
 pub gathered_many : (w : List ℕ) (v e : ℕ) (c : Counters) (ks later : List ℕ) → TooMany w v e c (once eqb ks)
@@ -312,14 +318,14 @@ module _ (v e : ℕ) (w w₁ : List ℕ) (c : Counters) (operand : Operand) (i :
       )
 
 -- which of so many marks is the one of t, a pair of state s that is vertex u
-pub record MarkOf (by_state : Bool) (item many s t u i : ℕ) : Type 0 where
+pub record MarkOf (by : MarkedBy) (item many s t u i : ℕ) : Type 0 where
   pub key : t ≡ key_of s item
-  pub told : i ≡ cond by_state s u
-  pub inside : by_state ≡ true → s < many
+  pub told : i ≡ marker by s u
+  pub inside : by ≡ State → s < many
 
-pub mark_of : (by_state : Bool) (item many s u i : ℕ) → i ≡ cond by_state s u → (by_state ≡ true → s < many)
-    → MarkOf by_state item many s (key_of s item) u i
-mark_of by_state item many s u i told inside = record { key = refl; told = told; inside = inside }
+pub mark_of : (by : MarkedBy) (item many s u i : ℕ) → i ≡ marker by s u → (by ≡ State → s < many)
+    → MarkOf by item many s (key_of s item) u i
+mark_of by item many s u i told inside = record { key = refl; told = told; inside = inside }
 
 module _ (v e : ℕ) (w w₁ : List ℕ) (c : Counters) (t u n m : ℕ) (r : Ready w v e c)
     (p : Meeting w w₁ v c.known c.waiting t u n m) (size : length w₁ ≡ length w) where
@@ -379,60 +385,60 @@ module _ (v e : ℕ) (w w₁ : List ℕ) (c : Counters) (t u n m : ℕ) (r : Rea
 
   -- the mark of t, of either kind: i, one of so many
   module _ (many : ℕ) (wide : v ≤ many) (item s i : ℕ) where
-    pub met_below_mark : (by_state : Bool) → MarkOf by_state item many s t u i → i < many
-    met_below_mark true o = omega (arith, o.told, o.inside refl)
-    met_below_mark false o = omega (arith, o.told, met_below)
+    pub met_below_mark : (by : MarkedBy) → MarkOf by item many s t u i → i < many
+    met_below_mark State o = omega (arith, o.told, o.inside refl)
+    met_below_mark Vertex o = omega (arith, o.told, met_below)
 
     module _ (start : ℕ) (ts : List ℕ) where
-      met_above : (by_state : Bool) → MarkOf by_state item many s t u i
-          → Marked by_state item (marks_of w v many) (keys_of w v c.known) many c.known start ts
+      met_above : (by : MarkedBy) → MarkOf by item many s t u i
+          → Marked by item (marks_of w v many) (keys_of w v c.known) many c.known start ts
           → start < word (marks_of w v many) i
           → In t ts × (word (marks_of w v many) i ≡ suc (start + position eqb t ts))
-      met_above true o k h =
+      met_above State o k h =
           above (marks_of w v many) (λ x. key_of x item) many many start t i ts
-          (λ l. ap (λ (x : ℕ). key_of x item) o.told ∙ sym o.key) k (met_below_mark true o) h
-      met_above false o k h =
+          (λ l. ap (λ (x : ℕ). key_of x item) o.told ∙ sym o.key) k (met_below_mark State o) h
+      met_above Vertex o k h =
           above (marks_of w v many) (word (keys_of w v c.known)) many c.known start t i ts
           (λ l. ap (word (keys_of w v c.known)) o.told ∙ met_stays (omega (arith, o.told))) k
-          (met_below_mark false o) h
+          (met_below_mark Vertex o) h
 
       module _ (all : (q : ℕ) → In q ts → In q (keys_of w v c.known)) where
-        met_not_above : (by_state : Bool) → MarkOf by_state item many s t u i
-            → Marked by_state item (marks_of w v many) (keys_of w v c.known) many c.known start ts
+        met_not_above : (by : MarkedBy) → MarkOf by item many s t u i
+            → Marked by item (marks_of w v many) (keys_of w v c.known) many c.known start ts
             → word (marks_of w v many) i ≤ start → ¬ In t ts
-        met_not_above true o k h =
+        met_not_above State o k h =
             not-above (marks_of w v many) (λ x. key_of x item) many many start t i ts
-            (λ l. ap (λ (x : ℕ). key_of x item) o.told ∙ sym o.key) k h (λ a. met_below_mark true o)
-        met_not_above false o k h =
+            (λ l. ap (λ (x : ℕ). key_of x item) o.told ∙ sym o.key) k h (λ a. met_below_mark State o)
+        met_not_above Vertex o k h =
             not-above (marks_of w v many) (word (keys_of w v c.known)) many c.known start t i ts
             (λ l. ap (word (keys_of w v c.known)) o.told ∙ met_stays (omega (arith, o.told))) k h
             (λ a. omega (arith, o.told, met_known, (was_known (all t a)).1))
 
-        met_marked : (by_state : Bool) → 7 * v + many ≤ length w → MarkOf by_state item many s t u i → (¬ In t ts)
-            → Marked by_state item (marks_of w v many) (keys_of w v c.known) many c.known start ts
-            → Marked by_state item (set (marks_of w v many) i (suc (start + length ts))) (keys_of w₁ v n) many n start
+        met_marked : (by : MarkedBy) → 7 * v + many ≤ length w → MarkOf by item many s t u i → (¬ In t ts)
+            → Marked by item (marks_of w v many) (keys_of w v c.known) many c.known start ts
+            → Marked by item (set (marks_of w v many) i (suc (start + length ts))) (keys_of w₁ v n) many n start
             (ts ++ (t ∷ []))
-        met_marked true within o d k =
+        met_marked State within o d k =
             mark_more (marks_of w v many) (λ x. key_of x item) (λ x. key_of x item) many many many start t i ts
             (omega arith) (λ x l. refl) (λ x y a b z. omega (arith, z)) (λ x l a. l)
-            (ap (λ (x : ℕ). key_of x item) o.told ∙ sym o.key) (met_below_mark true o)
-            (omega (arith, length_marks v many w within, met_below_mark true o)) d k
-        met_marked false within o d k =
+            (ap (λ (x : ℕ). key_of x item) o.told ∙ sym o.key) (met_below_mark State o)
+            (omega (arith, length_marks v many w within, met_below_mark State o)) d k
+        met_marked Vertex within o d k =
             mark_more (marks_of w v many) (word (keys_of w v c.known)) (word (keys_of w₁ v n)) many c.known n start t
             i ts p.grows stays same_place (λ x l a. was_vertex x l (all (word (keys_of w₁ v n) x) a))
             (ap (word (keys_of w₁ v n)) o.told ∙ met_at) (omega (arith, o.told, met_known))
-            (omega (arith, length_marks v many w within, met_below_mark false o)) d k
+            (omega (arith, length_marks v many w within, met_below_mark Vertex o)) d k
 
   -- t is met once more, after ks
   module _ (operand : Operand) (apart : Apart v e c.edges operand.marks) (s i : ℕ)
-      (o : MarkOf operand.by_state operand.item operand.marks s t u i) (w₀ : List ℕ) (c₀ : Counters)
+      (o : MarkOf operand.marked_by operand.item.number operand.marks s t u i) (w₀ : List ℕ) (c₀ : Counters)
       (ks : List ℕ) (g : Gathering w₀ v e c₀ operand ks w c) where
     -- all that were met are known
     all : (q : ℕ) → In q (once eqb ks) → In q (keys_of w v c.known)
     all = made_known w₀ v e c₀ w c (once eqb ks) (tallies ks) g.made
 
     below : i < operand.marks
-    below = met_below_mark operand.marks apart.0 operand.item s i operand.by_state o
+    below = met_below_mark operand.marks apart.0 operand.item.number s i operand.marked_by o
 
     -- its mark is as it was before t was met
     mark_kept : word w₁ (7 * v + i) ≡ word (marks_of w v operand.marks) i
@@ -443,8 +449,8 @@ module _ (v e : ℕ) (w w₁ : List ℕ) (c : Counters) (t u n m : ℕ) (r : Rea
         → In t (once eqb ks) × (mark ≡ suc (c₀.edges + position eqb t (once eqb ks)))
     marked_edge mark at h =
         let back : mark ≡ word (marks_of w v operand.marks) i = at ∙ mark_kept in
-        let a = met_above operand.marks apart.0 operand.item s i c₀.edges (once eqb ks)
-        operand.by_state o g.marked (subst (λ (k : ℕ). c₀.edges < k) back h) in
+        let a = met_above operand.marks apart.0 operand.item.number s i c₀.edges (once eqb ks)
+        operand.marked_by o g.marked (subst (λ (k : ℕ). c₀.edges < k) back h) in
         (a.0, back ∙ a.1)
 
     same_keys : (w₂ : List ℕ) → In t (once eqb ks) → ((a : ℕ) → a < 8 → region a v w₂ ≡ region a v w₁)
@@ -532,8 +538,8 @@ module _ (v e : ℕ) (w w₁ : List ℕ) (c : Counters) (t u n m : ℕ) (r : Rea
     -- not marked: it was not met
     fresh : word w₁ (7 * v + i) ≤ c₀.edges → ¬ In t (once eqb ks)
     fresh h =
-        met_not_above operand.marks apart.0 operand.item s i c₀.edges (once eqb ks) all
-        operand.by_state o g.marked (subst (λ (k : ℕ). k ≤ c₀.edges) mark_kept h)
+        met_not_above operand.marks apart.0 operand.item.number s i c₀.edges (once eqb ks) all
+        operand.marked_by o g.marked (subst (λ (k : ℕ). k ≤ c₀.edges) mark_kept h)
 
     pub once_new : (w₂ w₃ : List ℕ) → word w₁ (7 * v + i) ≤ c₀.edges → c.edges < e
         → w₂ ≡ put_mark v i (c.edges + 1) w₁ → w₃ ≡ put_edge v e c.edges u 1 w₂
@@ -578,7 +584,7 @@ module _ (v e : ℕ) (w w₁ : List ℕ) (c : Counters) (t u n m : ℕ) (r : Rea
               (made_more v e w₀ w w₃ c₀ c (with_edge c n m) ts (t ∷ []) (tallies ks) (1 ∷ []) g.made edge);
           marked =
               rw (once_longer ks t d, marks₃, keys)
-              (met_marked many apart.0 operand.item s i c₀.edges ts all operand.by_state within o d
+              (met_marked many apart.0 operand.item.number s i c₀.edges ts all operand.marked_by within o d
               g.marked);
         }
       where
@@ -598,7 +604,7 @@ module _ (v e : ℕ) (w w₁ : List ℕ) (c : Counters) (t u n m : ℕ) (r : Rea
 
 -- marked by its state: that the pair is known need not be looked up, since to meet it again would change nothing
 pub once_early : (v e : ℕ) (w : List ℕ) (c : Counters) (t : ℕ) → Ready w v e c → (operand : Operand)
-    → Apart v e c.edges operand.marks → (s : ℕ) → t ≡ key_of s operand.item → operand.by_state ≡ true
+    → Apart v e c.edges operand.marks → (s : ℕ) → t ≡ key_of s operand.item.number → operand.marked_by ≡ State
     → s < operand.marks → (w₀ : List ℕ) (c₀ : Counters) (ks : List ℕ) → Gathering w₀ v e c₀ operand ks w c
     → (w₂ : List ℕ) (mark : ℕ) → mark ≡ word w (7 * v + s) → c₀.edges < mark
     → w₂ ≡ put_count v e (mark - 1) (word (counts_of w v e e) (mark - 1) + 1) w
@@ -606,7 +612,7 @@ pub once_early : (v e : ℕ) (w : List ℕ) (c : Counters) (t : ℕ) → Ready w
 once_early v e w c t r operand apart s key chosen inside w₀ c₀ ks g w₂ mark at h g₂ =
     let u = position eqb t (keys_of w v c.known) in
     once_old v e w w c t u c.known c.waiting r again refl operand apart s s
-    (record { key = key; told = ap (λ (b : Bool). cond b s u) (sym chosen); inside = λ z. inside })
+    (record { key = key; told = ap (λ (b : MarkedBy). marker b s u) (sym chosen); inside = λ z. inside })
     w₀ c₀ ks g w₂ mark at h g₂
   where
     many : ℕ
@@ -615,9 +621,9 @@ once_early v e w c t r operand apart s key chosen inside w₀ c₀ ks g w₂ mar
     known : In t (keys_of w v c.known)
     known =
         made_known w₀ v e c₀ w c (once eqb ks) (tallies ks) g.made t
-        (above (marks_of w v many) (λ x. key_of x operand.item) many many c₀.edges t s (once eqb ks) (λ l. sym key)
-        (subst (λ (b : Bool).
-        Marked b operand.item (marks_of w v many) (keys_of w v c.known) many c.known c₀.edges (once eqb ks))
+        (above (marks_of w v many) (λ x. key_of x operand.item.number) many many c₀.edges t s (once eqb ks) (λ l. sym key)
+        (subst (λ (b : MarkedBy).
+        Marked b operand.item.number (marks_of w v many) (keys_of w v c.known) many c.known c₀.edges (once eqb ks))
         chosen g.marked) inside (omega (arith, at, mark_at v many s w inside))).0
 
     again : Meeting w w v c.known c.waiting t (position eqb t (keys_of w v c.known)) c.known c.waiting
@@ -644,3 +650,9 @@ once_crowded v e w c t w₀ c₀ ks room l made =
     omega (arith, z, length-keys w v c.known) in
     subst (TooMany w₀ v e c₀) (sym (once_longer ks t d))
     (many_more v e w₀ w w c₀ c c (once eqb ks) (t ∷ []) (tallies ks) [] made (many_one w v e c t l))
+
+-- where meeting it answers that there is no room
+pub gathered_failed : (w : List ℕ) (v e : ℕ) (c : Counters) (o : Operand) (ks w' : List ℕ) (r : Result Counters NoRoom)
+    → IsErr r → TooMany w v e c (once eqb ks) → Gathered w v e c o ks w' r
+gathered_failed w v e c o ks w' (Ok c') h f = absurd (false≢true h)
+gathered_failed w v e c o ks w' (Err x) h f = f

@@ -11,7 +11,9 @@ use Rattle.rules.specs.Walk.{push_new}
 use Rattle.words.specs.Regions.{region, put_word}
 use Rattle.words.proofs.Regions.{region_same, region_other, rest_put, rest_later, rest_region, length-region}
 use Rattle.pairs.specs.declared.Numbered.{Numbered}
-use Rattle.pairs.specs.declared.Numbered.TheVariants.{Vertex}
+use Rattle.pairs.specs.declared.NoRoom.{NoRoom}
+use Rattle.std.specs.Prelude.{Result}
+use Rattle.std.specs.declared.result.Result.TheVariants.{Ok}
 use Rattle.pairs.specs.Table.{keys_of}
 use Rattle.pairs.specs.Answers.{Numbers, Numbering}
 use Rattle.pairs.proofs.Uses.{keys_kept, table_kept, numbers_by, vertex_place, more_count, room_new, known_new, vertex_new}
@@ -27,13 +29,13 @@ push_one n n' before e =
     let o : n + 0 ≡ n = omega arith in
     rw (z, o)
 
-module _ (w w' : List ℕ) (v n t : ℕ) (r : Numbered) (p : Numbering w w' v n t r) (i : VertexIndex) (n' : ℕ) (e : r ≡ Vertex i n') where
+module _ (w w' : List ℕ) (v n t : ℕ) (r : Result Numbered NoRoom) (p : Numbering w w' v n t r) (i : VertexIndex) (n' : ℕ) (e : r ≡ Ok (record { vertex = i; known = n' })) where
   numbers : Numbers w w' v n t i.0 n'
-  numbers = numbers_by w w' v n t r i n' p e
+  numbers = numbers_by w w' v n t r (record { vertex = i; known = n' }) p e
 
   -- the count stays: the pair was known
-  pub met_old : (m : ℕ) → n' ≡ n → Meeting w w' v n m t i.0 n m
-  met_old m d = subst (λ (k : ℕ). Numbers w w' v n t i.0 k → Meeting w w' v n m t i.0 n m) (sym d) known numbers
+  pub met_old : (m : ℕ) → n' ≡ n → Meeting w w' v n m t i.0 n' m
+  met_old m d = subst (λ (k : ℕ). Meeting w w' v n m t i.0 k m) (sym d) (known (subst (Numbers w w' v n t i.0) d numbers))
     where
       known : Numbers w w' v n t i.0 n → Meeting w w' v n m t i.0 n m
       known a =

@@ -1,90 +1,59 @@
--- One operand after another, of at most two. Assumes nothing.
-use mathlib.Core.Path.{◌≡◌, refl, ◌∙◌, subst}
-use mathlib.Core.List.{List, [], ◌∷◌, ◌++◌}
-use Prim.Native.Nat.{ℕ, ◌+◌, ◌≤◌, ◌<◌}
-use native.Mathlib.Decide.{ℕ_discrete}
-use native.Mathlib.Omega.{arith}
-use lib.ListN.{length, take}
-use Rattle.rules.specs.Lists.{word}
+-- One operand after another. Assumes nothing.
+use mathlib.Core.Path.{◌≡◌, refl, sym, ◌∙◌, ap, subst}
+use mathlib.Core.List.{List, [], ◌∷◌, ◌++◌, map}
+use Prim.Native.Nat.{ℕ, ◌+◌, ◌<◌}
+use lib.ListN.{length, take, drop, replicate}
+use Rattle.std.proofs.Math.Seq.{take-length}
+use Rattle.std.proofs.lemmas.List.{take_more, map-append, replicate-append-replicate, take-append-drop}
+use Rattle.rules.specs.Lists.{word, zeros}
 use Rattle.pairs.specs.Slot.{key_of}
 use Rattle.settling.specs.declared.Counters.{Counters}
-use Rattle.settling.specs.Made.{Ready, Fitting, Made, TooMany}
+use Rattle.settling.specs.Made.{Ready, Made, TooMany}
 use Rattle.settling.proofs.Make.{made_none, made_more, many_more, many_early}
 
--- the first i of `count` operands have their edges
-pub record Settling (w₀ : List ℕ) (v e : ℕ) (c₀ : Counters) (keys : List ℕ) (count : ℕ) (w : List ℕ) (c : Counters) (i : ℕ) : Type 0 where
-  pub until : i ≤ count
+-- the first i operands have their edges, behind which no transition stands
+pub record Settling (w₀ : List ℕ) (v e : ℕ) (c₀ : Counters) (s : ℕ) (items w : List ℕ) (c : Counters) (i : ℕ) : Type 0 where
   pub same : length w ≡ length w₀
-  pub made : Made w₀ v e c₀ w c (take i keys) (take i (0 ∷ 0 ∷ []))
+  pub made : Made w₀ v e c₀ w c (map (key_of s) (take i items)) (replicate i 0)
 
-pub settling_start : (w : List ℕ) (v e : ℕ) (c : Counters) (keys : List ℕ) (count : ℕ) → Ready w v e c → Settling w v e c keys count w c 0
-settling_start w v e c keys count r = record { until = omega arith; same = refl; made = made_none w v e c r }
+pub settling_start : (w : List ℕ) (v e : ℕ) (c : Counters) (s : ℕ) (items : List ℕ) → Ready w v e c
+    → Settling w v e c s items w c 0
+settling_start w v e c s items r = record { same = refl; made = made_none w v e c r }
 
--- an operand fits
-pub operand_fits : (s l r i count : ℕ) → i < count → count ≤ 2 → Fitting s l → (1 < count → Fitting s r) → Fitting s (word (l ∷ r ∷ []) i)
-operand_fits s l r i count h k a b = go (ℕ_discrete i 0)
-  where
-    go : Dec (i ≡ 0) → Fitting s (word (l ∷ r ∷ []) i)
-    go (yes e) = rw e a
-    go (no e) = let z : i ≡ 1 = omega arith in rw z (b (omega arith))
+module _ (w₀ : List ℕ) (v e : ℕ) (c₀ : Counters) (s : ℕ) (items : List ℕ) (w w' : List ℕ) (c : Counters) (i : ℕ)
+    (k : Settling w₀ v e c₀ s items w c i) (h : i < length items) where
+  abbrev key : ℕ
+  key = key_of s (word items i)
 
--- no transition stands behind an operand's edge
-abbrev zeros : List ℕ
-zeros = 0 ∷ 0 ∷ []
+  more : map (key_of s) (take i items) ++ (key ∷ []) ≡ map (key_of s) (take (i + 1) items)
+  more =
+      sym
+      (ap (map (key_of s)) (take_more items i 0 h) ∙ map-append (key_of s) (take i items) (word items i ∷ []))
 
-zeros_more : (i : ℕ) → i < 2 → take i zeros ++ (0 ∷ []) ≡ take (i + 1) zeros
-zeros_more i h = go (ℕ_discrete i 0)
-  where
-    go : Dec (i ≡ 0) → take i zeros ++ (0 ∷ []) ≡ take (i + 1) zeros
-    go (yes z) = rw z
-    go (no d) = let z : i ≡ 1 = omega arith in rw z
+  pub settling_on : (c' : Counters) → length w' ≡ length w → Made w v e c w' c' (key ∷ []) (0 ∷ [])
+      → Settling w₀ v e c₀ s items w' c' (i + 1)
+  settling_on c' g m =
+      record {
+        same = g ∙ k.same;
+        made =
+            subst (Made w₀ v e c₀ w' c' (map (key_of s) (take (i + 1) items))) (replicate-append-replicate i 1 0)
+            (subst (λ (ts : List ℕ). Made w₀ v e c₀ w' c' ts (replicate i 0 ++ (0 ∷ []))) more
+            (made_more v e w₀ w w' c₀ c c' (map (key_of s) (take i items)) _ (replicate i 0) _ k.made m));
+      }
 
-module _ (w₀ : List ℕ) (v e : ℕ) (c₀ : Counters) (s l r count : ℕ) (few : count ≤ 2) where
-  abbrev keys : List ℕ
-  keys = key_of s l ∷ key_of s r ∷ []
+  -- too many with this operand are too many in all
+  pub settling_many : TooMany w v e c (key ∷ []) → TooMany w₀ v e c₀ (map (key_of s) items)
+  settling_many f =
+      subst (TooMany w₀ v e c₀)
+      (sym (map-append (key_of s) (take (i + 1) items) (drop (i + 1) items))
+      ∙ ap (map (key_of s)) (take-append-drop (i + 1) items))
+      (many_early w₀ v e c₀ (map (key_of s) (take (i + 1) items)) (map (key_of s) (drop (i + 1) items))
+      (subst (TooMany w₀ v e c₀) more
+      (many_more v e w₀ w w c₀ c c (map (key_of s) (take i items)) _ (replicate i 0) [] k.made f)))
 
-  take_more : (i : ℕ) → i < 2 → take i keys ++ (key_of s (word (l ∷ r ∷ []) i) ∷ []) ≡ take (i + 1) keys
-  take_more i h = go (ℕ_discrete i 0)
-    where
-      go : Dec (i ≡ 0) → take i keys ++ (key_of s (word (l ∷ r ∷ []) i) ∷ []) ≡ take (i + 1) keys
-      go (yes z) = rw z
-      go (no d) = let z : i ≡ 1 = omega arith in rw z
-
-  module _ (w w' : List ℕ) (c : Counters) (i : ℕ) (k : Settling w₀ v e c₀ keys count w c i) (h : i < count) (item : ℕ) (is-operand : item ≡ word (l ∷ r ∷ []) i) where
-    more : take i keys ++ (key_of s item ∷ []) ≡ take (i + 1) keys
-    more = rw is-operand (take_more i (omega arith))
-
-    pub settling_on : (c' : Counters) → length w' ≡ length w → Made w v e c w' c' (key_of s item ∷ []) (0 ∷ [])
-        → Settling w₀ v e c₀ keys count w' c' (i + 1)
-    settling_on c' g m =
-        record {
-          until = omega arith;
-          same = g ∙ k.same;
-          made =
-              subst (Made w₀ v e c₀ w' c' (take (i + 1) keys)) (zeros_more i (omega arith))
-              (subst (λ (ts : List ℕ). Made w₀ v e c₀ w' c' ts (take i zeros ++ (0 ∷ []))) more
-              (made_more v e w₀ w w' c₀ c c' (take i keys) _ (take i zeros) _ k.made m));
-        }
-
-    -- too many with this operand are too many in all
-    pub settling_many : TooMany w v e c (key_of s item ∷ []) → TooMany w₀ v e c₀ (take count keys)
-    settling_many f = go (ℕ_discrete (i + 1) count)
-      where
-        early : TooMany w₀ v e c₀ (take (i + 1) keys)
-        early = subst (TooMany w₀ v e c₀) more (many_more v e w₀ w w c₀ c c (take i keys) _ _ [] k.made f)
-
-        go : Dec (i + 1 ≡ count) → TooMany w₀ v e c₀ (take count keys)
-        go (yes z) = subst (λ (n : ℕ). TooMany w₀ v e c₀ (take n keys)) z early
-        go (no d) =
-            let y : i + 1 ≡ 1 = omega arith in
-            let z : count ≡ 2 = omega arith in
-            rw z (many_early w₀ v e c₀ (key_of s l ∷ []) (key_of s r ∷ []) (subst (λ (n : ℕ). TooMany w₀ v e c₀ (take n keys)) y early))
-
-  pub settling_end : (w : List ℕ) (c : Counters) (i : ℕ) → Settling w₀ v e c₀ keys count w c i → count ≤ i
-      → Made w₀ v e c₀ w c (take count keys) (take count (0 ∷ 0 ∷ []))
-  settling_end w c i k h =
-      let z : i ≡ count = omega (arith, k.until) in
-      subst (λ (n : ℕ). Made w₀ v e c₀ w c (take n keys) (take n zeros)) z k.made
-
-pub second : (l r i : ℕ) → i < 2 → (i ≡ 0 → ⊥) → r ≡ word (l ∷ r ∷ []) i
-second l r i h d = let z : i ≡ 1 = omega arith in rw z
+pub settling_end : (w₀ : List ℕ) (v e : ℕ) (c₀ : Counters) (s : ℕ) (items w : List ℕ) (c : Counters) (i : ℕ)
+    → Settling w₀ v e c₀ s items w c i → i ≡ length items → Made w₀ v e c₀ w c (map (key_of s) items) (zeros items)
+unfolding zeros
+settling_end w₀ v e c₀ s items w c i k z =
+    subst (λ (l : List ℕ). Made w₀ v e c₀ w c (map (key_of s) l) (replicate (length items) 0)) (take-length items)
+    (subst (λ (n : ℕ). Made w₀ v e c₀ w c (map (key_of s) (take n items)) (replicate n 0)) z k.made)

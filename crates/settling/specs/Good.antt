@@ -1,13 +1,13 @@
 -- What holds of the work words and the counters between the steps of a walk over keys, and what a step and a walk
 -- answer. Assumes nothing: these are definitions.
-use Rattle.std.specs.Prelude.{◌≡◌, true, false, List, ◌⊎◌, ℕ, ◌+◌, ◌≤◌, ◌<◌, max, eqb, length, get_or, take, drop}
+use Rattle.std.specs.Prelude.{◌≡◌, true, false, List, ◌⊎◌, Result, ℕ, ◌+◌, ◌≤◌, ◌<◌, max, eqb, length, get_or, take, drop}
 use Rattle.rules.specs.Walk.{Stand, step, walk}
 use Rattle.walks.specs.Sums.{Settled, sum_settled}
 use Rattle.walks.proofs.Steps.{Sound}
 use Rattle.pairs.specs.Table.{keys_of}
 use Rattle.settling.specs.declared.Counters.{Counters}
-use Rattle.settling.specs.declared.Stepped.{Stepped}
-use Rattle.settling.specs.declared.Stepped.TheVariants.{Fits, Full}
+use Rattle.pairs.specs.declared.NoRoom.{NoRoom}
+use Rattle.std.specs.declared.result.Result.TheVariants.{Ok, Err}
 use Rattle.settling.specs.Stand.{stand_of, waiting_of, edges_of, counts_of, edges_for, counts_for, settled_in, start_in, degree_in}
 use Rattle.settling.specs.Made.{Ready, Marks}
 
@@ -44,15 +44,16 @@ pub record StepMade (targets : ℕ → List ℕ) (behind : ℕ → ℕ → ℕ) 
   pub stands : stand_of w' v c' ≡ step eqb targets root (stand_of w v c)
   pub good : Good targets behind root w' v e c'
 
-abbrev pub StepAnswer : (ℕ → List ℕ) → (ℕ → ℕ → ℕ) → ℕ → List ℕ → ℕ → ℕ → Counters → List ℕ → Stepped → Type 0
-StepAnswer targets behind root w v e c w' (Fits c') = StepMade targets behind root w v e c w' c'
-StepAnswer targets behind root w v e c w' Full = Exceeding targets root v e (step eqb targets root (stand_of w v c))
+abbrev pub StepAnswer : (ℕ → List ℕ) → (ℕ → ℕ → ℕ) → ℕ → List ℕ → ℕ → ℕ → Counters → List ℕ
+    → Result Counters NoRoom → Type 0
+StepAnswer targets behind root w v e c w' (Ok c') = StepMade targets behind root w v e c w' c'
+StepAnswer targets behind root w v e c w' (Err x) = Exceeding targets root v e (step eqb targets root (stand_of w v c))
 
 -- the walk stands where the definition does after k steps
 pub record WalkMade (targets : ℕ → List ℕ) (behind : ℕ → ℕ → ℕ) (root v e k : ℕ) (w' : List ℕ) (c' : Counters) : Type 0 where
   pub stands : stand_of w' v c' ≡ walk eqb targets root k
   pub good : Good targets behind root w' v e c'
 
-abbrev pub WalkAnswer : (ℕ → List ℕ) → (ℕ → ℕ → ℕ) → ℕ → ℕ → ℕ → ℕ → List ℕ → Stepped → Type 0
-WalkAnswer targets behind root v e k w' (Fits c') = WalkMade targets behind root v e k w' c'
-WalkAnswer targets behind root v e k w' Full = Exceeding targets root v e (walk eqb targets root k)
+abbrev pub WalkAnswer : (ℕ → List ℕ) → (ℕ → ℕ → ℕ) → ℕ → ℕ → ℕ → ℕ → List ℕ → Result Counters NoRoom → Type 0
+WalkAnswer targets behind root v e k w' (Ok c') = WalkMade targets behind root v e k w' c'
+WalkAnswer targets behind root v e k w' (Err x) = Exceeding targets root v e (walk eqb targets root k)

@@ -1,6 +1,6 @@
 -- What the parts of a step answer: the words and counters after some targets were numbered, pushed and given edges.
 -- Targets are keys. Assumes nothing: these are definitions.
-use Rattle.std.specs.Prelude.{◌≡◌, Bool, true, false, List, [], ◌∷◌, ◌++◌, map, ◌⊎◌, ℕ, suc, ◌+◌, ◌-◌, ◌*◌, ◌≤◌, ◌<◌, eqb, length, set, drop}
+use Rattle.std.specs.Prelude.{◌≡◌, List, [], ◌∷◌, ◌++◌, map, ◌⊎◌, Result, ℕ, suc, ◌+◌, ◌-◌, ◌*◌, ◌≤◌, ◌<◌, eqb, length, set, drop}
 use Rattle.rules.specs.Lists.{word, In, occurrences, position, insert, insert_all, once}
 use Rattle.rules.specs.Walk.{push_new}
 use Rattle.rules.specs.Words.{most_states, most_vertices, most_edges}
@@ -8,12 +8,13 @@ use Rattle.lists.specs.Shapes.{positions}
 use Rattle.words.specs.Regions.{region}
 use Rattle.pairs.specs.Slot.{key_of}
 use Rattle.pairs.specs.Table.{Table, keys_of}
+use Rattle.pairs.specs.declared.NoRoom.{NoRoom}
+use Rattle.std.specs.declared.result.Result.TheVariants.{Ok, Err}
 use Rattle.settling.specs.declared.Counters.{Counters}
 use Rattle.settling.specs.declared.Met.{Met}
-use Rattle.settling.specs.declared.Met.TheVariants.{Meets, Crowded}
+use Rattle.settling.specs.declared.MarkedBy.{MarkedBy}
+use Rattle.settling.specs.declared.MarkedBy.TheVariants.{State, Vertex}
 use Rattle.settling.specs.declared.Operand.{Operand}
-use Rattle.settling.specs.declared.Stepped.{Stepped}
-use Rattle.settling.specs.declared.Stepped.TheVariants.{Fits, Full}
 use Rattle.settling.specs.Stand.{waiting_of, edges_of, counts_of, marks_of}
 
 -- every mark is at most b
@@ -35,6 +36,10 @@ pub record Fitting (s q : ℕ) : Type 0 where
   pub state_fits : s < most_states
   pub item_fits : q < 2048
 
+-- each of these items, with the state, can be numbered
+abbrev pub AllFit : ℕ → List ℕ → Type 0
+AllFit state items = (q : ℕ) → In q items → Fitting state q
+
 -- the key t was met: it is vertex u, numbered and pushed if it was new
 pub record Meeting (w w' : List ℕ) (v n m t u n' m' : ℕ) : Type 0 where
   pub table : Table w' v n'
@@ -45,9 +50,9 @@ pub record Meeting (w w' : List ℕ) (v n m t u n' m' : ℕ) : Type 0 where
   pub grows : n ≤ n'
   pub rest : drop (5 * v) w' ≡ drop (5 * v) w
 
-abbrev pub MeetAnswer : List ℕ → List ℕ → ℕ → ℕ → ℕ → ℕ → Met → Type 0
-MeetAnswer w w' v n m t (Meets u n' m') = Meeting w w' v n m t u.0 n' m'
-MeetAnswer w w' v n m t Crowded = v < length (insert eqb (keys_of w v n) t)
+abbrev pub MeetAnswer : List ℕ → List ℕ → ℕ → ℕ → ℕ → ℕ → Result Met NoRoom → Type 0
+MeetAnswer w w' v n m t (Ok met) = Meeting w w' v n m t met.vertex.0 met.known met.waiting
+MeetAnswer w w' v n m t (Err x) = v < length (insert eqb (keys_of w v n) t)
 
 -- the targets ts were met in order and each got an edge, behind which as many transitions stand as cs says
 pub record Made (w : List ℕ) (v e : ℕ) (c : Counters) (w' : List ℕ) (c' : Counters) (ts cs : List ℕ) : Type 0 where
@@ -68,11 +73,16 @@ pub record Made (w : List ℕ) (v e : ℕ) (c : Counters) (w' : List ℕ) (c' : 
 abbrev pub TooMany : List ℕ → ℕ → ℕ → Counters → List ℕ → Type 0
 TooMany w v e c ts = (v < length (insert_all eqb (keys_of w v c.known) ts)) ⊎ (e < c.edges + length ts)
 
-abbrev pub Answer : List ℕ → ℕ → ℕ → Counters → (ts cs : List ℕ) → List ℕ → Stepped → Type 0
-Answer w v e c ts cs w' (Fits c') = Made w v e c w' c' ts cs
-Answer w v e c ts cs w' Full = TooMany w v e c ts
+abbrev pub Answer : List ℕ → ℕ → ℕ → Counters → (ts cs : List ℕ) → List ℕ → Result Counters NoRoom → Type 0
+Answer w v e c ts cs w' (Ok c') = Made w v e c w' c' ts cs
+Answer w v e c ts cs w' (Err x) = TooMany w v e c ts
 
 -- ---- the targets of a modality, each once: a target may be met again, by another transition
+
+-- the mark of a target with state s that is vertex u
+abbrev pub marker : MarkedBy → (s u : ℕ) → ℕ
+marker State s u = s
+marker Vertex s u = u
 
 -- Of `many` marks the first n belong to the keys that `name` gives them. Those above `start` are the marks of ts, whose
 -- edges begin at that place: each is one past the place of the edge
@@ -81,9 +91,9 @@ pub record MarkedIn (marks : List ℕ) (name : ℕ → ℕ) (many n start : ℕ)
   pub every : (i : ℕ) → i < n → In (name i) ts → word marks i ≡ suc (start + position eqb (name i) ts)
 
 -- the marks go by the states of the targets, which share their item, or by their vertices: n of them have the keys ks
-abbrev pub Marked : (by_state : Bool) (item : ℕ) (marks ks : List ℕ) (many n start : ℕ) → List ℕ → Type 0
-Marked true item marks ks many n start ts = MarkedIn marks (λ s. key_of s item) many many start ts
-Marked false item marks ks many n start ts = MarkedIn marks (word ks) many n start ts
+abbrev pub Marked : (by : MarkedBy) (item : ℕ) (marks ks : List ℕ) (many n start : ℕ) → List ℕ → Type 0
+Marked State item marks ks many n start ts = MarkedIn marks (λ s. key_of s item) many many start ts
+Marked Vertex item marks ks many n start ts = MarkedIn marks (word ks) many n start ts
 
 -- how often each of the keys, taken once, was met
 unfoldable pub tallies : List ℕ → List ℕ
@@ -93,12 +103,12 @@ tallies ks = map (λ t. occurrences eqb t ks) (once eqb ks)
 -- often it was met, and its mark says where that edge is. o: what the targets share
 pub record Gathering (w : List ℕ) (v e : ℕ) (c : Counters) (o : Operand) (ks w' : List ℕ) (c' : Counters) : Type 0 where
   pub made : Made w v e c w' c' (once eqb ks) (tallies ks)
-  pub marked : Marked o.by_state o.item (marks_of w' v o.marks) (keys_of w' v c'.known) o.marks c'.known
+  pub marked : Marked o.marked_by o.item.number (marks_of w' v o.marks) (keys_of w' v c'.known) o.marks c'.known
       c.edges (once eqb ks)
 
-abbrev pub Gathered : List ℕ → ℕ → ℕ → Counters → Operand → (ks w' : List ℕ) → Stepped → Type 0
-Gathered w v e c o ks w' (Fits c') = Gathering w v e c o ks w' c'
-Gathered w v e c o ks w' Full = TooMany w v e c (once eqb ks)
+abbrev pub Gathered : List ℕ → ℕ → ℕ → Counters → Operand → (ks w' : List ℕ) → Result Counters NoRoom → Type 0
+Gathered w v e c o ks w' (Ok c') = Gathering w v e c o ks w' c'
+Gathered w v e c o ks w' (Err x) = TooMany w v e c (once eqb ks)
 
 -- so many marks and one edge more have different words: the marks of the region, or more where there are few edges
 abbrev pub Apart : (v e edges many : ℕ) → Type 0
@@ -132,9 +142,9 @@ pub record Closing (w : List ℕ) (v e u start : ℕ) (c : Counters) (w' : List 
   pub others : (c.edges ≡ start → ⊥) → (c'.edges ≡ c.edges) × (edges_of w' v e c'.edges ≡ edges_of w v e c.edges)
       × (counts_of w' v e c'.edges ≡ counts_of w v e c.edges)
 
-abbrev pub CloseAnswer : List ℕ → ℕ → ℕ → ℕ → ℕ → Counters → List ℕ → Stepped → Type 0
-CloseAnswer w v e u start c w' (Fits c') = Closing w v e u start c w' c'
-CloseAnswer w v e u start c w' Full = (c.edges ≡ start) × (e ≤ start)
+abbrev pub CloseAnswer : List ℕ → ℕ → ℕ → ℕ → ℕ → Counters → List ℕ → Result Counters NoRoom → Type 0
+CloseAnswer w v e u start c w' (Ok c') = Closing w v e u start c w' c'
+CloseAnswer w v e u start c w' (Err x) = (c.edges ≡ start) × (e ≤ start)
 
 -- every word of a region is 0, and the other regions are as they were
 pub record Cleared (w w' : List ℕ) (v area : ℕ) : Type 0 where

@@ -2,16 +2,17 @@
 // and given an edge in the lent work slice.
 #![tactic(auto)]
 
-ghost use Rattle.std.specs.Prelude.{◌≡◌, true, cond, List, [], ◌∷◌, ◌++◌, ℕ, ◌+◌, ◌*◌, ◌≤◌, ◌<◌, length, take};
+ghost use Rattle.std.specs.Prelude.{◌≡◌, List, [], ◌∷◌, ◌++◌, map, ℕ, ◌+◌, ◌*◌, ◌≤◌, ◌<◌, length};
 ghost use Rattle.rules.specs.Words.{most_vertices, most_edges};
-ghost use Rattle.rules.specs.Lists.{word};
-ghost use Rattle.pairs.specs.Slot.{key_of, Multiples, Scaled};
+ghost use Rattle.rules.specs.Lists.{word, zeros};
+ghost use Rattle.pairs.specs.Slot.{key_of};
 ghost use Rattle.settling.specs.declared.Counters.{Counters};
 ghost use Rattle.settling.specs.Stand.{counts_of, put_edge, put_count, put_mark};
-ghost use Rattle.settling.specs.Made.{Ready, Fitting, MeetAnswer, Answer, Gathering, Gathered, Raisable};
-ghost use Rattle.settling.specs.Made.{MarksCleared, CloseAnswer};
+ghost use Rattle.settling.specs.declared.MarkedBy.TheVariants.{State};
+ghost use Rattle.settling.specs.Made.{Ready, Fitting, AllFit, MeetAnswer, Answer, Gathering, Gathered, Raisable};
+ghost use Rattle.settling.specs.Made.{marker, MarksCleared, CloseAnswer};
 
-use pairs::Numbered;
+use pairs::{ByteMultiples, NoRoom, Numbered, ScaledItem};
 use player::VertexIndex;
 use rules::Room;
 use words::{DEGREES, MARKS, REGIONS, STACK};
@@ -25,22 +26,12 @@ pub struct Counters {
     pub waiting: u32,
 }
 
-// What a step, or a part of one, answers: the counters, or that the lent room is too small.
+// What meeting a pair answers: its vertex, and how many are known and how many wait now.
 #[derive(Clone, Copy)]
-pub enum Stepped {
-    Fits(Counters),
-    Full,
-}
-
-// What meeting a pair answers: its vertex, or that there are too many vertices.
-#[derive(Clone, Copy)]
-pub enum Met {
-    Meets {
-        vertex: VertexIndex,
-        known: u32,
-        waiting: u32,
-    },
-    Crowded,
+pub struct Met {
+    pub vertex: VertexIndex,
+    pub known: u32,
+    pub waiting: u32,
 }
 
 // An edge is put at a place of the edge buffer, behind which so many transitions stand.
@@ -58,8 +49,8 @@ fn put_edge(work: &mut [u32], room: Room, place: u32, target: VertexIndex, count
 
 // One more transition stands behind the edge at a place.
 fn raise_count(work: &mut [u32], room: Room, place: u32)
-    requires vertices_le_most_vertices { (room.vertices ≤ most_vertices) × (room.edges ≤ most_edges) × (place < room.edges)
-        × (8 * room.vertices + 2 * room.edges ≤ length work.old) }
+    requires vertices_le_most_vertices { (room.vertices ≤ most_vertices) × (room.edges ≤ most_edges)
+        × (place < room.edges) × (8 * room.vertices + 2 * room.edges ≤ length work.old) }
     requires place_bound { word (counts_of work.old room.vertices room.edges room.edges) place < 4294967295 }
     ensures { work.new ≡ put_count room.vertices room.edges place
         (word (counts_of work.old room.vertices room.edges room.edges) place + 1)
@@ -67,84 +58,66 @@ fn raise_count(work: &mut [u32], room: Room, place: u32)
 {
     let edges = room.edges as usize;
     let count = REGIONS * (room.vertices as usize) + edges + (edges - 1 - (place as usize));
-    work[count] = work[count] + 1;
+    work[count] += 1;
 }
 
 // A pair is numbered, and its vertex pushed if it is new.
 pub fn meet(
     counters: Counters,
-    multiples: &[u32],
     work: &mut [u32],
     room: Room,
     state: u32,
-    item: u32,
-    scaled: u32,
-) -> Met
-    requires scaled { Scaled multiples.now item scaled }
-    requires ready { Ready work.old room.vertices room.edges counters × Fitting state item }
+    item: ScaledItem<'_>,
+) -> Result<Met, NoRoom>
+    requires { Ready work.old room.vertices room.edges counters × Fitting state item.number }
     ensures { MeetAnswer work.old work.new room.vertices counters.known
-        counters.waiting (key_of state item) result }
+        counters.waiting (key_of state item.entry.number) result }
 {
     let before = counters.known;
     let waiting = counters.waiting;
-    match pairs::number(multiples, work, room.vertices, before, state, item, scaled) {
-        Numbered::Vertex { vertex, known } => {
-            if known == before {
-                return Met::Meets {
-                    vertex,
-                    known: before,
-                    waiting,
-                };
-            }
-            words::put_word(work, room.vertices, STACK, waiting, vertex.0);
-            Met::Meets {
-                vertex,
-                known,
-                waiting: waiting + 1,
-            }
-        }
-        Numbered::NoRoom => Met::Crowded,
+    let Numbered { vertex, known } = pairs::number(work, room.vertices, before, state, item)?;
+    if known == before {
+        return Ok(Met {
+            vertex,
+            known,
+            waiting,
+        });
     }
+    words::put_word(work, room.vertices, STACK, waiting, vertex.0);
+    Ok(Met {
+        vertex,
+        known,
+        waiting: waiting + 1,
+    })
 }
 
 // One target is met and gets an edge.
 fn number_target(
     counters: Counters,
-    multiples: &[u32],
     work: &mut [u32],
     room: Room,
     state: u32,
-    item: u32,
-    scaled: u32,
-) -> Stepped
-    requires scaled { Scaled multiples.now item scaled }
-    requires ready { Ready work.old room.vertices room.edges counters × Fitting state item }
-    ensures { Answer work.old room.vertices room.edges counters (key_of state item ∷ [])
+    item: ScaledItem<'_>,
+) -> Result<Counters, NoRoom>
+    requires { Ready work.old room.vertices room.edges counters × Fitting state item.number }
+    ensures { Answer work.old room.vertices room.edges counters (key_of state item.entry.number ∷ [])
         (0 ∷ []) work.new result }
 {
     let edges = counters.edges;
-    match meet(counters, multiples, work, room, state, item, scaled) {
-        Met::Meets {
-            vertex,
-            known,
-            waiting,
-        } => {
-            if edges == room.edges {
-                return Stepped::Full;
-            }
-            put_edge(work, room, edges, vertex, 0);
-            Stepped::Fits(Counters {
-                known,
-                settled: counters.settled,
-                edges: edges + 1,
-                waiting,
-            })
-        }
-        Met::Crowded => Stepped::Full,
+    let met = meet(counters, work, room, state, item)?;
+    if edges == room.edges {
+        return Err(NoRoom);
     }
+    put_edge(work, room, edges, met.vertex, 0);
+    Ok(Counters {
+        known: met.known,
+        settled: counters.settled,
+        edges: edges + 1,
+        waiting: met.waiting,
+    })
 }
 
-// A mark.
+// The mark at an index, which may stand behind their region.
 fn mark_word(work: &[u32], vertices: u32, index: u32) -> u32
     requires { (vertices ≤ most_vertices) × (7 * vertices + index < length work.now) }
     ensures { result ≡ word work.now (7 * vertices + index) }
@@ -165,143 +138,132 @@ pub fn clear_marks(work: &mut [u32], room: Room, marks: u32)
     requires { (room.vertices ≤ most_vertices) × (7 * room.vertices + marks ≤ length work.old) }
     ensures { MarksCleared work.old work.new room.vertices marks }
 {
-    let mut i = room.vertices;
-    while i < marks {
-        put_mark(work, room.vertices, i, 0);
-        i += 1;
+    for index in room.vertices..marks {
+        put_mark(work, room.vertices, index, 0);
     }
+}
+
+// What tells the mark of a target: its state, or its vertex.
+#[derive(Clone, Copy, Debug, PartialEq, Eq)]
+pub enum MarkedBy {
+    State,
+    Vertex,
 }
 
 // Which mark belongs to a target.
-fn mark_index(by_state: bool, state: u32, vertex: VertexIndex) -> u32
-    ensures { result ≡ cond by_state state vertex.0 }
+fn mark_index(marked_by: MarkedBy, state: u32, vertex: VertexIndex) -> u32
+    ensures { result ≡ marker marked_by state vertex.0 }
 {
-    if by_state {
-        return state;
+    match marked_by {
+        MarkedBy::State => state,
+        MarkedBy::Vertex => vertex.0,
     }
-    vertex.0
 }
 
-// What the targets of a modality share: the item of its operand, the item's multiple, from which the slots are told, the
-// place where their edges begin, whether their marks go by their states or by their vertices, and how many marks there
-// are.
+// What the targets of a modality share: the item of its operand, the place where their edges begin, what tells their
+// marks, and how many marks there are.
 #[derive(Clone, Copy)]
-pub struct Operand {
-    pub item: u32,
-    pub scaled: u32,
+pub struct Operand<'a> {
+    pub item: ScaledItem<'a>,
     pub start: u32,
-    pub by_state: bool,
+    pub marked_by: MarkedBy,
     pub marks: u32,
 }
 
 // One target of a modality is met, by one transition. The first time it gets an edge, and its mark holds the place of
-// that edge: so one word shows whether it has its edge and where, and a later transition raises the edge's count without
-// a search. A mark that goes by the state is read before the pair is looked up, so that only the first of all transitions
-// to a state looks it up.
-pub fn target_once(
+// that edge: so one word shows whether it has its edge and where, and a later transition raises the edge's count
+// without a search.
+fn meet_once(
     counters: Counters,
-    multiples: &[u32],
     work: &mut [u32],
     room: Room,
     state: u32,
-    operand: Operand,
-) -> Stepped
-    requires scaled { Scaled multiples.now operand.item operand.scaled }
-    requires ready { Ready work.old room.vertices room.edges counters × Fitting state operand.item
+    operand: Operand<'_>,
+) -> Result<Counters, NoRoom>
+    requires ready { Ready work.old room.vertices room.edges counters × Fitting state operand.item.number
         × Raisable work.old room.vertices room.edges operand counters }
-    requires state_lt_marks { operand.by_state ≡ true → state < operand.marks }
-    ensures { (w : List ℕ) (c : Counters) (ks : List ℕ) → operand.start ≡ c.edges
-        → Gathering w room.vertices room.edges c operand ks work.old counters
-        → Gathered w room.vertices room.edges c operand (ks ++ key_of state operand.item ∷ [])
+    requires state_lt_marks { operand.marked_by ≡ State → state < operand.marks }
+    ensures { (w : List ℕ) (c : Counters) (ks : List ℕ) → operand.entry.start ≡ c.edges
+        → Gathering w room.vertices room.edges c operand.entry ks work.old counters
+        → Gathered w room.vertices room.edges c operand.entry (ks ++ key_of state operand.entry.item.number ∷ [])
         work.new result }
 {
-    if operand.by_state {
-        let mark = mark_word(work, room.vertices, state);
-        if operand.start < mark {
-            raise_count(work, room, mark - 1);
-            return Stepped::Fits(counters);
-        }
-    }
-    let edges = counters.edges;
-    let Met::Meets {
+    let Met {
         vertex,
         known,
         waiting,
-    } = meet(
-        counters,
-        multiples,
-        work,
-        room,
-        state,
-        operand.item,
-        operand.scaled,
-    )
-    else {
-        return Stepped::Full;
+    } = meet(counters, work, room, state, operand.item)?;
+    let next = Counters {
+        known,
+        waiting,
+        ..counters
     };
-    let mut next = counters;
-    next.known = known;
-    next.waiting = waiting;
-    let index = mark_index(operand.by_state, state, vertex);
+    let index = mark_index(operand.marked_by, state, vertex);
     let mark = mark_word(work, room.vertices, index);
     if operand.start < mark {
         raise_count(work, room, mark - 1);
-        return Stepped::Fits(next);
+        return Ok(next);
     }
+    let edges = counters.edges;
     if edges == room.edges {
-        return Stepped::Full;
+        return Err(NoRoom);
     }
     put_mark(work, room.vertices, index, edges + 1);
     put_edge(work, room, edges, vertex, 1);
-    next.edges = edges + 1;
-    Stepped::Fits(next)
+    Ok(Counters {
+        edges: edges + 1,
+        ..next
+    })
 }
 
-// An operand of an item, 0 the left one and 1 the right one.
-fn nth_operand(left: u32, right: u32, index: usize) -> u32
-    requires { index < 2 }
-    ensures { result ≡ word (left ∷ right ∷ []) index }
-{
-    if index == 0 {
-        return left;
-    }
-    right
-}
-
-// The first targets, so many of two with the same state, in order: a target named twice gets two edges. One loop for
-// one operand and for two, so that a target is numbered at one place of the code.
-pub fn settle_operands(
+// The same. A mark that goes by the state is read before the pair is looked up, so that only the first of all
+// transitions to a state looks it up.
+pub fn target_once(
     counters: Counters,
-    multiples: &[u32],
     work: &mut [u32],
     room: Room,
     state: u32,
-    left: u32,
-    right: u32,
-    count: usize,
-) -> Stepped
-    requires multiples { Multiples multiples.now }
-    requires ready { Ready work.old room.vertices room.edges counters × Fitting state left × (count ≤ 2) }
-    requires fitting { 1 < count → Fitting state right }
-    ensures { Answer work.old room.vertices room.edges counters
-        (take count (key_of state left ∷ key_of state right ∷ [])) (take count (0 ∷ 0 ∷ [])) work.new result }
+    operand: Operand<'_>,
+) -> Result<Counters, NoRoom>
+    requires ready { Ready work.old room.vertices room.edges counters × Fitting state operand.item.number
+        × Raisable work.old room.vertices room.edges operand counters }
+    requires state_lt_marks { operand.marked_by ≡ State → state < operand.marks }
+    ensures { (w : List ℕ) (c : Counters) (ks : List ℕ) → operand.entry.start ≡ c.edges
+        → Gathering w room.vertices room.edges c operand.entry ks work.old counters
+        → Gathered w room.vertices room.edges c operand.entry (ks ++ key_of state operand.entry.item.number ∷ [])
+        work.new result }
+{
+    if let MarkedBy::State = operand.marked_by {
+        let mark = mark_word(work, room.vertices, state);
+        if operand.start < mark {
+            raise_count(work, room, mark - 1);
+            return Ok(counters);
+        }
+    }
+    meet_once(counters, work, room, state, operand)
+}
+
+// Targets with the same state, in order: a target named twice gets two edges. One loop for one operand and for two, so
+// that a target is numbered at one place of the code.
+pub fn settle_operands(
+    counters: Counters,
+    multiples: ByteMultiples<'_>,
+    work: &mut [u32],
+    room: Room,
+    state: u32,
+    items: &[u32],
+) -> Result<Counters, NoRoom>
+    requires ready { Ready work.old room.vertices room.edges counters }
+    requires fitting { AllFit state items.now }
+    ensures { Answer work.old room.vertices room.edges counters (map (key_of state) items.now)
+        (zeros items.now) work.new result }
 {
     let mut so_far = counters;
-    let mut i = 0;
-    while i < count {
-        let item = nth_operand(left, right, i);
-        let scaled = pairs::product(multiples, item);
-        match number_target(so_far, multiples, work, room, state, item, scaled) {
-            Stepped::Fits(next) => {
-                so_far = next;
-            }
-            Stepped::Full => {
-                return Stepped::Full;
-            }
-        }
-        i += 1;
+    for number in items {
+        let item = multiples.scale(*number);
+        so_far = number_target(so_far, work, room, state, item)?;
     }
-    Stepped::Fits(so_far)
+    Ok(so_far)
 }
 
 // The edges of a vertex are counted, after one to itself if it has none: with that it is settled.
@@ -311,31 +273,29 @@ pub fn close(
     room: Room,
     vertex: VertexIndex,
     start: u32,
-) -> Stepped
+) -> Result<Counters, NoRoom>
     requires { Ready work.old room.vertices room.edges counters × (vertex.0 < room.vertices)
         × (start ≤ counters.edges) × (counters.settled + counters.waiting < counters.known) }
     ensures { CloseAnswer work.old room.vertices room.edges vertex.0 start counters
         work.new result }
 {
     let edges = counters.edges;
+    let settled = counters.settled + 1;
     if edges == start {
         if edges == room.edges {
-            return Stepped::Full;
+            return Err(NoRoom);
         }
         put_edge(work, room, edges, vertex, 0);
         words::put_word(work, room.vertices, DEGREES, vertex.0, 2);
-        return Stepped::Fits(Counters {
-            known: counters.known,
-            settled: counters.settled + 1,
+        return Ok(Counters {
+            settled,
             edges: edges + 1,
-            waiting: counters.waiting,
+            ..counters
         });
     }
     words::put_word(work, room.vertices, DEGREES, vertex.0, edges - start + 1);
-    Stepped::Fits(Counters {
-        known: counters.known,
-        settled: counters.settled + 1,
-        edges,
-        waiting: counters.waiting,
+    Ok(Counters {
+        settled,
+        ..counters
     })
 }

@@ -8,9 +8,11 @@ use native.Mathlib.Decide.{dec_lt}
 use native.Mathlib.Omega.{arith}
 use lib.Dec.{eqb}
 use lib.ListN.{length, replicate, length-map}
+use Rattle.match_table.specs.declared.MatchBytes.{MatchBytes}
 use Rattle.rules.specs.Lists.{word, zeros, occurrences}
-use Rattle.compiled.specs.Stretches.{kinds_in, lefts_in, rights_in}
-use Rattle.rules.specs.Words.{Input, input_of}
+use Rattle.compiled.specs.declared.Compiled.{Compiled}
+use Rattle.compiled.specs.Tables.{kinds_in, lefts_in, rights_in}
+use Rattle.rules.specs.Words.{Input}
 use Rattle.rules.specs.System.{transition_target}
 use Rattle.rules.specs.Table.{size}
 use Rattle.rules.specs.Actions.{action_tree}
@@ -22,11 +24,11 @@ use Rattle.item_table.proofs.Steps.{entry-none, entry_two, entry_modal, entry_ac
 use Rattle.item_table.proofs.Steps.{entry_still, entry_moving}
 use Rattle.pairs.specs.Slot.{key_of}
 use Rattle.settling.specs.Keys.{pair_key}
-use Rattle.settling.specs.Made.{Fitting}
+use Rattle.settling.specs.Made.{Fitting, AllFit}
 use Rattle.modalities.specs.declared.Modality.{Modality}
 use Rattle.modalities.specs.Matched.{Inside as InsideModality, modality_keys, modality_counts}
-use Rattle.stepping.specs.Tables.{Tables}
-use Rattle.stepping.specs.Parts.{operands_of, AllFit, ModalityIn}
+use Rattle.modalities.specs.Tables.{Tables}
+use Rattle.stepping.specs.Parts.{operands_of, ModalityIn}
 use Rattle.stepping.proofs.Operands.{operands_none, operands_two, operands_one}
 
 key_each : (l : ℕ) (ts : List ℕ) → map pair_key (map (λ t. (t, l)) ts) ≡ map (λ t. key_of t l) ts
@@ -38,13 +40,7 @@ all-zero : (f : Pair → ℕ) (ps : List Pair) → ((p : Pair) → f p ≡ 0) �
 all-zero f [] none = refl
 all-zero f (p ∷ ps) none = ap₂ (λ (n : ℕ) (l : List ℕ). n ∷ l) (none p) (all-zero f ps none)
 
--- the matching transitions are the same whatever the formula's words are: they are not looked at
-pub counts_any : (l s a f : List ℕ) (m : Modality)
-    → modality_counts (input_of l s a []) m ≡ modality_counts (input_of l s a f) m
-unfolding successors matching_transitions
-counts_any l s a f m = refl
-
-module _ (x : Input) (compiled matched : List ℕ) (t : Tables x compiled matched) (s q : ℕ) (i : Inside x (s, q)) where
+module _ (x : Input) (compiled : Compiled) (matched : MatchBytes) (t : Tables x compiled matched) (s q : ℕ) (i : Inside x (s, q)) where
   abbrev kinds : List ℕ
   kinds = kinds_in compiled
 

@@ -11,8 +11,11 @@ use Rattle.arena.specs.Arena.{Inside}
 use Rattle.pairs.specs.Slot.{key_of}
 use Rattle.pairs.specs.Table.{state_at, item_at}
 use Rattle.settling.specs.declared.Counters.{Counters}
-use Rattle.settling.specs.declared.Stepped.{Stepped}
-use Rattle.settling.specs.declared.Stepped.TheVariants.{Fits, Full}
+use mathlib.Core.Bool.{false≢true}
+use Rattle.std.specs.Prelude.{Result}
+use Rattle.std.specs.Result.{IsErr}
+use Rattle.std.specs.declared.result.Result.TheVariants.{Ok, Err}
+use Rattle.pairs.specs.declared.NoRoom.{NoRoom}
 use Rattle.settling.specs.Keys.{pair_key, key_targets, key_behind, root_key}
 use Rattle.settling.specs.Made.{Marks, Ready, Made, TooMany, CloseAnswer}
 use Rattle.settling.specs.Good.{Good, StepAnswer}
@@ -76,9 +79,10 @@ module _ (x : Input) (good : GoodInput x) (v e : ℕ) (w : List ℕ) (c : Counte
       sym (inside_behind x good (s, q) pop_inside)
       ∙ ap (λ (k : ℕ). map (key_behind x k) keys) (ap₂ key_of a.state a.item ∙ sym key_is)
 
-  pub pop_full : TooMany w₁ v e p.counters keys
-      → StepAnswer (key_targets x) (key_behind x) (root_key x) w v e c w₁ Full
-  pop_full f =
+  pub pop_full : (w₂ : List ℕ) (r : Result Counters NoRoom) → IsErr r → TooMany w₁ v e p.counters keys
+      → StepAnswer (key_targets x) (key_behind x) (root_key x) w v e c w₂ r
+  pop_full w₂ (Ok c₂) h f = absurd (false≢true h)
+  pop_full w₂ (Err a₂) h f =
       step_many (key_targets x) (key_behind x) (root_key x) v e w c g some u a.vertex w₁ a.start keys pop_targets
       (subst (λ (d : Counters). TooMany w₁ v e d keys) a.counters f)
 
@@ -96,11 +100,11 @@ module _ (x : Input) (good : GoodInput x) (v e : ℕ) (w : List ℕ) (c : Counte
           keys pop_targets counts pop_counts w₂ c₂ made,
     )
 
-    pub pop_answer : (w₃ : List ℕ) (r : Stepped) → CloseAnswer w₂ v e u c.edges c₂ w₃ r
+    pub pop_answer : (w₃ : List ℕ) (r : Result Counters NoRoom) → CloseAnswer w₂ v e u c.edges c₂ w₃ r
         → StepAnswer (key_targets x) (key_behind x) (root_key x) w v e c w₃ r
-    pop_answer w₃ (Fits c₃) k =
+    pop_answer w₃ (Ok c₃) k =
         step_made (key_targets x) (key_behind x) (root_key x) v e w c g some u a.vertex w₁ a.start
         keys pop_targets counts pop_counts w₂ c₂ made w₃ c₃ k
-    pop_answer w₃ Full k =
+    pop_answer w₃ (Err a₂) k =
         step_loop_many (key_targets x) (key_behind x) (root_key x) v e w c g some u a.vertex w₁ a.start
         keys pop_targets counts pop_counts w₂ c₂ made k

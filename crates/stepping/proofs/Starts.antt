@@ -9,7 +9,7 @@ use lib.Dec.{eqb, lit≤}
 use lib.ListN.{length, set}
 use lib.Seq.{get_or-set_same, get_or-set_other}
 use Rattle.rules.specs.Lists.{word, In, has, insert}
-use Rattle.rules.specs.Walk.{push_new, walk}
+use Rattle.rules.specs.Walk.{push_new}
 use Rattle.lists.proofs.Inserts.{insert_new}
 use Rattle.lists.proofs.Equalities.{number_equality}
 use Rattle.walks.specs.Sums.{stand_with, sum_settled, sum_below}
@@ -21,7 +21,7 @@ use Rattle.pairs.proofs.Uses.{table_kept, length-keys}
 use Rattle.settling.specs.declared.Counters.{Counters}
 use Rattle.settling.specs.Stand.{waiting_in, waiting_of, stand_of}
 use Rattle.settling.specs.Made.{Ready, Meeting, Cleared, Sized}
-use Rattle.settling.specs.Good.{edges_due, Exceeding, WalkMade}
+use Rattle.settling.specs.Good.{edges_due, WalkMade}
 use Rattle.settling.proofs.Buffer.{unsettled_in}
 use Rattle.settling.proofs.Make.{marks_rest}
 
@@ -91,8 +91,7 @@ module _ (w w₁ wₘ w₂ : List ℕ) (v e : ℕ) (z : Sized w v e) (s : Starte
     first_keys : insert eqb (keys_of w₂ v 0) root ≡ root ∷ []
     first_keys = ap (λ (a : List ℕ). insert eqb a root) (no_keys (region 3 v w₂)) ∙ insert_new number_equality [] root (λ m. m)
 
-    pub start_full : v < length (insert eqb (keys_of w₂ v 0) root) → Exceeding targets root v e (walk eqb targets root 0)
-    unfolding walk
+    pub start_full : {A : Type 0} → v < length (insert eqb (keys_of w₂ v 0) root) → A
     start_full l = absurd (omega (arith, z.some, ap length first_keys))
 
     module _ (behind : ℕ → ℕ → ℕ) (w₃ : List ℕ) (u n m : ℕ) (p : Meeting w₂ w₃ v 0 0 root u n m)

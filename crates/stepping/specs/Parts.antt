@@ -1,15 +1,20 @@
 -- What the parts of a step answer: the vertex that is taken off the stack, and what the table's words say of its item.
 -- Assumes nothing: these are definitions.
 use Rattle.std.specs.Prelude.{◌≡◌, cond, List, [], ◌∷◌, ℕ, ◌-◌, ltb}
-use Rattle.rules.specs.Lists.{word, In}
+use Rattle.rules.specs.Lists.{word}
+use Rattle.rules.specs.Pairs.{Pair as RulesPair}
 use Rattle.words.specs.Regions.{region, put_word}
-use Rattle.compiled.specs.Stretches.{lefts_in, rights_in}
+use Rattle.compiled.specs.declared.Compiled.{Compiled}
+use Rattle.compiled.specs.Tables.{lefts_in, rights_in}
 use Rattle.pairs.specs.Table.{state_at, item_at}
 use Rattle.settling.specs.declared.Counters.{Counters}
-use Rattle.settling.specs.Made.{Fitting}
 use Rattle.modalities.specs.declared.Modality.{Modality}
 use Rattle.stepping.specs.declared.Pair.{Pair}
 use Rattle.stepping.specs.declared.Popped.{Popped}
+
+-- the pair that is held
+abbrev pub pair_in : Pair → RulesPair
+pair_in p = (p.state, p.item)
 
 -- the vertex on top of the stack
 abbrev pub top_of : List ℕ → (v : ℕ) → Counters → ℕ
@@ -33,15 +38,11 @@ unfoldable pub operands_of : (kind left right : ℕ) → List ℕ
 operands_of kind left right = cond (ltb kind 2) [] (cond (ltb kind 4) (left ∷ right ∷ []) (left ∷ []))
 
 -- those that the table's words give
-abbrev pub operands_in : (compiled : List ℕ) (kind item : ℕ) → List ℕ
+abbrev pub operands_in : (compiled : Compiled) (kind item : ℕ) → List ℕ
 operands_in compiled kind item = operands_of kind (word (lefts_in compiled) item) (word (rights_in compiled) item)
 
--- each of these items, with the state, can be numbered
-abbrev pub AllFit : ℕ → List ℕ → Type 0
-AllFit state items = (q : ℕ) → In q items → Fitting state q
-
 -- the modality that the table's words say for the item of a pair, at its state
-pub record ModalityIn (compiled : List ℕ) (p : Pair) (m : Modality) : Type 0 where
+pub record ModalityIn (compiled : Compiled) (p : Pair) (m : Modality) : Type 0 where
   pub state : m.state ≡ p.state
   pub action : m.action ≡ word (rights_in compiled) p.item
   pub operand : m.operand ≡ word (lefts_in compiled) p.item

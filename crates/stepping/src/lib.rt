@@ -3,29 +3,30 @@
 // run is.
 #![tactic(auto)]
 
-ghost use Rattle.std.specs.Prelude.{◌≡◌, map, ◌*◌, ◌≤◌, ◌<◌, length};
-ghost use Rattle.rules.specs.Words.{most_vertices, Input, input_of};
+ghost use Rattle.std.specs.Prelude.{◌≡◌, map, ◌*◌, ◌≤◌, ◌<◌, ltb, length};
+ghost use Rattle.rules.specs.Words.{most_vertices};
 ghost use Rattle.rules.specs.Lists.{zeros};
 ghost use Rattle.rules.specs.Pairs.{targets, transitions_behind};
-ghost use Rattle.tables.specs.Good.{GoodInput};
 ghost use Rattle.arena.specs.Arena.{Inside};
-ghost use Rattle.compiled.specs.Stretches.{multiples_in};
-ghost use Rattle.pairs.specs.Slot.{Multiples, key_of};
+ghost use Rattle.lent_input.specs.Inputs.{input_in};
+ghost use Rattle.node_kinds.specs.Codes.{formula_code};
+ghost use Rattle.pairs.specs.Slot.{key_of};
 ghost use Rattle.pairs.specs.Table.{state_at, item_at};
 ghost use Rattle.settling.specs.Keys.{pair_key, key_targets, key_behind, root_key};
-ghost use Rattle.settling.specs.Made.{Answer, Cleared, Ready, Sized};
+ghost use Rattle.settling.specs.Made.{AllFit, Answer, Cleared, Ready, Sized};
 ghost use Rattle.modalities.specs.Matched.{Unmarked};
 ghost use Rattle.settling.specs.Good.{Good, StepAnswer, WalkMade, WalkAnswer};
-ghost use Rattle.stepping.specs.Tables.{Tables};
-ghost use Rattle.stepping.specs.Parts.{top_of, PopAnswer, operands_in, AllFit, ModalityIn};
-ghost use Rattle.stepping.specs.Answers.{tried_of, TriedAnswer, RanAnswer};
+ghost use Rattle.stepping.specs.Parts.{pair_in, top_of, PopAnswer, operands_in, ModalityIn};
+ghost use Rattle.stepping.specs.Answers.{TriedAnswer};
 
 use compiled::Compiled;
-use match_table::MatchBytes;
-use modalities::Modality;
+use lent_input::Input;
+use modalities::{Modality, WalkTables};
+use node_kinds::FormulaKind;
+use pairs::{ByteMultiples, NoRoom};
 use player::VertexIndex;
 use rules::Room;
-use settling::{Counters, Met, Stepped};
+use settling::Counters;
 use words::{DEGREES, MARKS, STACK, STARTS};
 
 // A state and the number of an item.
@@ -66,41 +67,46 @@ fn pop(counters: Counters, work: &mut [u32], room: Room) -> Popped
     let vertex = VertexIndex(words::region_word(work, vertices, STACK, top));
     let pair = pair_of(work, vertices, vertex);
     words::put_word(work, vertices, STARTS, vertex.0, counters.edges);
-    let mut left = counters;
-    left.waiting = top;
     Popped {
-        counters: left,
+        counters: Counters {
+            waiting: top,
+            ..counters
+        },
         vertex,
         pair,
     }
 }
 
+// Has an item of the kind no operands?
+fn is_constant(kind: FormulaKind) -> bool
+    ensures { result ≡ ltb (formula_code kind) 2 }
+{
+    matches!(kind, FormulaKind::True | FormulaKind::False)
+}
+
 // The targets of a pair whose item is no modality are met and get their edges: they stay at its state.
 fn settle_at_state(
     counters: Counters,
-    compiled: &Compiled,
+    tables: &WalkTables<'_>,
     work: &mut [u32],
     room: Room,
     pair: Pair,
-    kind: u32,
-) -> Stepped
-    requires multiples { Multiples (multiples_in compiled.now) × (pair.item < 2048) }
-    requires ready { Ready work.old room.vertices room.edges counters }
-    requires all_fit { AllFit pair.state (operands_in compiled.now kind pair.item) }
-    ensures { Answer work.old room.vertices room.edges counters
-        (map (key_of pair.state) (operands_in compiled.now kind pair.item))
-        (zeros (operands_in compiled.now kind pair.item)) work.new result }
+    kind: FormulaKind,
+) -> Result<Counters, NoRoom>
+    requires ready { Ready work.old room.vertices room.edges counters × (pair.item < 2048) }
+    requires all_fit { AllFit pair.state (operands_in tables.now.compiled.now (formula_code kind) pair.item) }
+    ensures { let items = operands_in tables.now.compiled.now (formula_code kind) pair.item in
+        Answer work.old room.vertices room.edges counters (map (key_of pair.state) items) (zeros items)
+        work.new result }
 {
-    if kind < 2 {
-        return Stepped::Fits(counters);
+    if is_constant(kind) {
+        return Ok(counters);
     }
-    let left = compiled::left_of(compiled, pair.item);
-    let right = compiled::right_of(compiled, pair.item);
-    let count = kinds::operand_count(kind);
-    let multiples = compiled::multiples(compiled);
-    settling::settle_operands(
-        counters, multiples, work, room, pair.state, left, right, count,
-    )
+    let left = tables.compiled.left_of(pair.item);
+    let right = tables.compiled.right_of(pair.item);
+    let operands = [left, right];
+    let items = &operands[..kinds::operand_count(kind)];
+    settling::settle_operands(counters, tables.multiples(), work, room, pair.state, items)
 }
 
 // The modality that a pair stands for, where its item is one.
@@ -110,163 +116,81 @@ fn modality_of(compiled: &Compiled, pair: Pair) -> Modality
 {
     Modality {
         state: pair.state,
-        action: compiled::right_of(compiled, pair.item),
-        operand: compiled::left_of(compiled, pair.item),
+        action: compiled.right_of(pair.item),
+        operand: compiled.left_of(pair.item),
     }
 }
 
 // The targets of a popped vertex are met and get their edges, by the kind of its item: crate `kinds` has the rules.
 fn settle(
     popped: Popped,
-    compiled: &Compiled,
+    tables: &WalkTables<'_>,
     work: &mut [u32],
     room: Room,
-    labels: &[u32],
-    system: &[u32],
-    actions: &[u32],
-    formula: &[u32],
-    matched: &MatchBytes,
-) -> Stepped
-    requires tables { let x = input_of labels.now system.now actions.now formula.now in
-        Tables x compiled.now matched.now × Inside x (popped.pair.state, popped.pair.item) }
+) -> Result<Counters, NoRoom>
+    requires inside { Inside (input_in tables.now.input) (pair_in popped.pair) }
     requires unmarked { Unmarked work.old room popped.counters }
-    ensures { let x = input_of labels.now system.now actions.now formula.now in
-        Answer work.old room.vertices room.edges popped.counters
-        (map pair_key (targets x (popped.pair.state, popped.pair.item)))
-        (map (transitions_behind x (popped.pair.state, popped.pair.item))
-        (targets x (popped.pair.state, popped.pair.item))) work.new result }
+    ensures { let x = input_in tables.now.input in
+        let pair = pair_in popped.pair in
+        Answer work.old room.vertices room.edges popped.counters (map pair_key (targets x pair))
+        (map (transitions_behind x pair) (targets x pair)) work.new result }
 {
     let counters = popped.counters;
     let pair = popped.pair;
-    let kind = compiled::kind_of(compiled, pair.item);
+    let kind = tables.compiled.kind_of(pair.item);
     if kinds::is_modality(kind) {
-        let modality = modality_of(compiled, pair);
-        return modalities::settle_modality(
-            counters, compiled, work, room, labels, system, actions, matched, modality,
-        );
+        let modality = modality_of(tables.compiled, pair);
+        return modalities::settle_modality(counters, tables, work, room, modality);
     }
-    settle_at_state(counters, compiled, work, room, pair, kind)
+    settle_at_state(counters, tables, work, room, pair, kind)
 }
 
 // The waiting vertex that was numbered last is settled.
 pub fn step(
     counters: Counters,
-    compiled: &Compiled,
+    tables: &WalkTables<'_>,
     work: &mut [u32],
     room: Room,
-    labels: &[u32],
-    system: &[u32],
-    actions: &[u32],
-    formula: &[u32],
-    matched: &MatchBytes,
-) -> Stepped
-    requires tables { let x = input_of labels.now system.now actions.now formula.now in
-        Tables x compiled.now matched.now }
-    requires good { let x = input_of labels.now system.now actions.now formula.now in
-        Good (key_targets x) (key_behind x) (root_key x) work.old room.vertices room.edges
-        counters }
-    ensures { let x = input_of labels.now system.now actions.now formula.now in
+) -> Result<Counters, NoRoom>
+    requires { let x = input_in tables.now.input in
+        Good (key_targets x) (key_behind x) (root_key x) work.old room.vertices room.edges counters }
+    ensures { let x = input_in tables.now.input in
         StepAnswer (key_targets x) (key_behind x) (root_key x) work.old room.vertices
         room.edges counters work.new result }
 {
     if counters.waiting == 0 {
-        return Stepped::Fits(counters);
+        return Ok(counters);
     }
     let popped = pop(counters, work, room);
-    let vertex = popped.vertex;
-    match settle(
-        popped, compiled, work, room, labels, system, actions, formula, matched,
-    ) {
-        Stepped::Fits(made) => settling::close(made, work, room, vertex, counters.edges),
-        Stepped::Full => Stepped::Full,
-    }
+    let made = settle(popped, tables, work, room)?;
+    settling::close(made, work, room, popped.vertex, counters.edges)
 }
 
-// The counters after a try, and whether there may be another step.
-#[derive(Clone, Copy)]
-pub struct Tried {
-    pub counters: Counters,
-    pub more: bool,
-}
-
-// What a step answers, as a try: where there was no room the counters stay as they are.
-fn tried_by(counters: Counters, stepped: Stepped) -> Tried
-    ensures { result ≡ tried_of counters stepped }
-{
-    match stepped {
-        Stepped::Fits(next) => Tried {
-            counters: next,
-            more: true,
-        },
-        Stepped::Full => Tried {
-            counters,
-            more: false,
-        },
-    }
-}
-
-// A step, where a vertex waits and there is room for its targets. Elsewhere the counters stay as they are.
-fn try_step(
-    counters: Counters,
-    work: &mut [u32],
-    labels: &[u32],
-    system: &[u32],
-    actions: &[u32],
-    formula: &[u32],
-    compiled: &Compiled,
-    matched: &MatchBytes,
-    room: Room,
-) -> Tried
-    requires { let x = input_of labels.now system.now actions.now formula.now in
-        Tables x compiled.now matched.now
-        × Good (key_targets x) (key_behind x) (root_key x) work.old room.vertices room.edges counters }
-    ensures { let x = input_of labels.now system.now actions.now formula.now in
-        TriedAnswer (key_targets x) (key_behind x) (root_key x) work.old room.vertices
-        room.edges counters work.new result.counters result.more }
-{
-    if counters.waiting == 0 {
-        return Tried {
-            counters,
-            more: false,
-        };
-    }
-    let stepped = step(
-        counters, compiled, work, room, labels, system, actions, formula, matched,
-    );
-    tried_by(counters, stepped)
-}
-
-// The same where the counters stand. It answers whether there may be another step.
+// A step where the counters stand, if a vertex waits and there is room for its targets: elsewhere they stay as they
+// are. It answers whether there may be another step.
+// Kept (rule): document 01 asks that each step updates the counters where they stand, thin over a step by value.
 pub fn step_in_place(
     counters: &mut Counters,
+    tables: &WalkTables<'_>,
     work: &mut [u32],
-    labels: &[u32],
-    system: &[u32],
-    actions: &[u32],
-    formula: &[u32],
-    compiled: &Compiled,
-    matched: &MatchBytes,
     room: Room,
 ) -> bool
-    requires { let x = input_of labels.now system.now actions.now formula.now in
-        Tables x compiled.now matched.now
-        × Good (key_targets x) (key_behind x) (root_key x) work.old room.vertices room.edges counters.old }
-    ensures { let x = input_of labels.now system.now actions.now formula.now in
+    requires { let x = input_in tables.now.input in
+        Good (key_targets x) (key_behind x) (root_key x) work.old room.vertices room.edges counters.old }
+    ensures { let x = input_in tables.now.input in
         TriedAnswer (key_targets x) (key_behind x) (root_key x) work.old room.vertices
         room.edges counters.old work.new counters.new result }
 {
-    let tried = try_step(
-        *counters, work, labels, system, actions, formula, compiled, matched, room,
-    );
-    *counters = tried.counters;
-    tried.more
-}
-
-// Where the steps end: the counters, and how many steps there were.
-#[derive(Clone, Copy)]
-pub struct Ran {
-    pub counters: Counters,
-    pub steps: u32,
+    if counters.waiting == 0 {
+        return false;
+    }
+    match step(*counters, tables, work, room) {
+        Ok(next) => {
+            *counters = next;
+            true
+        }
+        Err(NoRoom) => false,
+    }
 }
 
 // What a run may use: room for vertices and edges, and so many steps.
@@ -276,79 +200,30 @@ pub struct Bounds {
     pub limit: u32,
 }
 
-// At most `bounds.limit` steps. The counters stand in one place, and each step updates them there.
-fn run_steps(
-    work: &mut [u32],
-    labels: &[u32],
-    system: &[u32],
-    actions: &[u32],
-    formula: &[u32],
-    compiled: &Compiled,
-    matched: &MatchBytes,
-    bounds: Bounds,
-    begun: Counters,
-) -> Ran
-    requires { let x = input_of labels.now system.now actions.now formula.now in
-        Tables x compiled.now matched.now
-        × WalkMade (key_targets x) (key_behind x) (root_key x) bounds.room.vertices bounds.room.edges 0 work.old
-        begun }
-    ensures { let x = input_of labels.now system.now actions.now formula.now in
-        RanAnswer (key_targets x) (key_behind x) (root_key x) bounds.room.vertices bounds.room.edges
-        bounds.limit work.new result.counters result.steps }
-{
-    let room = bounds.room;
-    let mut counters = begun;
-    let mut steps: u32 = 0;
-    while steps < bounds.limit {
-        if !step_in_place(
-            &mut counters,
-            work,
-            labels,
-            system,
-            actions,
-            formula,
-            compiled,
-            matched,
-            room,
-        ) {
-            break;
-        }
-        steps += 1;
-    }
-    Ran { counters, steps }
-}
-
-// At most `bounds.limit` steps from the beginning.
+// At most `bounds.limit` steps from the beginning. The counters stand in one place, and each step updates them there.
 pub fn walk(
-    counters: Counters,
-    compiled: &Compiled,
+    begun: Counters,
+    tables: &WalkTables<'_>,
     work: &mut [u32],
     bounds: Bounds,
-    labels: &[u32],
-    system: &[u32],
-    actions: &[u32],
-    formula: &[u32],
-    matched: &MatchBytes,
-) -> Stepped
-    requires tables { let x = input_of labels.now system.now actions.now formula.now in
-        Tables x compiled.now matched.now }
-    requires walk_made { let x = input_of labels.now system.now actions.now formula.now in
-        WalkMade (key_targets x) (key_behind x) (root_key x) bounds.room.vertices bounds.room.edges
-        0 work.old counters }
-    ensures { let x = input_of labels.now system.now actions.now formula.now in
+) -> Result<Counters, NoRoom>
+    requires { let x = input_in tables.now.input in
+        WalkMade (key_targets x) (key_behind x) (root_key x) bounds.room.vertices bounds.room.edges 0 work.old begun }
+    ensures { let x = input_in tables.now.input in
         WalkAnswer (key_targets x) (key_behind x) (root_key x) bounds.room.vertices
         bounds.room.edges bounds.limit work.new result }
 {
-    let ran = run_steps(
-        work, labels, system, actions, formula, compiled, matched, bounds, counters,
-    );
-    let last = ran.counters;
-    if ran.steps < bounds.limit {
-        if 0 < last.waiting {
-            return Stepped::Full;
+    let mut counters = begun;
+    for _done in 0..bounds.limit {
+        if step_in_place(&mut counters, tables, work, bounds.room) {
+            continue;
         }
+        if 0 < counters.waiting {
+            return Err(NoRoom);
+        }
+        return Ok(counters);
     }
-    Stepped::Fits(last)
+    Ok(counters)
 }
 
 // Every word of a region becomes 0.
@@ -356,27 +231,20 @@ fn clear_region(work: &mut [u32], vertices: u32, area: u32)
     requires { (vertices ≤ most_vertices) × (8 * vertices ≤ length work.old) × (area < 8) }
     ensures { Cleared work.old work.new vertices area }
 {
-    let mut i = 0;
-    while i < vertices {
-        words::put_word(work, vertices, area, i, 0);
-        i += 1;
+    for index in 0..vertices {
+        words::put_word(work, vertices, area, index, 0);
     }
 }
 
 // The walk before its first step, whatever the work words hold.
 pub fn begin(
-    compiled: &Compiled,
+    input: &Input<'_>,
+    multiples: ByteMultiples<'_>,
     work: &mut [u32],
     room: Room,
-    labels: &[u32],
-    system: &[u32],
-    actions: &[u32],
-    formula: &[u32],
-) -> Stepped
-    requires multiples { let x = input_of labels.now system.now actions.now formula.now in
-        Multiples (multiples_in compiled.now) × GoodInput x }
-    requires sized { Sized work.old room.vertices room.edges }
-    ensures { let x = input_of labels.now system.now actions.now formula.now in
+) -> Result<Counters, NoRoom>
+    requires { Sized work.old room.vertices room.edges }
+    ensures { let x = input_in input.now in
         WalkAnswer (key_targets x) (key_behind x) (root_key x) room.vertices room.edges 0
         work.new result }
 {
@@ -384,22 +252,17 @@ pub fn begin(
     pairs::start(work, vertices);
     clear_region(work, vertices, MARKS);
     clear_region(work, vertices, DEGREES);
-    let initial = system[2];
+    let initial = input.system[2];
     let none = Counters {
         known: 0,
         settled: 0,
         edges: 0,
         waiting: 0,
     };
-    let multiples = compiled::multiples(compiled);
-    let scaled = pairs::product(multiples, 0);
-    match settling::meet(none, multiples, work, room, initial, 0, scaled) {
-        Met::Meets { known, waiting, .. } => Stepped::Fits(Counters {
-            known,
-            settled: 0,
-            edges: 0,
-            waiting,
-        }),
-        Met::Crowded => Stepped::Full,
-    }
+    let met = settling::meet(none, work, room, initial, multiples.scale(0))?;
+    Ok(Counters {
+        known: met.known,
+        waiting: met.waiting,
+        ..none
+    })
 }

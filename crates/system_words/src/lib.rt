@@ -8,7 +8,7 @@ ghost use Rattle.rules.specs.Answers.{first_fault};
 ghost use Rattle.rules.specs.System.{state_count, transition_count};
 ghost use Rattle.rules.specs.Refusal.{refusal21, refusal22, refusal23, refusal24, refusal25, refusal26};
 
-use rules::Check;
+use rules::Fault;
 
 // The sum of `count` words from `first` on: at most 65,535 words, so it does not wrap.
 fn sum_words(ws: &[u32], first: usize, count: usize) -> usize
@@ -16,10 +16,8 @@ fn sum_words(ws: &[u32], first: usize, count: usize) -> usize
     ensures { result ≡ sum_words ws.now first count }
 {
     let mut sum = 0;
-    let mut i = 0;
-    while i < count {
-        sum += words::at(ws, first + i);
-        i += 1;
+    for degree in &ws[first..first + count] {
+        sum += *degree as usize;
     }
     sum
 }
@@ -30,31 +28,29 @@ const MOST_STATES: usize = 65_535;
 const MOST_TRANSITIONS: usize = 262_144;
 
 // 21, 22: the length and the sizes.
-fn check_sizes(system: &[u32]) -> Check
+#[tactic(auto, unfolding(rules::specs::Answers::first_fault, rules::specs::Answers::and_then, rules::specs::Answers::fault_if, rules::specs::Refusal::differ, rules::specs::Refusal::outside, rules::specs::Refusal::refusal21, rules::specs::Refusal::refusal22))]
+fn check_sizes(system: &[u32]) -> Result<(), Fault>
     ensures { result ≡ first_fault (refusal21 system.now ∷ refusal22 system.now ∷ []) }
 {
-    if system.len() < 3 {
-        return Check::Fault(21, 0);
+    if system.len() < 3 || system.len() != 3 + words::at(system, 0) + 2 * words::at(system, 1) {
+        return Err(Fault {
+            number: 21,
+            place: 0,
+        });
     }
     let states = words::at(system, 0);
-    let transitions = words::at(system, 1);
-    if system.len() != 3 + states + 2 * transitions {
-        return Check::Fault(21, 0);
+    if states < 1 || MOST_STATES < states || MOST_TRANSITIONS < words::at(system, 1) {
+        return Err(Fault {
+            number: 22,
+            place: 0,
+        });
     }
-    if states < 1 {
-        return Check::Fault(22, 0);
-    }
-    if MOST_STATES < states {
-        return Check::Fault(22, 0);
-    }
-    if MOST_TRANSITIONS < transitions {
-        return Check::Fault(22, 0);
-    }
-    Check::Passed
+    Ok(())
 }
 
 // 23 to 26, of words with the right sizes.
-fn check_transitions(labels: &[u32], system: &[u32]) -> Check
+#[tactic(auto, unfolding(rules::specs::Answers::first_fault, rules::specs::Answers::and_then, rules::specs::Answers::fault_if, rules::specs::Refusal::differ, rules::specs::Refusal::refusal23, rules::specs::Refusal::refusal24, rules::specs::Refusal::refusal25, rules::specs::Refusal::refusal26))]
+fn check_transitions(labels: &[u32], system: &[u32]) -> Result<(), Fault>
     requires labels_nonzero { (0 < length labels.now)
         × (length system.now ≡ 3 + state_count system.now + 2 * transition_count system.now) }
     requires system_bound { (state_count system.now ≤ most_states) × (transition_count system.now ≤ most_transitions) }
@@ -64,30 +60,31 @@ fn check_transitions(labels: &[u32], system: &[u32]) -> Check
     let states = words::at(system, 0);
     let transitions = words::at(system, 1);
     if states <= words::at(system, 2) {
-        return Check::Fault(23, 2);
+        return Err(Fault {
+            number: 23,
+            place: 2,
+        });
     }
     if sum_words(system, 3, states) != transitions {
-        return Check::Fault(24, 1);
+        return Err(Fault {
+            number: 24,
+            place: 1,
+        });
     }
     let numbers = 3 + states;
     let targets = numbers + transitions;
-    let checked = faults::check_below(system, numbers, targets, words::at(labels, 0), 25);
-    match checked {
-        Check::Fault(number, place) => Check::Fault(number, place),
-        Check::Passed => faults::check_below(system, targets, targets + transitions, states, 26),
-    }
+    faults::check_below(system, numbers, targets, words::at(labels, 0), 25)?;
+    faults::check_below(system, targets, targets + transitions, states, 26)
 }
 
 // 21 to 26: the system words.
-pub fn check_system(labels: &[u32], system: &[u32]) -> Check
+#[tactic(auto, unfolding(rules::specs::Answers::first_fault, rules::specs::Answers::and_then))]
+pub fn check_system(labels: &[u32], system: &[u32]) -> Result<(), Fault>
     requires { 0 < length labels.now }
     ensures { result ≡ first_fault (refusal21 system.now ∷ refusal22 system.now
         ∷ refusal23 system.now ∷ refusal24 system.now
         ∷ refusal25 labels.now system.now ∷ refusal26 system.now ∷ []) }
 {
-    let sizes = check_sizes(system);
-    match sizes {
-        Check::Fault(number, place) => Check::Fault(number, place),
-        Check::Passed => check_transitions(labels, system),
-    }
+    check_sizes(system)?;
+    check_transitions(labels, system)
 }

@@ -1,4 +1,3 @@
-pub mod Arity
-pub mod Row
+pub mod Marks
 pub mod Checks
-pub mod Judged
+pub mod Shaped

@@ -9,7 +9,7 @@ use mathlib.Core.Option.{Option, none, some}
 use lib.ListN.{length}
 use lib.Dec.{eqb, ltb, leb}
 use borrow.Author.Tests.{ltb-true, ltb-false, leb-false, eqb-true, not-false, lt-ltb}
-use Rattle.rules.specs.declared.Check.TheVariants.{Passed}
+use Rattle.std.specs.declared.result.Result.TheVariants.{Ok}
 use Rattle.rules.specs.Lists.{word, sum_words}
 use Rattle.rules.specs.declared.Room.{Room}
 use Rattle.rules.specs.Words.{Input, most_labels, most_actions, game_length, work_length}
@@ -33,7 +33,7 @@ use Rattle.tables.proofs.Choices.{differ_false, outside_false}
 
 -- ---- labels
 
-module _ (ls : List ℕ) (r11 : refusal11 ls ≡ Passed) (r12 : refusal12 ls ≡ Passed) (r13 : refusal13 ls ≡ Passed) where
+module _ (ls : List ℕ) (r11 : refusal11 ls ≡ Ok tt) (r12 : refusal12 ls ≡ Ok tt) (r13 : refusal13 ls ≡ Ok tt) where
   label_sized : length ls ≡ 2 + 2 * action_count ls
   unfolding refusal11
   label_sized = differ_false (length ls) (2 + 2 * action_count ls) (or-false (ltb (length ls) 2) (differ (length ls) (2 + 2 * action_count ls)) (if_passed 11 0 _ r11)).1
@@ -79,7 +79,7 @@ module _ (ls : List ℕ) (r11 : refusal11 ls ≡ Passed) (r12 : refusal12 ls ≡
 
 -- ---- the system
 
-pub good_system : (ls ss : List ℕ) → refusal21 ss ≡ Passed → refusal22 ss ≡ Passed → refusal23 ss ≡ Passed → refusal24 ss ≡ Passed → refusal25 ls ss ≡ Passed → refusal26 ss ≡ Passed
+pub good_system : (ls ss : List ℕ) → refusal21 ss ≡ Ok tt → refusal22 ss ≡ Ok tt → refusal23 ss ≡ Ok tt → refusal24 ss ≡ Ok tt → refusal25 ls ss ≡ Ok tt → refusal26 ss ≡ Ok tt
     → GoodSystem (label_count ls) ss
 unfolding refusal21 refusal22 refusal23 refusal24 refusal25 refusal26 too_large
 good_system ls ss r21 r22 r23 r24 r25 r26 =
@@ -110,7 +110,7 @@ is-end r o x e h = eqb-true r x (not-false (eqb r x) (ap (is_not_end r) (sym e) 
 
 -- ---- action formulas
 
-module _ (ls acts : List ℕ) (r33 : refusal33 acts ≡ Passed) (r34 : refusal34 ls acts ≡ Passed) where
+module _ (ls acts : List ℕ) (r33 : refusal33 acts ≡ Ok tt) (r34 : refusal34 ls acts ≡ Ok tt) where
   pub actions_known : (v : ℕ) → v < size acts → kind acts v ≤ 5
   unfolding refusal33
   actions_known v h = ltb-false 5 (kind acts v) (from_passed 33 0 (size acts) (λ u. ltb 5 (kind acts u)) r33 v (omega arith) h)
@@ -161,7 +161,7 @@ module _ (ls acts : List ℕ) (r33 : refusal33 acts ≡ Passed) (r34 : refusal34
         right = λ a b. let (i, j, x, y) = actions_right v h a b in (x, y);
       }
 
-  pub good_actions : refusal31 acts ≡ Passed → refusal32 acts ≡ Passed → GoodActions (label_count ls) acts
+  pub good_actions : refusal31 acts ≡ Ok tt → refusal32 acts ≡ Ok tt → GoodActions (label_count ls) acts
   unfolding refusal31 refusal32
   good_actions r31 r32 =
       record {
@@ -172,7 +172,7 @@ module _ (ls acts : List ℕ) (r33 : refusal33 acts ≡ Passed) (r34 : refusal34
 
 -- ---- the formula
 
-module _ (acts f : List ℕ) (r43 : refusal43 f ≡ Passed) (r44 : refusal44 (names_no_tree acts) f ≡ Passed) where
+module _ (acts f : List ℕ) (r43 : refusal43 f ≡ Ok tt) (r44 : refusal44 (names_no_tree acts) f ≡ Ok tt) where
   pub formula_known : (v : ℕ) → v < size f → kind f v ≤ 8
   unfolding refusal43
   formula_known v h = ltb-false 8 (kind f v) (from_passed 43 0 (size f) (λ u. ltb 8 (kind f u)) r43 v (omega arith) h)
@@ -192,7 +192,7 @@ module _ (acts f : List ℕ) (r43 : refusal43 f ≡ Passed) (r44 : refusal44 (na
       (wrong_end (size f) (tree_end (formula_children f) (size f) 0)) r44 in
       go (tree_end (formula_children f) (size f) 0) refl b
     where
-      go : (o : Option ℕ) → tree_end (formula_children f) (size f) 0 ≡ o → wrong_end (size f) o ≡ Passed → o ≡ some (size f)
+      go : (o : Option ℕ) → tree_end (formula_children f) (size f) 0 ≡ o → wrong_end (size f) o ≡ Ok tt → o ≡ some (size f)
       go none i h = absurd (passed_not_fault (sym h))
       go (some e) i h =
           let l = ltb-false e (size f) (if_passed 44 e _ h) in
@@ -235,7 +235,7 @@ module _ (acts f : List ℕ) (r43 : refusal43 f ≡ Passed) (r44 : refusal44 (na
       (sym (formula_action (names_no_tree acts) f v h a b) ∙ formula_operand v h) in
       (leb-false (size acts) (operand f v) p, not-false (on_row (action_children acts) (size acts) (operand f v)) q)
 
-  module _ (r45 : refusal45 f ≡ Passed) where
+  module _ (r45 : refusal45 f ≡ Ok tt) where
     -- the fixpoint of a reference encloses it
     pub formula_refers : (v : ℕ) → v < size f → 8 ≤ kind f v
         → (is_fixpoint (formula_node f (operand f v)) ≡ true) × (operand f v < v) × (is_before_end v (tree_end (formula_children f) (size f) (operand f v)) ≡ true)
@@ -259,7 +259,7 @@ module _ (acts f : List ℕ) (r43 : refusal43 f ≡ Passed) (r44 : refusal44 (na
           refers = λ a. let (i, j, k) = formula_refers v h a in (j, i);
         }
 
-    pub good_formula : refusal41 f ≡ Passed → refusal42 f ≡ Passed → GoodFormula (size acts) f
+    pub good_formula : refusal41 f ≡ Ok tt → refusal42 f ≡ Ok tt → GoodFormula (size acts) f
     unfolding refusal41 refusal42
     good_formula r41 r42 =
         let (a, b) = outside_false 1 1_024 (size f) (if_passed 42 0 _ r42) in
@@ -272,7 +272,7 @@ module _ (acts f : List ℕ) (r43 : refusal43 f ≡ Passed) (r44 : refusal44 (na
 
 -- ---- the whole
 
-pub accepted : (x : Input) → input_refusal x ≡ Passed → GoodInput x
+pub accepted : (x : Input) → input_refusal x ≡ Ok tt → GoodInput x
 unfolding input_refusal
 accepted x h =
     record {
@@ -282,8 +282,8 @@ accepted x h =
       formula = good_formula x.actions x.formula (first_passed _ h 15) (first_passed _ h 16) (first_passed _ h 17) (first_passed _ h 13) (first_passed _ h 14);
     }
 
-module _ (x : Input) (r : Room) (game work : ℕ) (h : refusal x r game work ≡ Passed) where
-  pub accepted_input : input_refusal x ≡ Passed
+module _ (x : Input) (r : Room) (game work : ℕ) (h : refusal x r game work ≡ Ok tt) where
+  pub accepted_input : input_refusal x ≡ Ok tt
   unfolding refusal
   accepted_input = first_passed _ h 2
 

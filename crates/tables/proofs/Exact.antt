@@ -6,8 +6,9 @@ use native.Mathlib.Omega.{arith}
 use mathlib.Core.Path.{◌≡◌, ap}
 use mathlib.Core.List.{List, ◌++◌}
 use mathlib.Core.Logic.{◌⊎◌, ◌↔◌}
-use Rattle.rules.specs.declared.Check.{Check}
-use Rattle.rules.specs.declared.Check.TheVariants.{Passed, Fault}
+use Rattle.rules.specs.Answers.{Check}
+use Rattle.std.specs.declared.result.Result.TheVariants.{Ok}
+use Rattle.rules.specs.Answers.{fault}
 use Rattle.rules.specs.declared.Room.{Room}
 use Rattle.rules.specs.Words.{Input}
 use Rattle.rules.specs.Answers.{and_then, first_fault}
@@ -179,10 +180,10 @@ module _ (x : Input) (r : Room) (game work : ℕ) where
     ),
   )
 
-  pub exact : (n p : ℕ) → refusal x r game work ≡ Fault n p ↔ FirstFaulty x r game work n p
+  pub exact : (n p : ℕ) → refusal x r game work ≡ fault n p ↔ FirstFaulty x r game work n p
   exact n p = rw whole (first_exact (λ k. k) F checks sound finds rising n p)
 
-  pub exact_passed : refusal x r game work ≡ Passed ↔ Faultless x r game work
+  pub exact_passed : refusal x r game work ≡ Ok tt ↔ Faultless x r game work
   exact_passed = rw whole (passed_exact (λ k. k) F checks sound finds rising)
 
   -- there is no fault or a first one

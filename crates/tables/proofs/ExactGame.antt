@@ -10,8 +10,9 @@ use mathlib.Core.Logic.{◌⊎◌, inl, inr, ⊎_elim, ◌↔◌}
 use lib.ListN.{length}
 use lib.Dec.{eqb, ltb, leb}
 use borrow.Author.Tests.{ltb-true, leb-true, eqb-true, lt-ltb, le-leb, eq-eqb}
-use Rattle.rules.specs.declared.Check.{Check}
-use Rattle.rules.specs.declared.Check.TheVariants.{Passed, Fault}
+use Rattle.rules.specs.Answers.{Check}
+use Rattle.std.specs.declared.result.Result.TheVariants.{Ok}
+use Rattle.rules.specs.Answers.{fault}
 use Rattle.rules.specs.Lists.{word, position}
 use Rattle.rules.specs.Words.{most_vertices, most_edges}
 use Rattle.rules.specs.Answers.{fault_if, and_then, first_fault}
@@ -271,8 +272,8 @@ module _ (g : List ℕ) (out map work : ℕ) where
       ∙ ap (and_then (refusal51 g))
       (then_assoc (refusal52 g) _ slices ∙ ap (and_then (refusal52 g)) (at_last (refusal53 g)))
     where
-      at_last : (c : Check) → and_then (and_then c Passed) slices ≡ and_then c (and_then slices Passed)
-      at_last c = then_assoc c Passed slices ∙ ap (and_then c) (sym (then_last slices))
+      at_last : (c : Check) → and_then (and_then c (Ok tt)) slices ≡ and_then c (and_then slices (Ok tt))
+      at_last c = then_assoc c (Ok tt) slices ∙ ap (and_then c) (sym (then_last slices))
 
   sound : Each (Sound R) checks
   sound =
@@ -306,10 +307,10 @@ module _ (g : List ℕ) (out map work : ℕ) where
 
   -- ---- the theorems
 
-  pub game_exact : (k p : ℕ) → restriction_refusal g out map work ≡ Fault k p ↔ FirstFaultyRestriction g out map work k p
+  pub game_exact : (k p : ℕ) → restriction_refusal g out map work ≡ fault k p ↔ FirstFaultyRestriction g out map work k p
   game_exact k p = rw whole (first_exact restriction_turn R checks sound finds rising k p)
 
-  pub game_passed : restriction_refusal g out map work ≡ Passed ↔ ((k p : ℕ) → ¬ FaultyRestriction g out map work k p)
+  pub game_passed : restriction_refusal g out map work ≡ Ok tt ↔ ((k p : ℕ) → ¬ FaultyRestriction g out map work k p)
   game_passed = rw whole (passed_exact restriction_turn R checks sound finds rising)
 
   -- there is no fault or a first one

@@ -10,7 +10,7 @@ use mathlib.Core.Option.{Option, none, some}
 use lib.ListN.{length}
 use lib.Dec.{eqb, ltb, leb}
 use borrow.Author.Tests.{ltb-true, leb-true, eqb-true, eqb-false, not-true, lt-ltb, le-leb, eq-eqb, ne_eqb}
-use Rattle.rules.specs.declared.Check.{Check}
+use Rattle.rules.specs.Answers.{Check}
 use Rattle.rules.specs.Answers.{fault_if}
 use Rattle.rules.specs.Lists.{In}
 use Rattle.rules.specs.Words.{most_nodes}

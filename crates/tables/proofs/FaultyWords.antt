@@ -8,7 +8,7 @@ use mathlib.Core.Logic.{◌⊎◌, inl, inr}
 use lib.ListN.{length}
 use lib.Dec.{ltb, leb}
 use borrow.Author.Tests.{ltb-true, leb-true, lt-ltb, le-leb}
-use Rattle.rules.specs.declared.Check.{Check}
+use Rattle.rules.specs.Answers.{Check}
 use Rattle.rules.specs.Lists.{word, sum_words}
 use Rattle.rules.specs.declared.Room.{Room}
 use Rattle.rules.specs.Words.{most_labels, most_actions, most_states, most_transitions, most_vertices, most_edges, game_length, work_length}

@@ -7,8 +7,9 @@ use mathlib.Core.Path.{◌≡◌, refl, sym, ap, ◌∙◌}
 use mathlib.Core.Bool.{Bool, true, false, true≢false}
 use mathlib.Core.List.{List, [], ◌∷◌, ◌++◌}
 use mathlib.Core.Logic.{◌⊎◌, inl, inr, ◌↔◌}
-use Rattle.rules.specs.declared.Check.{Check}
-use Rattle.rules.specs.declared.Check.TheVariants.{Passed, Fault}
+use Rattle.rules.specs.Answers.{Check}
+use Rattle.std.specs.declared.result.Result.TheVariants.{Ok, Err}
+use Rattle.rules.specs.Answers.{fault}
 use Rattle.rules.specs.Answers.{fault_if, and_then, first_fault}
 use Rattle.rules.specs.Refusal.{fault_from, lower_fault}
 use Rattle.rules.specs.Faulty.{NoLater, First}
@@ -16,15 +17,15 @@ use Rattle.tables.proofs.Faults.{passed_not_fault, fault_number, fault_place, if
 
 -- the check has only faults of number n
 abbrev pub Numbered : ℕ → Check → Type 0
-Numbered n c = (m p : ℕ) → c ≡ Fault m p → n ≡ m
+Numbered n c = (m p : ℕ) → c ≡ fault m p → n ≡ m
 
 -- the check finds a fault of number n, at place q or before
 abbrev pub Finds : (n q : ℕ) → Check → Type 0
-Finds n q c = (p : ℕ) × (c ≡ Fault n p) × (p ≤ q)
+Finds n q c = (p : ℕ) × (c ≡ fault n p) × (p ≤ q)
 
 -- every fault of the check is one of these
 abbrev pub Sound : (ℕ → ℕ → Type 0) → Check → Type 0
-Sound F c = (n p : ℕ) → c ≡ Fault n p → F n p
+Sound F c = (n p : ℕ) → c ≡ fault n p → F n p
 
 abbrev pub Each : (Check → Type 0) → List Check → Type 0
 Each P [] = Unit {0}
@@ -64,16 +65,16 @@ some_right P (c ∷ cs) ds h = inr (some_right P cs ds h)
 pub first_sound : (F : ℕ → ℕ → Type 0) (cs : List Check) → Each (Sound F) cs → Sound F (first_fault cs)
 unfolding first_fault and_then
 first_sound F [] h = λ n p e. absurd (passed_not_fault e)
-first_sound F (Passed ∷ cs) h = first_sound F cs h.1
-first_sound F (Fault m q ∷ cs) h = h.0
+first_sound F (Ok u ∷ cs) h = first_sound F cs h.1
+first_sound F (Err f ∷ cs) h = h.0
 
 -- if there is none, no check finds any
-pub first-none : (cs : List Check) → first_fault cs ≡ Passed → (n q : ℕ) → Some (Finds n q) cs → ⊥
+pub first-none : (cs : List Check) → first_fault cs ≡ Ok tt → (n q : ℕ) → Some (Finds n q) cs → ⊥
 unfolding first_fault and_then
 first-none [] e n q h = h
-first-none (Passed ∷ cs) e n q (inl (p, i, l)) = passed_not_fault i
-first-none (Passed ∷ cs) e n q (inr h) = first-none cs e n q h
-first-none (Fault m r ∷ cs) e n q h = passed_not_fault (sym e)
+first-none (Ok u ∷ cs) e n q (inl (p, i, l)) = passed_not_fault i
+first-none (Ok u ∷ cs) e n q (inr h) = first-none cs e n q h
+first-none (Err f ∷ cs) e n q h = passed_not_fault (sym e)
 
 module _ (turn : ℕ → ℕ) where
   above : (b : ℕ) (cs : List Check) → Rising turn b cs → (m q : ℕ) → Some (Finds m q) cs → b ≤ turn m
@@ -81,66 +82,66 @@ module _ (turn : ℕ → ℕ) where
   above b (c ∷ cs) (n, l, d, h) m q (inl (p, i, k)) = omega (arith, l, ap turn (d m p i))
   above b (c ∷ cs) (n, l, d, h) m q (inr s) = omega (arith, l, above (suc (turn n)) cs h m q s)
 
-  pub first-least : (b : ℕ) (cs : List Check) → Rising turn b cs → (n p : ℕ) → first_fault cs ≡ Fault n p
+  pub first-least : (b : ℕ) (cs : List Check) → Rising turn b cs → (n p : ℕ) → first_fault cs ≡ fault n p
       → (m q : ℕ) → Some (Finds m q) cs → NoLater turn n p m q
   unfolding first_fault and_then
   first-least b [] h n p e m q s = absurd s
-  first-least b (Passed ∷ cs) (k, l, d, h) n p e m q (inl (r, i, j)) = absurd (passed_not_fault i)
-  first-least b (Passed ∷ cs) (k, l, d, h) n p e m q (inr s) = first-least (suc (turn k)) cs h n p e m q s
-  first-least b (Fault o t ∷ cs) (k, l, d, h) n p e m q (inl (r, i, j)) =
+  first-least b (Ok u ∷ cs) (k, l, d, h) n p e m q (inl (r, i, j)) = absurd (passed_not_fault i)
+  first-least b (Ok u ∷ cs) (k, l, d, h) n p e m q (inr s) = first-least (suc (turn k)) cs h n p e m q s
+  first-least b (Err f ∷ cs) (k, l, d, h) n p e m q (inl (r, i, j)) =
       let x = fault_number e in
       let y = fault_place e in
       let z = fault_number i in
       let w = fault_place i in
       inr (omega arith, omega arith)
-  first-least b (Fault o t ∷ cs) (k, l, d, h) n p e m q (inr s) =
-      inl (omega (arith, ap turn (fault_number e), ap turn (d o t refl), above (suc (turn k)) cs h m q s))
+  first-least b (Err f ∷ cs) (k, l, d, h) n p e m q (inr s) =
+      inl (omega (arith, ap turn (fault_number e), ap turn (d f.number f.place refl), above (suc (turn k)) cs h m q s))
 
   -- two faults of which neither is later are one
-  one_first : (n p m q : ℕ) → NoLater turn n p m q → NoLater turn m q n p → Fault n p ≡ Fault m q
+  one_first : (n p m q : ℕ) → NoLater turn n p m q → NoLater turn m q n p → fault n p ≡ fault m q
   one_first n p m q (inl a) (inl b) = absurd (omega arith)
   one_first n p m q (inl a) (inr (b, c)) = absurd (omega (arith, a, ap turn b))
   one_first n p m q (inr (a, c)) (inl b) = absurd (omega (arith, b, ap turn a))
   one_first n p m q (inr (a, c)) (inr (b, d)) =
       let e : p ≡ q = omega arith in
-      ap (λ k. Fault k p) a ∙ ap (Fault m) e
+      ap (λ k. fault k p) a ∙ ap (fault m) e
 
   -- ---- checks whose turns rise, that find each fault and no other: the first fault, exactly
 
   module _ (F : ℕ → ℕ → Type 0) (cs : List Check) (sound : Each (Sound F) cs)
       (finds : (n q : ℕ) → F n q → Some (Finds n q) cs) (rising : Rising turn 0 cs) where
-    is-fault : (n p : ℕ) → first_fault cs ≡ Fault n p → First turn F n p
+    is-fault : (n p : ℕ) → first_fault cs ≡ fault n p → First turn F n p
     is-fault n p e = (first_sound F cs sound n p e, λ m q h. first-least 0 cs rising n p e m q (finds m q h))
 
-    no_fault : first_fault cs ≡ Passed → (n p : ℕ) → ¬ F n p
+    no_fault : first_fault cs ≡ Ok tt → (n p : ℕ) → ¬ F n p
     no_fault e n p h = first-none cs e n p (finds n p h)
 
-    fault-is : (n p : ℕ) → First turn F n p → first_fault cs ≡ Fault n p
+    fault-is : (n p : ℕ) → First turn F n p → first_fault cs ≡ fault n p
     fault-is n p (here, least) = go (first_fault cs) refl
       where
-        go : (c : Check) → first_fault cs ≡ c → c ≡ Fault n p
-        go Passed e = absurd (no_fault e n p here)
-        go (Fault m q) e =
-            let (a, b) = is-fault m q e in
-            one_first m q n p (b n p here) (least m q a)
+        go : (c : Check) → first_fault cs ≡ c → c ≡ fault n p
+        go (Ok u) e = absurd (no_fault e n p here)
+        go (Err f) e =
+            let (a, b) = is-fault f.number f.place e in
+            one_first f.number f.place n p (b n p here) (least f.number f.place a)
 
-    pub first_exact : (n p : ℕ) → first_fault cs ≡ Fault n p ↔ First turn F n p
+    pub first_exact : (n p : ℕ) → first_fault cs ≡ fault n p ↔ First turn F n p
     first_exact n p = (is-fault n p, fault-is n p)
 
-    pub passed_exact : first_fault cs ≡ Passed ↔ ((n p : ℕ) → ¬ F n p)
+    pub passed_exact : first_fault cs ≡ Ok tt ↔ ((n p : ℕ) → ¬ F n p)
     passed_exact = (no_fault, λ h. go h (first_fault cs) refl)
       where
-        go : ((n p : ℕ) → ¬ F n p) → (c : Check) → first_fault cs ≡ c → c ≡ Passed
-        go h Passed e = refl
-        go h (Fault n p) e = absurd (h n p (is-fault n p e).0)
+        go : ((n p : ℕ) → ¬ F n p) → (c : Check) → first_fault cs ≡ c → c ≡ Ok tt
+        go h (Ok u) e = refl
+        go h (Err f) e = absurd (h f.number f.place (is-fault f.number f.place e).0)
 
     -- there is no fault or a first one
     pub none_or_first : ((n p : ℕ) → ¬ F n p) ⊎ ((n : ℕ) × (p : ℕ) × First turn F n p)
     none_or_first = go (first_fault cs) refl
       where
         go : (c : Check) → first_fault cs ≡ c → ((n p : ℕ) → ¬ F n p) ⊎ ((n : ℕ) × (p : ℕ) × First turn F n p)
-        go Passed e = inl (no_fault e)
-        go (Fault n p) e = inr (n, p, is-fault n p e)
+        go (Ok u) e = inl (no_fault e)
+        go (Err f) e = inr (f.number, f.place, is-fault f.number f.place e)
 
 -- ---- numbers
 
@@ -152,9 +153,9 @@ from_numbered n p e bad m q i = (from_fault n p e bad i).0
 
 pub lower_numbered : (n : ℕ) (c d : Check) → Numbered n c → Numbered n d → Numbered n (lower_fault c d)
 unfolding lower_fault
-lower_numbered n Passed d f g = g
-lower_numbered n (Fault a r) Passed f g = f
-lower_numbered n (Fault a r) (Fault b q) f g = λ m p e. f a r refl ∙ fault_number e
+lower_numbered n (Ok u) d f g = g
+lower_numbered n (Err d) (Ok u) f g = f
+lower_numbered n (Err d) (Err e) f g = λ m p e. f d.number d.place refl ∙ fault_number e
 
 -- ---- what a check finds
 
@@ -171,19 +172,19 @@ from_finds n p e bad q a l t =
 
 pub lower_finds_left : (n q : ℕ) (c d : Check) → Finds n q c → Finds n q (lower_fault c d)
 unfolding lower_fault
-lower_finds_left n q Passed d (p, e, l) = absurd (passed_not_fault e)
-lower_finds_left n q (Fault m r) Passed h = h
-lower_finds_left n q (Fault m r) (Fault o s) (p, e, l) =
+lower_finds_left n q (Ok u) d (p, e, l) = absurd (passed_not_fault e)
+lower_finds_left n q (Err f) (Ok u) h = h
+lower_finds_left n q (Err f) (Err g) (p, e, l) =
     let i = fault_place e in
-    (min r s, ap (λ k. Fault k (min r s)) (fault_number e), omega arith)
+    (min f.place g.place, ap (λ k. fault k (min f.place g.place)) (fault_number e), omega arith)
 
 pub lower_finds_right : (n q : ℕ) (c d : Check) → Numbered n c → Finds n q d → Finds n q (lower_fault c d)
 unfolding lower_fault
-lower_finds_right n q Passed d f h = h
-lower_finds_right n q (Fault m r) Passed f (p, e, l) = absurd (passed_not_fault e)
-lower_finds_right n q (Fault m r) (Fault o s) f (p, e, l) =
+lower_finds_right n q (Ok u) d f h = h
+lower_finds_right n q (Err g) (Ok u) f (p, e, l) = absurd (passed_not_fault e)
+lower_finds_right n q (Err g) (Err d) f (p, e, l) =
     let i = fault_place e in
-    (min r s, ap (λ k. Fault k (min r s)) (sym (f m r refl)), omega arith)
+    (min g.place d.place, ap (λ k. fault k (min g.place d.place)) (sym (f g.number g.place refl)), omega arith)
 
 -- ---- every fault of a check is one of F: it is enough that its own number and places are
 
@@ -202,16 +203,16 @@ from_sound F n p e bad f m q i =
 
 pub lower_sound : (F : ℕ → ℕ → Type 0) (n : ℕ) (c d : Check) → Numbered n c → Numbered n d → Sound F c → Sound F d → Sound F (lower_fault c d)
 unfolding lower_fault
-lower_sound F n Passed d f g h k = k
-lower_sound F n (Fault a r) Passed f g h k = h
-lower_sound F n (Fault a r) (Fault b s) f g h k = λ m p e. go m p e (dec_le r s)
+lower_sound F n (Ok u) d f g h k = k
+lower_sound F n (Err d) (Ok u) f g h k = h
+lower_sound F n (Err d) (Err o) f g h k = λ m p e. go m p e (dec_le d.place o.place)
   where
-    go : (m p : ℕ) → Fault a (min r s) ≡ Fault m p → Dec (r ≤ s) → F m p
+    go : (m p : ℕ) → fault d.number (min d.place o.place) ≡ fault m p → Dec (d.place ≤ o.place) → F m p
     go m p e (yes l) =
         let i = fault_place e in
-        let j : r ≡ p = omega arith in
-        at_fault F a r m p (h a r refl) (fault_number e) j
+        let j : d.place ≡ p = omega arith in
+        at_fault F d.number d.place m p (h d.number d.place refl) (fault_number e) j
     go m p e (no l) =
         let i = fault_place e in
-        let j : s ≡ p = omega arith in
-        at_fault F b s m p (k b s refl) (sym (g b s refl) ∙ f a r refl ∙ fault_number e) j
+        let j : o.place ≡ p = omega arith in
+        at_fault F o.number o.place m p (k o.number o.place refl) (sym (g o.number o.place refl) ∙ f d.number d.place refl ∙ fault_number e) j

@@ -8,8 +8,8 @@ use mathlib.Core.Bool.{Bool, true, false, not, ◌||◌}
 use mathlib.Core.List.{List}
 use lib.Dec.{eqb, ltb}
 use borrow.Author.Tests.{lt-ltb, le-ltb, eq-eqb, ne_eqb}
-use Rattle.rules.specs.declared.Check.{Check}
-use Rattle.rules.specs.declared.Check.TheVariants.{Fault}
+use Rattle.rules.specs.Answers.{Check}
+use Rattle.rules.specs.Answers.{fault}
 use Rattle.rules.specs.Answers.{fault_if, and_then}
 use Rattle.rules.specs.Table.{size, action_children, formula_children, on_row}
 use Rattle.rules.specs.Refusal.{fault_from, lower_fault, bad_action_operand, bad_formula_operand, wrong_end, refusal34, refusal44}
@@ -79,7 +79,7 @@ refusal44_scan no_tree f =
         (if-false 44 (size f) (le-ltb (size f) e d))
         ∙ then_last (fault_from 44 0 (size f) (λ v. bad_formula_operand no_tree f v || eqb v e)))
 
-    unfinished : lower_fault (fault_from 44 0 (size f) (bad_formula_operand no_tree f)) (Fault 44 (size f))
+    unfinished : lower_fault (fault_from 44 0 (size f) (bad_formula_operand no_tree f)) (fault 44 (size f))
         ≡ and_then (fault_from 44 0 (size f) (λ v. bad_formula_operand no_tree f v || eqb v (size f + 1)))
         (fault_if 44 (size f) (ltb (size f) (size f + 1)))
     unfinished =

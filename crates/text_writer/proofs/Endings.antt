@@ -1,6 +1,6 @@
 -- What a call that writes a text leaves, by the way it ends, and what its caller finds. Assumes nothing.
 use mathlib.Core.Path.{◌≡◌, refl, sym, ap, ap₂, ◌∙◌}
-use mathlib.Core.List.{List}
+use mathlib.Core.List.{List, [], ◌++◌}
 use Prim.Native.Nat.{ℕ, ◌-◌, ◌≤◌, ◌<◌}
 use native.Mathlib.Omega.{arith}
 use lib.ListN.{length, take, replicate, length-append}
@@ -10,7 +10,8 @@ use Rattle.rules.specs.declared.Answer.{Answer}
 use Rattle.rules.specs.declared.Answer.TheVariants.{Done, Cut, Refused}
 use Rattle.rules.specs.Game.{padded}
 use Rattle.rules.specs.Texts.{Written, text_into}
-use Rattle.words.specs.Stretches.{Wrote}
+use Rattle.text_writer.specs.declared.Text.{Text}
+use Rattle.text_writer.specs.Appending.{written, Appended}
 
 module _ (least : ℕ) (s slice : List ℕ) where
   -- a slice that is too short is left as it is
@@ -26,13 +27,16 @@ module _ (least : ℕ) (s slice : List ℕ) where
   text_long h = rw (le-ltb (length slice) least h) refl
 
   -- the text is written from the first byte on, then finished
-  pub text_finished : {text text' : List ℕ} {n : ℕ} {a : Answer} → least ≤ length slice → length text ≡ length slice
-      → Wrote 0 s slice text n → a ≡ Done n 0 0 → text' ≡ padded (length text) (take n text)
-      → ◌≡◌ {A = Written} (record { answer = a; text = text' }) (text_into least s slice)
-  text_finished {text} {text'} {n} {a} h k w e f =
-      let m : n ≡ length s = omega (arith, w.past) in
+  pub text_finished : {empty full : Text} {text : List ℕ} {a : Answer} → least ≤ length slice
+      → (empty.size ≡ 0) × (empty.bytes.now ≡ slice) → Appended s empty full → a ≡ Done full.size 0 0
+      → text ≡ padded (length full.bytes.now) (written full)
+      → ◌≡◌ {A = Written} (record { answer = a; text = text }) (text_into least s slice)
+  text_finished {empty} {full} {text} {a} h new w e f =
+      let m : full.size ≡ length s = omega (arith, w.wrote.past, new.0) in
       let answered : a ≡ Done (length s) 0 0 = e ∙ ap (λ (l : ℕ). Done l 0 0) m in
-      let shown : text' ≡ padded (length slice) s = f ∙ ap₂ padded k w.words in
+      let front : take empty.size empty.bytes.now ≡ [] = rw new.0 refl in
+      let words : written full ≡ s = w.wrote.words ∙ ap (λ (l : List ℕ). l ++ s) front in
+      let shown : text ≡ padded (length slice) s = f ∙ ap₂ padded (w.long ∙ ap length new.1) words in
       let both : ◌≡◌ {A = Written} _ _ = λ i. record { answer = answered i; text = shown i } in
       both ∙ sym (text_long h)
 

@@ -1,17 +1,16 @@
--- Lines are written from left to right: what is left to write, after each call. Assumes nothing.
+-- Stretches one after the other, the parts of lines, and zeros past a text. Assumes nothing.
 use mathlib.Core.Path.{◌≡◌, refl, sym, ap, ◌∙◌, subst}
 use mathlib.Core.List.{List, [], ◌∷◌, ◌++◌, append_assoc, append-nil}
 use Prim.Native.Nat.{ℕ, ◌+◌, ◌-◌, ◌≤◌, ◌<◌}
 use native.Mathlib.Numerals.{add-one}
 use native.Mathlib.Omega.{arith}
-use lib.ListN.{length, take, replicate, length-take, length-append, drop_of_length-le}
-use lib.Seq.{slice, slice-cons, take-length, length-take-le}
+use lib.ListN.{length, take, drop, replicate, length-append, drop_of_length-le}
+use lib.Seq.{drop-cons, length-take-le}
 use Rattle.rules.specs.Lists.{word}
 use Rattle.rules.specs.Game.{padded}
 use Rattle.rules.specs.Texts.{decimal, spaced, line}
 use Rattle.words.specs.Stretches.{Wrote}
 use Rattle.words.proofs.Regions.{same_later}
-use Rattle.words.proofs.Stretches.{Writing, start, turn, called}
 
 -- ---- what no call, one call and two calls wrote
 
@@ -36,52 +35,31 @@ wrote_both {at} {p} {r} {s} {s'} {text} {text'} w v =
       rest = v.rest ∙ same_later p r text text' w.rest (omega (arith, v.past));
     }
 
--- the next stretch fits
-pub first_fits : (s left : List ℕ) {at : ℕ} {text : List ℕ} {at₀ : ℕ} {stretch text₀ : List ℕ}
-    → at₀ + length stretch ≤ length text₀ → Writing at (s ++ left) text at₀ stretch text₀ → at + length s ≤ length text
-first_fits s left h w = omega (arith, w.long, w.last, length-append s left)
+-- ---- numbers and lines
 
--- ---- numbers
-
-pub spaced_more : (ws : List ℕ) (q e : ℕ) → q < e → e ≤ length ws
-    → spaced (slice q e ws) ≡ (32 ∷ decimal (word ws q)) ++ spaced (slice (q + 1) e ws)
+-- the numbers from the i-th one on: a space and that number first
+pub spaced_next : (ns : List ℕ) (i : ℕ) → i < length ns
+    → spaced (drop i ns) ≡ (32 ∷ decimal (word ns i)) ++ spaced (drop (i + 1) ns)
 unfolding spaced
-spaced_more ws q e h k =
-    ap spaced (slice-cons q e ws 0 h k ∙ ap (λ (n : ℕ). word ws q ∷ slice n e ws) (sym (add-one q)))
+spaced_next ns i h = rw (add-one i, drop-cons ns i 0) refl
 
-pub spaced_none : (ws : List ℕ) (q e : ℕ) → e ≤ q → spaced (slice q e ws) ≡ []
+pub spaced_none : (ns : List ℕ) (i : ℕ) → length ns ≤ i → spaced (drop i ns) ≡ []
 unfolding spaced
-spaced_none ws q e h =
-    let l : length (take e ws) ≤ q = omega (arith, length-take e ws) in
-    ap spaced (drop_of_length-le (take e ws) l)
+spaced_none ns i h = ap spaced (drop_of_length-le ns h)
 
-module _ (ws : List ℕ) (q e n : ℕ) (here : n ≡ word ws q) (below : q < e) (within : e ≤ length ws)
-    {p at₀ : ℕ} {stretch text text₀ : List ℕ} where
-  numbers_next : Writing p (spaced (slice q e ws)) text at₀ stretch text₀
-      → Writing p ((32 ∷ decimal n) ++ spaced (slice (q + 1) e ws)) text at₀ stretch text₀
-  numbers_next w =
-      let rest = spaced (slice (q + 1) e ws) in
-      turn (spaced_more ws q e below within ∙ ap (λ (m : ℕ). (32 ∷ decimal m) ++ rest) (sym here)) w
+pub spaced_length : (n : ℕ) (ns : List ℕ)
+    → length (spaced (n ∷ ns)) ≡ 1 + length (decimal n) + length (spaced ns)
+unfolding spaced
+spaced_length n ns = let e = length-append (decimal n) (spaced ns) in omega (arith, e)
 
-  -- there is room for the next number
-  pub numbers_room : at₀ + length stretch ≤ length text₀ → Writing p (spaced (slice q e ws)) text at₀ stretch text₀
-      → p + length (32 ∷ decimal n) ≤ length text
-  numbers_room h w = first_fits (32 ∷ decimal n) (spaced (slice (q + 1) e ws)) h (numbers_next w)
-
-  pub numbers_more : {text' : List ℕ} {r : ℕ} → length text' ≡ length text → Wrote p (32 ∷ decimal n) text text' r
-      → Writing p (spaced (slice q e ws)) text at₀ stretch text₀
-      → Writing r (spaced (slice (q + 1) e ws)) text' at₀ stretch text₀
-  numbers_more k c w = called k c (numbers_next w)
-
--- ---- lines
-
-line_parts : (text ns : List ℕ) → line text ns ≡ text ++ (spaced (slice 0 (length ns) ns) ++ (10 ∷ []))
+pub line_parts : (name ns : List ℕ) → line name ns ≡ name ++ (spaced ns ++ (10 ∷ []))
 unfolding line
-line_parts text ns = ap (λ (l : List ℕ). text ++ (spaced l ++ (10 ∷ []))) (sym (take-length ns))
+line_parts name ns = refl
 
-pub line_start : (name ns text : List ℕ) (at : ℕ)
-    → Writing at (name ++ (spaced (slice 0 (length ns) ns) ++ (10 ∷ []))) text at (line name ns) text
-line_start name ns text at = turn (line_parts name ns) start
+pub line_length : (name ns : List ℕ) → length (line name ns) ≡ length name + length (spaced ns) + 1
+line_length name ns =
+    rw line_parts
+    (let e = length-append name (spaced ns ++ (10 ∷ [])) in omega (arith, e, length-append (spaced ns) (10 ∷ [])))
 
 -- ---- zeros past a text
 

@@ -1,132 +1,110 @@
-// Texts in a lent slice of bytes, written from left to right: each function appends and answers the place past what it
-// wrote. `finish` ends a call that writes a text.
+// Texts in a lent slice of bytes, written from left to right.
 #![tactic(auto)]
 
-ghost use Rattle.std.specs.Prelude.{◌≡◌, [], ◌∷◌, ◌+◌, ◌≤◌, ◌<◌, length, take};
-ghost use Rattle.std.proofs.Math.Seq.{slice};
+ghost use Rattle.std.specs.Prelude.{◌≡◌, [], ◌∷◌, ◌≤◌, ◌<◌, length};
 ghost use Rattle.rules.specs.declared.Answer.TheVariants.{Done};
 ghost use Rattle.rules.specs.Game.{padded};
 ghost use Rattle.rules.specs.Texts.{decimal, spaced, line};
-ghost use Rattle.words.specs.Stretches.{Wrote};
+ghost use Rattle.text_writer.specs.Appending.{written, Room, Appended};
 
 use rules::Answer;
 
-pub fn put_byte(text: &mut [u8], start: usize, byte: u8) -> usize
-    requires { start + 1 ≤ length text.old }
-    ensures { Wrote start (byte ∷ []) text.old text.new result }
-{
-    text[start] = byte;
-    start + 1
-}
-
-pub fn put_bytes(text: &mut [u8], start: usize, bytes: &[u8]) -> usize
-    requires { start + length bytes.now ≤ length text.old }
-    ensures { Wrote start bytes.now text.old text.new result }
-{
-    let mut i = 0;
-    let mut place = start;
-    while i < bytes.len() {
-        text[place] = bytes[i];
-        place += 1;
-        i += 1;
-    }
-    place
-}
-
-// ---- numbers
-
-fn digit(value: usize) -> u8
-    requires { value < 10 }
-    ensures { result ≡ 48 + value }
-{
-    48 + value as u8
-}
-
 // How many digits a number has.
+// Kept (no plainer): the loop divides and counts the divisions; it goes over nothing that a `for` could.
 pub fn digit_count(number: usize) -> usize
     ensures { (result ≡ length (decimal number)) × (result ≤ 20) }
 {
     let mut rest = number;
     let mut count = 1;
     while 9 < rest {
-        rest = rest / 10;
+        rest /= 10;
         count += 1;
     }
     count
 }
 
-// The digits of a number, from the last one back.
-pub fn put_decimal(text: &mut [u8], start: usize, number: usize) -> usize
-    requires { start + length (decimal number) ≤ length text.old }
-    ensures { Wrote start (decimal number) text.old text.new result }
-{
-    let end = start + digit_count(number);
-    let mut rest = number;
-    let mut place = end - 1;
-    while 9 < rest {
-        text[place] = digit(rest % 10);
-        rest = rest / 10;
-        place -= 1;
+// The slice, of which the first `size` bytes are written.
+#[derive(Drop)]
+pub struct Text<'a> {
+    bytes: &'a mut [u8],
+    size: usize,
+}
+
+impl<'a> Text<'a> {
+    // Nothing is written yet.
+    pub fn new(bytes: &'a mut [u8]) -> Text<'a>
+        ensures same { result.bytes.ghost_name ≡ bytes.entry.ghost_name }
+        ensures empty { (result.size ≡ 0) × (result.bytes.now ≡ bytes.old) }
+    {
+        Text { bytes, size: 0 }
     }
-    text[place] = digit(rest);
-    end
-}
 
-// A space and a number.
-pub fn put_number(text: &mut [u8], start: usize, number: usize) -> usize
-    requires { start + length (32 ∷ decimal number) ≤ length text.old }
-    ensures { Wrote start (32 ∷ decimal number) text.old text.new result }
-{
-    let past_space = put_byte(text, start, 32);
-    put_decimal(text, past_space, number)
-}
-
-// The words from `from` up to `end`, a space before each.
-pub fn put_numbers(text: &mut [u8], start: usize, ws: &[u32], from: usize, end: usize) -> usize
-    requires from_le_end { (from ≤ end) × (end ≤ length ws.now) }
-    requires ws_in_bounds { start + length (spaced (slice from end ws.now)) ≤ length text.old }
-    ensures { Wrote start (spaced (slice from end ws.now))
-        text.old text.new result }
-{
-    let mut i = from;
-    let mut place = start;
-    while i < end {
-        place = put_number(text, place, words::at(ws, i));
-        i += 1;
+    pub fn put_byte(&mut self, byte: u8)
+        requires { Room self.old (byte ∷ []) }
+        ensures { Appended (byte ∷ []) self.old self.new }
+    {
+        self.bytes[self.size] = byte;
+        self.size += 1;
     }
-    place
-}
 
-// A line: a name, then numbers.
-pub fn put_line(text: &mut [u8], start: usize, name: &[u8], numbers: &[u32]) -> usize
-    requires { start + length (line name.now numbers.now) ≤ length text.old }
-    ensures { Wrote start (line name.now numbers.now)
-        text.old text.new result }
-{
-    let past_name = put_bytes(text, start, name);
-    let past_numbers = put_numbers(text, past_name, numbers, 0, numbers.len());
-    put_byte(text, past_numbers, 10)
-}
-
-// ---- the end of a call
-
-fn word(size: usize) -> u32
-    requires { size < 4294967296 }
-    ensures { result ≡ size }
-{
-    size as u32
-}
-
-// A text of so many bytes stands at the slice's front: zeros past them, and the answer.
-pub fn finish(text: &mut [u8], size: usize) -> Answer
-    requires { (size ≤ length text.old) × (size < 4294967296) }
-    ensures value { result ≡ Done size 0 0 }
-    ensures text_after { text.new ≡ padded (length text.old) (take size text.old) }
-{
-    let mut place = size;
-    while place < text.len() {
-        text[place] = 0;
-        place += 1;
+    pub fn put_bytes(&mut self, bytes: &[u8])
+        requires { Room self.old bytes.now }
+        ensures { Appended bytes.now self.old self.new }
+    {
+        let end = self.size + bytes.len();
+        self.bytes[self.size..end].copy_from_slice(bytes);
+        self.size = end;
     }
-    Answer::Done(word(size), 0, 0)
+
+    // The digits of a number: first those in front of the last one.
+    pub fn put_decimal(&mut self, number: usize)
+        requires { Room self.old (decimal number) }
+        ensures { Appended (decimal number) self.old self.new }
+    {
+        if 9 < number {
+            self.put_decimal(number / 10);
+        }
+        self.put_byte(48 + (number % 10) as u8);
+    }
+
+    // A space and a number.
+    pub fn put_number(&mut self, number: usize)
+        requires { Room self.old (32 ∷ decimal number) }
+        ensures { Appended (32 ∷ decimal number) self.old self.new }
+    {
+        self.put_byte(32);
+        self.put_decimal(number);
+    }
+
+    // Numbers, a space before each.
+    pub fn put_numbers(&mut self, numbers: &[u32])
+        requires { Room self.old (spaced numbers.now) }
+        ensures { Appended (spaced numbers.now) self.old self.new }
+    {
+        for number in numbers {
+            self.put_number(*number as usize);
+        }
+    }
+
+    // A line: a name, then numbers.
+    #[tactic(auto, using(crate::proofs::Lines::line_length))]
+    pub fn put_line(&mut self, name: &[u8], numbers: &[u32])
+        requires { Room self.old (line name.now numbers.now) }
+        ensures { Appended (line name.now numbers.now) self.old self.new }
+    {
+        self.put_bytes(name);
+        self.put_numbers(numbers);
+        self.put_byte(10);
+    }
+
+    // The text is at its end: zeros past it, and the answer.
+    pub fn finish(self) -> Answer
+        requires { (self.size ≤ length self.bytes.now) × (self.size < 4294967296) }
+        ensures value { result ≡ Done self.entry.size 0 0 }
+        ensures text_after { self.exit.0.now ≡ padded (length self.entry.bytes.now) (written self.entry) }
+    {
+        let Text { bytes, size } = self;
+        bytes[size..].fill(0);
+        Answer::Done(size as u32, 0, 0)
+    }
 }

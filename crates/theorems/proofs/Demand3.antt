@@ -7,8 +7,8 @@ use mathlib.Core.Logic.{inl, inr, ⊎_elim}
 use Prim.Native.Nat.{ℕ, ◌≤◌}
 use native.Mathlib.Omega.{arith}
 use lib.ListN.{length}
-use Rattle.rules.specs.declared.Check.{Check}
-use Rattle.rules.specs.declared.Check.TheVariants.{Passed, Fault}
+use Rattle.rules.specs.Answers.{Check}
+use Rattle.std.specs.declared.result.Result.TheVariants.{Ok, Err}
 use Rattle.rules.specs.Lists.{In}
 use Rattle.rules.specs.declared.Room.{Room}
 use Rattle.rules.specs.Words.{Input, game_length}
@@ -57,7 +57,7 @@ module _ (rank : Ranking) (x : Input) (r : Room) (k : ℕ) (game work : List ℕ
   vs = vertices_of rank x (walk_of x k)
 
   -- what fits the room fits the game slice
-  fits_slice : refusal x r (length game) (length work) ≡ Passed → exceeds r vs ≡ false
+  fits_slice : refusal x r (length game) (length work) ≡ Ok tt → exceeds r vs ≡ false
       → length (game_of 0 vs) ≤ length game
   unfolding game_length
   fits_slice e f =
@@ -74,9 +74,9 @@ module _ (rank : Ranking) (x : Input) (r : Room) (k : ℕ) (game work : List ℕ
   walk_cut = go (refusal x r (length game) (length work)) refl (exceeds r vs) refl
     where
       go : (c : Check) → refusal x r (length game) (length work) ≡ c → (t : Bool) → exceeds r vs ≡ t → Claim (run rank x r k game work)
-      go (Fault n p) e t f = subst Claim (sym (run_refused rank x r k game work n p e)) (λ z. absurd z)
-      go Passed e true f = subst Claim (sym (run-exceeds rank x r k game work e f)) (λ z. absurd z)
-      go Passed e false f =
+      go (Err g) e t f = subst Claim (sym (run_refused rank x r k game work g.number g.place e)) (λ z. absurd z)
+      go (Ok u) e true f = subst Claim (sym (run-exceeds rank x r k game work e f)) (λ z. absurd z)
+      go (Ok u) e false f =
           let good = accepted_words x r (length game) (length work) e in
           subst Claim (sym (run_fits rank x r k game work e f))
           (λ z. cut_theorem rank x k (facts x good k) (ordered x good k) game work

@@ -8,7 +8,8 @@ use Prim.Native.Nat.{ℕ, ◌+◌, ◌≤◌, ◌<◌}
 use native.Mathlib.Omega.{arith}
 use lib.ListN.{length, get_or}
 use Rattle.player.specs.Player.{player_index}
-use Rattle.rules.specs.declared.Check.TheVariants.{Passed, Fault}
+use Rattle.std.specs.declared.result.Result.TheVariants.{Ok}
+use Rattle.rules.specs.Answers.{fault}
 use Rattle.rules.specs.Lists.{In, position}
 use Rattle.rules.specs.declared.Room.{Room}
 use Rattle.rules.specs.Words.{Input}
@@ -41,7 +42,7 @@ settled_edges v n r h f e m = go r.edges m
         (λ z. absurd z) i
     go (x ∷ es) i = f e i
 
-module _ (rank : Ranking) (x : Input) (r : Room) (k : ℕ) (game work : List ℕ) (passed : refusal x r (length game) (length work) ≡ Passed) where
+module _ (rank : Ranking) (x : Input) (r : Room) (k : ℕ) (game work : List ℕ) (passed : refusal x r (length game) (length work) ≡ Ok tt) where
   abbrev st : Stand Pair
   st = walk_of x k
 
@@ -114,12 +115,12 @@ module _ (rank : Ranking) (x : Input) (r : Room) (k : ℕ) (game work : List ℕ
     light = let (a, b) = fits rank x r k game work fit in let (p, q, s, t) = accepted_room x r (length game) (length work) passed in omega arith
 
     -- no vertex waits: the run is done
-    pub done_passes : st.waiting ≡ [] → game_refusal (game_of 0 vs) ≡ Passed
+    pub done_passes : st.waiting ≡ [] → game_refusal (game_of 0 vs) ≡ Ok tt
     done_passes e = owned_passes vs waiting_vertex some few light edges_inside (λ v l. owner_at v l (λ m. subst (In v) e m))
 
     -- vertex u is the first that waits: the run is cut
     pub cut_refused : (u : ℕ) → u < length st.known → In u st.waiting → ((v : ℕ) → v < u → ¬ In v st.waiting)
-        → game_refusal (game_of 0 vs) ≡ Fault 53 (3 + u)
+        → game_refusal (game_of 0 vs) ≡ fault 53 (3 + u)
     unfolding waiting_vertex
     cut_refused u h w before =
         first_unowned vs waiting_vertex some few light edges_inside u (omega (arith, many)) (ap (λ (y : Vertex). y.owner) (waits_at u h w))

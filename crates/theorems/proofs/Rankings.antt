@@ -10,8 +10,8 @@ use lib.ListN.{length, get_or}
 use lib.Dec.{ltb}
 use Rattle.player.specs.declared.Player.{Player}
 use Rattle.rules.specs.declared.Answer.TheVariants.{Refused}
-use Rattle.rules.specs.declared.Check.{Check}
-use Rattle.rules.specs.declared.Check.TheVariants.{Passed, Fault}
+use Rattle.rules.specs.Answers.{Check}
+use Rattle.std.specs.declared.result.Result.TheVariants.{Ok, Err}
 use Rattle.rules.specs.Lists.{In}
 use Rattle.rules.specs.declared.Room.{Room}
 use Rattle.rules.specs.Words.{Input}
@@ -174,14 +174,14 @@ module _ (a b : Ranking) (x : Input) (r : Room) (k : ℕ) (game work : List ℕ)
       same o p q e f = let s = e ∙ sym f in record { answers = ap (λ (u : Outcome). u.answer) s; works = ap (λ (u : Outcome). u.work) s; games = inl (ap (λ (u : Outcome). u.game) s) }
 
       go : (c : Check) → refusal x r (length game) (length work) ≡ c → (t : Bool) → exceeds r va ≡ t → Claim (run a x r k game work) (run b x r k game work)
-      go (Fault n p) e t f =
+      go (Err g) e t f =
           same (run a x r k game work) (run b x r k game work)
-          (record { answer = Refused n p; game = game; work = work })
-          (run_refused a x r k game work n p e) (run_refused b x r k game work n p e)
-      go Passed e true f =
+          (record { answer = Refused g.number g.place; game = game; work = work })
+          (run_refused a x r k game work g.number g.place e) (run_refused b x r k game work g.number g.place e)
+      go (Ok u) e true f =
           same (run a x r k game work) (run b x r k game work) (out_of_room game work)
           (run-exceeds a x r k game work e f) (run-exceeds b x r k game work e (sym fits_alike ∙ f))
-      go Passed e false f =
+      go (Ok u) e false f =
           subst (λ (o : Outcome). Claim o (run b x r k game work)) (sym (run_fits a x r k game work e f))
           (subst (Claim (built_outcome st va game work)) (sym (run_fits b x r k game work e (sym fits_alike ∙ f)))
           (done f))

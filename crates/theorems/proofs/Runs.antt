@@ -9,7 +9,8 @@ use lib.ListN.{length}
 use lib.Dec.{ltb}
 use borrow.Author.Tests.{lt-ltb, ltb-true, ltb-false}
 use Rattle.rules.specs.declared.Answer.TheVariants.{Refused}
-use Rattle.rules.specs.declared.Check.TheVariants.{Passed, Fault}
+use Rattle.std.specs.declared.result.Result.TheVariants.{Ok}
+use Rattle.rules.specs.Answers.{fault}
 use Rattle.rules.specs.Lists.{zeros}
 use Rattle.rules.specs.declared.Room.{Room}
 use Rattle.rules.specs.Words.{Input}
@@ -59,16 +60,16 @@ module _ (rank : Ranking) (x : Input) (r : Room) (k : ℕ) (game work : List ℕ
 
   -- ---- one law for each way in which a run ends
 
-  pub run_refused : (n p : ℕ) → refusal x r (length game) (length work) ≡ Fault n p
+  pub run_refused : (n p : ℕ) → refusal x r (length game) (length work) ≡ fault n p
       → run rank x r k game work ≡ record { answer = Refused n p; game = game; work = work }
   unfolding run refused_or
   run_refused n p e = rw e refl
 
-  pub run-exceeds : refusal x r (length game) (length work) ≡ Passed → exceeds r vs ≡ true → run rank x r k game work ≡ out_of_room game work
+  pub run-exceeds : refusal x r (length game) (length work) ≡ Ok tt → exceeds r vs ≡ true → run rank x r k game work ≡ out_of_room game work
   unfolding run refused_or walk_outcome
   run-exceeds e h = rw (e, h) refl
 
-  pub run_fits : refusal x r (length game) (length work) ≡ Passed → exceeds r vs ≡ false → run rank x r k game work ≡ built_outcome st vs game work
+  pub run_fits : refusal x r (length game) (length work) ≡ Ok tt → exceeds r vs ≡ false → run rank x r k game work ≡ built_outcome st vs game work
   unfolding run refused_or walk_outcome
   run_fits e h = rw (e, h) refl
 
@@ -133,12 +134,12 @@ module _ (rank : Ranking) (x : Input) (r : Room) (k : ℕ) (game work : List ℕ
         accepted = λ z n. accepted ((exact_passed x r (length game) (length work)).1 z) n (exceeds r vs) refl;
       }
     where
-      full : refusal x r (length game) (length work) ≡ Passed → Exceeded x r k → (t : Bool) → exceeds r vs ≡ t
+      full : refusal x r (length game) (length work) ≡ Ok tt → Exceeded x r k → (t : Bool) → exceeds r vs ≡ t
           → (o.answer ≡ Refused 60 0) × (o.game ≡ zeros game) × (o.work ≡ zeros work)
       full e h true f = let q = run-exceeds e f in (ap (λ (u : Outcome). u.answer) q, ap (λ (u : Outcome). u.game) q, ap (λ (u : Outcome). u.work) q)
       full e h false f = absurd (not_exceeded f h)
 
-      accepted : refusal x r (length game) (length work) ≡ Passed → (¬ Exceeded x r k) → (t : Bool) → exceeds r vs ≡ t
+      accepted : refusal x r (length game) (length work) ≡ Ok tt → (¬ Exceeded x r k) → (t : Bool) → exceeds r vs ≡ t
           → Accepted o.answer × (o.work ≡ zeros work)
       accepted e n true f = absurd (n (exceeded f))
       accepted e n false f =

@@ -19,13 +19,11 @@ pub fn sample_transitions(system: &[u32], samples: &mut [u32])
 {
     let states = at(system, 0);
     let mut sum = 0;
-    let mut s = 0;
-    while s < states {
+    for s in 0..states {
         if s % STRIDE == 0 {
             samples[s / STRIDE] = sum as u32;
         }
         sum += at(system, 3 + s);
-        s += 1;
     }
 }
 
@@ -38,10 +36,8 @@ pub fn first_transition(system: &[u32], samples: &[u32], state: usize) -> usize
 {
     let sample = state / STRIDE;
     let mut first = samples[sample] as usize;
-    let mut s = sample * STRIDE;
-    while s < state {
+    for s in sample * STRIDE..state {
         first += at(system, 3 + s);
-        s += 1;
     }
     first
 }

@@ -1,6 +1,6 @@
 -- What each return of a run has to show: the answer and the two slices are those of the rules' run. Assumes nothing.
 use mathlib.Core.Path.{◌≡◌, refl, sym, ap, ◌∙◌, subst}
-use mathlib.Core.Bool.{Bool, true, false, true≢false}
+use mathlib.Core.Bool.{Bool, true, false, true≢false, false≢true}
 use mathlib.Core.List.{List, [], ◌∷◌}
 use mathlib.Core.Logic.{◌⊎◌, inl, inr}
 use Prim.Native.Nat.{ℕ, ◌+◌, ◌-◌, ◌≤◌, ◌<◌}
@@ -10,10 +10,16 @@ use lib.ListN.{length, replicate}
 use lib.Dec.{eqb}
 use Rattle.rules.specs.declared.Answer.{Answer}
 use Rattle.rules.specs.declared.Answer.TheVariants.{Done, Cut, Refused}
-use Rattle.rules.specs.declared.Check.TheVariants.{Passed, Fault}
+use Rattle.std.specs.declared.result.Result.TheVariants.{Ok, Err}
+use Rattle.std.specs.Result.{IsErr}
+use Rattle.rules.specs.declared.Fault.{Fault}
+use Rattle.rules.specs.Answers.{Check, fault}
+use Rattle.inputs.specs.Accepting.{checked}
+use Rattle.lent_input.specs.declared.Input.{Input as LentInput}
+use Rattle.lent_input.specs.Inputs.{input_in}
 use Rattle.rules.specs.Lists.{zeros, In}
 use Rattle.rules.specs.declared.Room.{Room}
-use Rattle.rules.specs.Words.{Input, room_of, game_length, work_length}
+use Rattle.rules.specs.Words.{Input, input_of, room_of, game_length, work_length}
 use Rattle.rules.specs.Answers.{said}
 use Rattle.rules.specs.Depth.{Ranking, by_depth}
 use Rattle.rules.specs.Walk.{Stand}
@@ -31,8 +37,8 @@ use Rattle.theorems.proofs.Demand3.{demand3}
 use Rattle.satisfaction.specs.Claims.{NoFalsePass}
 use Rattle.satisfaction.proofs.NoFalsePass.{no_false_pass}
 use Rattle.settling.specs.declared.Counters.{Counters}
-use Rattle.settling.specs.declared.Stepped.{Stepped}
-use Rattle.settling.specs.declared.Stepped.TheVariants.{Fits, Full}
+use Rattle.std.specs.Prelude.{Result}
+use Rattle.pairs.specs.declared.NoRoom.{NoRoom}
 use Rattle.settling.specs.Keys.{key_targets, key_behind, root_key}
 use Rattle.settling.specs.Made.{Sized}
 use Rattle.settling.specs.Good.{WalkMade, WalkAnswer, Exceeding}
@@ -63,12 +69,12 @@ some_wait (w ∷ ws) s n m z = refl
 
 -- a run that is not refused for its input looks only at the length of the work slice
 pub run-any_work : (rank : Ranking) (x : Input) (r : Room) (k : ℕ) (game work other : List ℕ)
-    → length work ≡ length other → refusal x r (length game) (length other) ≡ Passed
+    → length work ≡ length other → refusal x r (length game) (length other) ≡ Ok tt
     → run rank x r k game other ≡ run rank x r k game work
 unfolding zeros out_of_room built_outcome
 run-any_work rank x r k game work other e p = go (exceeds r (vertices_of rank x (walk_of x k))) refl
   where
-    q : refusal x r (length game) (length work) ≡ Passed
+    q : refusal x r (length game) (length work) ≡ Ok tt
     q = ap (refusal x r (length game)) e ∙ p
 
     same : zeros other ≡ zeros work
@@ -87,7 +93,7 @@ run-any_work rank x r k game work other e p = go (exceeds r (vertices_of rank x 
 
 -- refused
 pub refused_run : (rank : Ranking) (x : Input) (r : Room) (k : ℕ) (game work : List ℕ) (n p : ℕ)
-    → refusal x r (length game) (length work) ≡ Fault n p
+    → refusal x r (length game) (length work) ≡ fault n p
     → RunBy rank x r k game work (Refused n p) game work
 refused_run rank x r k game work n p e = sym (run_refused rank x r k game work n p e)
 
@@ -100,7 +106,7 @@ demands rank x r k game work a g w e = (
   subst (λ (o : Outcome). Demand3 rank x k o.answer o.game) (sym e) (demand3 rank x r k game work),
 )
 
-module _ (x : Input) (v e k : ℕ) (game work : List ℕ) (passed : refusal x (room_of v e) (length game) (length work) ≡ Passed) where
+module _ (x : Input) (v e k : ℕ) (game work : List ℕ) (passed : refusal x (room_of v e) (length game) (length work) ≡ Ok tt) where
   good : GoodInput x
   good = accepted_words x (room_of v e) (length game) (length work) passed
 
@@ -204,30 +210,30 @@ module _ (x : Input) (v e k : ℕ) (game work : List ℕ) (passed : refusal x (r
         (λ n. z (omega (arith, waiting_count x good k v e work c made))) ∙ same_answer) q s
 
 -- what the walk answered, written out, is the run by whatever ranking the priorities show
-module _ (x : Input) (r : Room) (k : ℕ) (game work : List ℕ) (passed : refusal x r (length game) (length work) ≡ Passed) where
+module _ (x : Input) (r : Room) (k : ℕ) (game work : List ℕ) (passed : refusal x r (length game) (length work) ≡ Ok tt) where
   abbrev v : ℕ
   v = r.vertices
 
   abbrev e : ℕ
   e = r.edges
 
-  pub writable : (walked : Stepped) → WalkAnswer (key_targets x) (key_behind x) (root_key x) v e k work walked
+  pub writable : (walked : Result Counters NoRoom) → WalkAnswer (key_targets x) (key_behind x) (root_key x) v e k work walked
       → Writable r (length game) work walked
-  writable (Fits c) made = showable x v e k game work passed c made
-  writable Full f = tt
+  writable (Ok c) made = showable x v e k game work passed c made
+  writable (Err x₀) f = tt
 
   pub wrote_out : (kinds lefts rights priorities : List ℕ) → ItemTable x kinds lefts rights
-      → (walked : Stepped) → WalkAnswer (key_targets x) (key_behind x) (root_key x) v e k work walked
+      → (walked : Result Counters NoRoom) → WalkAnswer (key_targets x) (key_behind x) (root_key x) v e k work walked
       → (a : Answer) (g w : List ℕ) → WroteOut kinds priorities r game work a g w walked
       → RunByRanks priorities x r k game work a g w
-  wrote_out kinds lefts rights priorities table (Fits c) made a g w o = λ rank ranks. go rank ranks (ℕ_discrete c.waiting 0)
+  wrote_out kinds lefts rights priorities table (Ok c) made a g w o = λ rank ranks. go rank ranks (ℕ_discrete c.waiting 0)
     where
       go : (rank : Ranking) → Ranks rank x priorities → Dec (c.waiting ≡ 0) → RunBy rank x r k game work a g w
       go rank ranks (yes z) =
           rw (o.done z) (done_run x v e k game work passed rank kinds lefts rights priorities table ranks c made g w z o.written o.cleared)
       go rank ranks (no z) =
           rw (o.cut z) (cut_run x v e k game work passed rank kinds lefts rights priorities table ranks c made g w z o.written o.cleared)
-  wrote_out kinds lefts rights priorities table Full f a g w o =
+  wrote_out kinds lefts rights priorities table (Err x₀) f a g w o =
       λ rank ranks. rw o.0 (full_run x v e k game work passed rank g w f o.1 o.2)
 
 -- by depth, with the answer's words, the demands that follow, and what a verdict on the game means
@@ -242,5 +248,26 @@ whole_run x r k game work a g w e =
     (e, (ap (λ (o : Outcome). said o.answer) e, (p, (q, means))))
 
 -- the work slice after the walk is as long as before
-pub walked_passed : (x : Input) (r : Room) (game work other : ℕ) → other ≡ work → refusal x r game work ≡ Passed → refusal x r game other ≡ Passed
+pub walked_passed : (x : Input) (r : Room) (game work other : ℕ) → other ≡ work → refusal x r game work ≡ Ok tt → refusal x r game other ≡ Ok tt
 walked_passed x r game work other e p = ap (refusal x r game) e ∙ p
+
+-- where a walk answers that there is no room
+pub walk_failed : (targets : ℕ → List ℕ) (behind : ℕ → ℕ → ℕ) (root v e k : ℕ) (w : List ℕ) (r : Result Counters NoRoom)
+    → IsErr r → Exceeding targets root v e (walk eqb targets root k) → WalkAnswer targets behind root v e k w r
+walk_failed targets behind root v e k w (Ok c) h f = absurd (false≢true h)
+walk_failed targets behind root v e k w (Err x₀) h f = f
+
+-- ---- what accepting the words says of them
+
+pub accepted_input : (r : Result LentInput Fault) (i : LentInput) (l s a f : List ℕ) → r ≡ Ok i
+    → ((j : LentInput) → r ≡ Ok j
+    → (j.labels.now ≡ l) × (j.system.now ≡ s) × (j.actions.now ≡ a) × (j.formula.now ≡ f))
+    → input_in i ≡ input_of l s a f
+accepted_input r i l s a f e same = let h = same i e in rw (h.0, h.1, h.2, h.3) refl
+
+pub accepted_check : (r : Result LentInput Fault) (i : LentInput) (c : Check) → checked r ≡ c → r ≡ Ok i → c ≡ Ok tt
+accepted_check r i c e g = sym e ∙ ap checked g
+
+pub refused_check : (r : Result LentInput Fault) (n : Fault) (c : Check) → checked r ≡ c → r ≡ Err n
+    → c ≡ fault n.number n.place
+refused_check r n c e g = sym e ∙ ap checked g

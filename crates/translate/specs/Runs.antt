@@ -1,4 +1,5 @@
 -- What the parts of a run promise one another. Assumes nothing: these are statements.
+use Rattle.match_table.specs.declared.MatchBytes.{MatchBytes}
 use Rattle.std.specs.Prelude.{◌≡◌, List, ℕ, ◌≤◌, length}
 use Rattle.rules.specs.declared.Answer.{Answer}
 use Rattle.rules.specs.declared.Answer.TheVariants.{Done, Cut, Refused}
@@ -9,25 +10,27 @@ use Rattle.rules.specs.Depth.{Ranking}
 use Rattle.rules.specs.Game.{game_of, padded}
 use Rattle.rules.specs.Run.{Outcome, run}
 use Rattle.settling.specs.declared.Counters.{Counters}
-use Rattle.settling.specs.declared.Stepped.{Stepped}
-use Rattle.settling.specs.declared.Stepped.TheVariants.{Fits, Full}
+use Rattle.std.specs.Prelude.{Result}
+use Rattle.std.specs.declared.result.Result.TheVariants.{Ok, Err}
+use Rattle.pairs.specs.declared.NoRoom.{NoRoom}
 use Rattle.game_writer.specs.Shown.{Showable, shown_vertices}
 use Rattle.item_table.specs.Entries.{Ranks}
-use Rattle.compiled.specs.Stretches.{classes_in}
+use Rattle.compiled.specs.declared.Compiled.{Compiled}
+use Rattle.compiled.specs.Tables.{classes_in}
 use Rattle.labels.specs.Classes.{Classes}
 use Rattle.match_table.specs.Rows.{MatchTable}
-use Rattle.stepping.specs.Tables.{Tables}
+use Rattle.modalities.specs.Tables.{Tables}
 
 -- the input is compiled: with any table of its matching labels these are the tables that the walk asks for
-pub record Prepared (x : Input) (compiled : List ℕ) (items : ℕ) : Type 0 where
+pub record Prepared (x : Input) (compiled : Compiled) (items : ℕ) : Type 0 where
   pub multisets : Classes x.labels (classes_in compiled)
   pub few : items ≤ 2048
-  pub tables : (matched : List ℕ) → MatchTable x.labels x.actions matched → Tables x compiled matched
+  pub tables : (matched : MatchBytes) → MatchTable x.labels x.actions matched → Tables x compiled matched
 
 -- the game of the walk can be written out, where there was room for it
-abbrev pub Writable : Room → (size : ℕ) → List ℕ → Stepped → Type 0
-Writable r size work (Fits c) = Showable work r.vertices r.edges c.known c.edges size
-Writable r size work Full = Unit
+abbrev pub Writable : Room → (size : ℕ) → List ℕ → Result Counters NoRoom → Type 0
+Writable r size work (Ok c) = Showable work r.vertices r.edges c.known c.edges size
+Writable r size work (Err e) = Unit
 
 -- what is left of a walk that there was room for: its answer says whether a vertex waits
 pub record Wrote (kinds priorities : List ℕ) (r : Room) (game work : List ℕ) (a : Answer) (game' work' : List ℕ)
@@ -39,9 +42,9 @@ pub record Wrote (kinds priorities : List ℕ) (r : Room) (game work : List ℕ)
   pub cleared : work' ≡ zeros work
 
 abbrev pub WroteOut : (kinds priorities : List ℕ) (r : Room) (game work : List ℕ) → Answer → (game' work' : List ℕ)
-    → Stepped → Type 0
-WroteOut kinds priorities r game work a game' work' (Fits c) = Wrote kinds priorities r game work a game' work' c
-WroteOut kinds priorities r game work a game' work' Full =
+    → Result Counters NoRoom → Type 0
+WroteOut kinds priorities r game work a game' work' (Ok c) = Wrote kinds priorities r game work a game' work' c
+WroteOut kinds priorities r game work a game' work' (Err e) =
     (a ≡ Refused 60 0) × (game' ≡ zeros game) × (work' ≡ zeros work)
 
 -- the answer and both slices afterwards are those of the rules' run by this ranking

@@ -3,57 +3,44 @@
 #![tactic(auto)]
 
 ghost use Rattle.std.specs.Prelude.{◌≡◌, length};
-ghost use Rattle.rules.specs.declared.Check.TheVariants.{Passed};
-ghost use Rattle.rules.specs.Words.{Input, input_of, room_of};
+ghost use Rattle.std.specs.declared.result.Result.TheVariants.{Ok};
+ghost use Rattle.rules.specs.Words.{input_of, room_of};
 ghost use Rattle.rules.specs.Answers.{said};
 ghost use Rattle.rules.specs.Depth.{by_depth};
 ghost use Rattle.rules.specs.Refusal.{refusal};
 ghost use Rattle.rules.specs.Run.{Outcome, run};
 ghost use Rattle.rules.specs.Demands.{Demand1, Demand3};
 ghost use Rattle.satisfaction.specs.Claims.{NoFalsePass};
-ghost use Rattle.compiled.specs.Stretches.{kinds_in, priorities_in};
+ghost use Rattle.compiled.specs.Tables.{kinds_in, priorities_in};
+ghost use Rattle.lent_input.specs.Inputs.{input_in};
 ghost use Rattle.settling.specs.Keys.{key_targets, key_behind, root_key};
 ghost use Rattle.settling.specs.Made.{Sized};
 ghost use Rattle.settling.specs.Good.{WalkAnswer};
-ghost use Rattle.stepping.specs.Tables.{Tables};
 ghost use Rattle.translate.specs.Runs.{Prepared, Writable, WroteOut, RunBy, RunByRanks};
 
-use compiled::{Compiled, WORDS};
-use match_table::{MATCHED, MatchBytes};
-use rules::{Answer, Check, Room};
-use settling::Stepped;
+use compiled::Compiled;
+use lent_input::Input;
+use match_table::{ActionWords, MatchBytes};
+use modalities::WalkTables;
+use pairs::NoRoom;
+use rules::{Answer, Room};
+use settling::Counters;
 use stepping::Bounds;
 
 // The walk of at most `bounds.limit` steps, whatever the work words hold.
-fn explore(
-    compiled: &Compiled,
-    work: &mut [u32],
-    bounds: Bounds,
-    labels: &[u32],
-    system: &[u32],
-    actions: &[u32],
-    formula: &[u32],
-    matched: &MatchBytes,
-) -> Stepped
-    requires tables { let x = input_of labels.now system.now actions.now formula.now in
-        Tables x compiled.now matched.now }
-    requires sized { Sized work.old bounds.room.vertices bounds.room.edges }
-    ensures { let x = input_of labels.now system.now actions.now formula.now in
+fn explore(tables: &WalkTables<'_>, work: &mut [u32], bounds: Bounds) -> Result<Counters, NoRoom>
+    requires { Sized work.old bounds.room.vertices bounds.room.edges }
+    ensures { let x = input_in tables.now.input in
         WalkAnswer (key_targets x) (key_behind x) (root_key x) bounds.room.vertices bounds.room.edges
         bounds.limit work.new result }
 {
-    let room = bounds.room;
-    match stepping::begin(compiled, work, room, labels, system, actions, formula) {
-        Stepped::Fits(counters) => stepping::walk(
-            counters, compiled, work, bounds, labels, system, actions, formula, matched,
-        ),
-        Stepped::Full => Stepped::Full,
-    }
+    let begun = stepping::begin(&tables.input, tables.multiples(), work, bounds.room)?;
+    stepping::walk(begun, tables, work, bounds)
 }
 
 // The walk's game is written out and the work slice cleared, or both are cleared where there was no room.
 fn write_out(
-    walked: Stepped,
+    walked: Result<Counters, NoRoom>,
     compiled: &Compiled,
     room: Room,
     game: &mut [u32],
@@ -64,7 +51,7 @@ fn write_out(
         game.old work.old result game.new work.new walked }
 {
     match walked {
-        Stepped::Fits(counters) => {
+        Ok(counters) => {
             let known = counters.known;
             let edges = counters.edges;
             game_writer::write_game(game, work, compiled, room, known, edges);
@@ -74,7 +61,7 @@ fn write_out(
             }
             Answer::Cut(counters.settled, known, edges)
         }
-        Stepped::Full => {
+        Err(NoRoom) => {
             words::clear(game);
             words::clear(work);
             Answer::Refused(60, 0)
@@ -85,54 +72,43 @@ fn write_out(
 // The walk over the tables, and its game by whatever ranking the priorities show. The table of matching labels is made
 // here: what the compiler worked in has left the stack by now.
 fn build_game(
+    input: &Input<'_>,
     compiled: &Compiled,
     items: usize,
     bounds: Bounds,
-    labels: &[u32],
-    system: &[u32],
-    actions: &[u32],
-    formula: &[u32],
     game: &mut [u32],
     work: &mut [u32],
 ) -> Answer
-    requires prepared { let x = input_of labels.now system.now actions.now formula.now in
-        Prepared x compiled.now items }
-    requires work_value { let x = input_of labels.now system.now actions.now formula.now in
-        refusal x bounds.room (length game.old) (length work.old) ≡ Passed }
-    ensures { let x = input_of labels.now system.now actions.now formula.now in
-        RunByRanks (priorities_in compiled.now) x bounds.room bounds.limit
+    requires prepared { Prepared (input_in input.now) compiled.now items }
+    requires accepted { refusal (input_in input.now) bounds.room (length game.old) (length work.old) ≡ Ok tt }
+    ensures { RunByRanks (priorities_in compiled.now) (input_in input.now) bounds.room bounds.limit
         game.old work.old result game.new work.new }
 {
-    let mut matched = [0u8; MATCHED];
-    match_table::make_match_table(labels, actions, compiled, items, &mut matched);
-    let walked = explore(
-        compiled, work, bounds, labels, system, actions, formula, &matched,
-    );
+    let mut matched = MatchBytes::blank();
+    let words = ActionWords {
+        labels: input.labels,
+        actions: input.actions,
+    };
+    match_table::make_match_table(&words, compiled, items, &mut matched);
+    let tables = WalkTables {
+        input: *input,
+        compiled,
+        matched: &matched,
+    };
+    let walked = explore(&tables, work, bounds);
     write_out(walked, compiled, bounds.room, game, work)
 }
 
 // An accepted input is compiled, with the priorities by depth, and its game is built.
-fn build(
-    labels: &[u32],
-    system: &[u32],
-    actions: &[u32],
-    formula: &[u32],
-    bounds: Bounds,
-    game: &mut [u32],
-    work: &mut [u32],
-) -> Answer
-    requires { let x = input_of labels.now system.now actions.now formula.now in
-        refusal x bounds.room (length game.old) (length work.old) ≡ Passed }
-    ensures { let x = input_of labels.now system.now actions.now formula.now in
-        RunBy by_depth x bounds.room bounds.limit
+fn build(input: &Input<'_>, bounds: Bounds, game: &mut [u32], work: &mut [u32]) -> Answer
+    requires { refusal (input_in input.now) bounds.room (length game.old) (length work.old) ≡ Ok tt }
+    ensures { RunBy by_depth (input_in input.now) bounds.room bounds.limit
         game.old work.old result game.new work.new }
 {
-    let mut compiled = [0u32; WORDS];
-    model_tables::write_model_tables(labels, system, &mut compiled);
-    let items = item_table::compile(labels, system, actions, formula, &mut compiled);
-    build_game(
-        &compiled, items, bounds, labels, system, actions, formula, game, work,
-    )
+    let mut compiled = Compiled::blank();
+    model_tables::write_model_tables(input.labels, input.system, &mut compiled);
+    let items = item_table::compile(input, &mut compiled);
+    build_game(input, &compiled, items, bounds, game, work)
 }
 
 // Builds the parity game of a model and a formula: document 01's run. The words handed over are `labels`, `system`,
@@ -171,9 +147,16 @@ pub fn translate(
 {
     let room = Room { vertices, edges };
     let bounds = Bounds { room, limit };
-    let lent = game.len();
-    match inputs::check(labels, system, actions, formula, room, lent, work.len()) {
-        Check::Fault(number, place) => Answer::Refused(number, place),
-        Check::Passed => build(labels, system, actions, formula, bounds, game, work),
+    match inputs::accept(
+        labels,
+        system,
+        actions,
+        formula,
+        room,
+        game.len(),
+        work.len(),
+    ) {
+        Ok(input) => build(&input, bounds, game, work),
+        Err(fault) => Answer::from(fault),
     }
 }

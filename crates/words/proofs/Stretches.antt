@@ -6,7 +6,8 @@ use Prim.Native.Nat.{ℕ, suc, ◌+◌, ◌-◌, ◌≤◌, ◌<◌}
 use native.Mathlib.Numerals.{add-one}
 use native.Mathlib.Omega.{arith}
 use lib.ListN.{length, take, drop, set, replicate, length-append, length-set, length-take, length-map, drop_of_length-le}
-use lib.Seq.{take-suc-set, drop-set-lt, slice, slice-cons, take_all, length-slice, length-take-le}
+use lib.Seq.{take-suc-set, drop-set-lt, drop-drop, slice, slice-cons, take_all, take_at, drop_at, length-slice, length-take-le}
+use borrow.Rule.Slice.PartMut.{put_mid}
 use Rattle.rules.specs.Lists.{word, zeros}
 use Rattle.words.specs.Stretches.{Wrote}
 use Rattle.words.proofs.Regions.{same_later}
@@ -130,3 +131,18 @@ copy_done xs q e h w =
     let l : length (take e xs) ≤ q = omega (arith, length-take e xs) in
     let m : slice q e xs ≡ [] = drop_of_length-le (take e xs) l in
     done (turn m w)
+
+-- a part of a slice is lent, and comes back with a stretch of another list
+pub lent_back : (at from e : ℕ) (src out ys : List ℕ) → from ≤ e → e ≤ length src → at + (e - from) ≤ length out → ys ≡ slice from e src
+    → Wrote at (slice from e src) out (put_mid at (at + (e - from) - at) out ys) (at + (e - from))
+lent_back at from e src out ys h k l y =
+    let long : length ys ≡ e - from = ap length y ∙ length-slice from e src k in
+    let n : at + (e - from) - at ≡ e - from = omega arith in
+    let front : length (take at out ++ ys) ≡ at + (e - from) = length-append (take at out) ys ∙ omega (arith, length-take-le at out (omega arith), long) in
+    let whole : put_mid at (at + (e - from) - at) out ys ≡ (take at out ++ ys) ++ drop (e - from) (drop at out) =
+    rw n (sym (append_assoc (take at out) ys (drop (e - from) (drop at out)))) in
+    record {
+      past = omega (arith, length-slice from e src k);
+      words = rw whole (take_at (take at out ++ ys) (drop (e - from) (drop at out)) (at + (e - from)) front ∙ ap (λ z. take at out ++ z) y);
+      rest = rw whole (drop_at (take at out ++ ys) (drop (e - from) (drop at out)) (at + (e - from)) front ∙ drop-drop (e - from) at out);
+    }

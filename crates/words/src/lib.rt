@@ -90,18 +90,14 @@ pub fn fill(ws: &mut [u32], from: usize, value: u32)
     ensures { ws.new ≡ take from ws.old
         ++ replicate (length ws.old - from) value }
 {
-    let mut place = from;
-    while place < ws.len() {
-        ws[place] = value;
-        place += 1;
-    }
+    ws[from..].fill(value);
 }
 
 // All words become 0.
 pub fn clear(ws: &mut [u32])
     ensures { ws.new ≡ zeros ws.old }
 {
-    fill(ws, 0, 0);
+    ws.fill(0);
 }
 
 // The words of src from `from` up to `end` are appended.
@@ -109,14 +105,9 @@ pub fn copy(src: &[u32], from: usize, end: usize, out: &mut [u32], start: usize)
     requires { (from ≤ end) × (end ≤ length src.now) × (start + (end - from) ≤ length out.old) }
     ensures { Wrote start (slice from end src.now) out.old out.new result }
 {
-    let mut index = from;
-    let mut place = start;
-    while index < end {
-        out[place] = src[index];
-        place += 1;
-        index += 1;
-    }
-    place
+    let past = start + (end - from);
+    out[start..past].copy_from_slice(&src[from..end]);
+    past
 }
 
 // For each of the first `count` numbers that `numbers` holds, in order, the word that src has for it in the array at
@@ -134,33 +125,23 @@ pub fn carry(
     ensures { Wrote start (map (λ n. word src.now (base + n)) (take count numbers.now))
         out.old out.new result }
 {
-    let mut i = 0;
-    let mut place = start;
-    while i < count {
-        let number = at(numbers, i);
-        out[place] = src[base + number];
-        place += 1;
-        i += 1;
+    for i in 0..count {
+        out[start + i] = src[base + at(numbers, i)];
     }
-    place
+    start + count
 }
 
 // ---- words in bytes
-
-fn wide(byte: u8) -> u32
-    ensures { (result ≡ byte) × (result < 256) }
-{
-    byte as u32
-}
 
 // The word whose four bytes begin at a place, the lowest byte first.
 pub fn word_at(bytes: &[u8], place: usize) -> u32
     requires { place + 4 ≤ length bytes.now }
     ensures { result ≡ word_at bytes.now place }
 {
-    let first = wide(bytes[place]);
-    let second = wide(bytes[place + 1]);
-    let third = wide(bytes[place + 2]);
-    let fourth = wide(bytes[place + 3]);
-    first + 256 * (second + 256 * (third + 256 * fourth))
+    u32::from_le_bytes([
+        bytes[place],
+        bytes[place + 1],
+        bytes[place + 2],
+        bytes[place + 3],
+    ])
 }

@@ -7,7 +7,7 @@ use Prim.Native.Nat.{ℕ, zero, suc, ◌+◌, ◌-◌, ◌≤◌, ◌<◌}
 use native.Mathlib.Decide.{dec_lt}
 use native.Mathlib.Omega.{arith}
 use borrow.Author.Tests.{eqb-true}
-use Rattle.rules.specs.declared.Check.TheVariants.{Passed}
+use Rattle.std.specs.declared.result.Result.TheVariants.{Ok}
 use Rattle.rules.specs.Labels.{label_count}
 use Rattle.rules.specs.Answers.{fault_if}
 use Rattle.rules.specs.Table.{size, kind, operand, ActionNode, true_node, false_node, multi_action_node, union_node, intersection_node, negation_node, no_action_node, decode_action}
@@ -40,7 +40,7 @@ pub record RowFrom (labels : ℕ) (acts : List ℕ) (v e : ℕ) : Type 0 where
   pub ends : v + row_size row ≡ e
   pub holds : Holds (write_row row v) acts v
 
-module _ (ls acts : List ℕ) (r33 : refusal33 acts ≡ Passed) (r34 : refusal34 ls acts ≡ Passed) where
+module _ (ls acts : List ℕ) (r33 : refusal33 acts ≡ Ok tt) (r34 : refusal34 ls acts ≡ Ok tt) where
   right_operand : (v : ℕ) → v < size acts → bad_action_operand ls acts v ≡ false
   unfolding refusal34
   right_operand v h =

@@ -8,7 +8,7 @@ use native.Mathlib.Omega.{arith}
 use lib.ListN.{length, get_or}
 use lib.Dec.{eqb, ltb}
 use borrow.Author.Tests.{eq-eqb, ne_eqb, le-ltb}
-use Rattle.rules.specs.declared.Check.TheVariants.{Passed}
+use Rattle.std.specs.declared.result.Result.TheVariants.{Ok}
 use Rattle.rules.specs.Words.{most_nodes}
 use Rattle.rules.specs.Labels.{label_count}
 use Rattle.rules.specs.Answers.{fault_if}
@@ -72,11 +72,11 @@ module _ (row : List ActionSyntax) where
         let b = row_words_size in
         row_fine (row_words row) ls row 0 row_words_hold (omega arith) fits.below v (omega arith) (omega arith)
 
-    passes_33 : refusal33 (row_words row) ≡ Passed
+    passes_33 : refusal33 (row_words row) ≡ Ok tt
     unfolding refusal33
     passes_33 = from_none 33 0 (size (row_words row)) (λ v. ltb 5 (kind (row_words row) v)) (λ v a b. le-ltb 5 (kind (row_words row) v) (row_passes v b).0)
 
-    passes_34 : refusal34 ls (row_words row) ≡ Passed
+    passes_34 : refusal34 ls (row_words row) ≡ Ok tt
     unfolding refusal34
     passes_34 =
         lower_passed (fault_if 34 (size (row_words row)) (not (on_row (action_children (row_words row)) (size (row_words row)) (size (row_words row)))))

@@ -11,7 +11,7 @@ use native.Mathlib.Omega.{arith}
 use lib.ListN.{length, get_or}
 use lib.Dec.{eqb, ltb}
 use borrow.Author.Tests.{ltb-true, lt-ltb, le-ltb}
-use Rattle.rules.specs.declared.Check.TheVariants.{Passed}
+use Rattle.std.specs.declared.result.Result.TheVariants.{Ok}
 use Rattle.rules.specs.Lists.{In, position}
 use Rattle.rules.specs.Table.{size, kind, operand, FormulaNode, truth_node, falsity_node, and_node, or_node, box_node, diamond_node, least_node, greatest_node, reference_node, no_formula_node, decode_formula}
 use Rattle.rules.specs.Table.{formula_node, formula_children, tree_end, is_before_end}
@@ -88,8 +88,8 @@ module _ (f : List ℕ) where
           let i = before_end r x _ q b in
           absurd (omega arith)
 
-module _ (row : List ActionSyntax) (f : List ℕ) (r43 : refusal43 f ≡ Passed)
-    (r44 : refusal44 (names_no_tree (row_words row)) f ≡ Passed) (r45 : refusal45 f ≡ Passed) where
+module _ (row : List ActionSyntax) (f : List ℕ) (r43 : refusal43 f ≡ Ok tt)
+    (r44 : refusal44 (names_no_tree (row_words row)) f ≡ Ok tt) (r45 : refusal45 f ≡ Ok tt) where
   right_operand : (v : ℕ) → v < size f → bad_formula_operand (names_no_tree (row_words row)) f v ≡ false
   unfolding refusal44
   right_operand v h =

@@ -8,8 +8,8 @@ use native.Mathlib.Omega.{arith}
 use lib.ListN.{length}
 use lib.Dec.{ltb}
 use borrow.Author.Tests.{le-ltb, lt-leb}
-use Rattle.rules.specs.declared.Check.{Check}
-use Rattle.rules.specs.declared.Check.TheVariants.{Passed}
+use Rattle.rules.specs.Answers.{Check}
+use Rattle.std.specs.declared.result.Result.TheVariants.{Ok}
 use Rattle.rules.specs.Words.{Input, input_of, most_nodes}
 use Rattle.rules.specs.Answers.{first_fault}
 use Rattle.rules.specs.Labels.{label_count}
@@ -61,7 +61,7 @@ module _ (row : List ActionSyntax) (t : FormulaSyntax) where
         (omega arith) fits.closed (λ i l. absurd (omega arith)) v
         (omega arith) (omega arith)
 
-    passes_42 : refusal42 (formula_words row t) ≡ Passed
+    passes_42 : refusal42 (formula_words row t) ≡ Ok tt
     unfolding refusal42 outside
     passes_42 =
         let a = formula_some t in
@@ -69,12 +69,12 @@ module _ (row : List ActionSyntax) (t : FormulaSyntax) where
         let c = fits.few in
         if-false 42 0 (rw (le-ltb (size (formula_words row t)) 1 (omega arith), le-ltb most_nodes (size (formula_words row t)) (omega arith)) refl)
 
-    passes_43 : refusal43 (formula_words row t) ≡ Passed
+    passes_43 : refusal43 (formula_words row t) ≡ Ok tt
     unfolding refusal43
     passes_43 =
         from_none 43 0 (size (formula_words row t)) (λ v. ltb 8 (kind (formula_words row t) v)) (λ v a b. le-ltb 8 (kind (formula_words row t) v) (formula_passes v b).0)
 
-    passes_44 : refusal44 (names_no_tree (row_words row)) (formula_words row t) ≡ Passed
+    passes_44 : refusal44 (names_no_tree (row_words row)) (formula_words row t) ≡ Ok tt
     unfolding refusal44 wrong_end
     passes_44 =
         let b = formula_words_size in
@@ -84,7 +84,7 @@ module _ (row : List ActionSyntax) (t : FormulaSyntax) where
         ∙ ap (wrong_end (size (formula_words row t))) (formula_ends row (formula_words row t) t [] 0 formula_words_hold (omega arith))
         ∙ if-false 44 (0 + formula_size t) (le-ltb (0 + formula_size t) (size (formula_words row t)) (omega arith))
 
-    passes_45 : refusal45 (formula_words row t) ≡ Passed
+    passes_45 : refusal45 (formula_words row t) ≡ Ok tt
     unfolding refusal45
     passes_45 =
         from_none 45 0 (size (formula_words row t))
@@ -168,18 +168,18 @@ one_formula row t u fits other e =
     formula_same row t u (formula_words row t) (formula_words_hold row t)
     (subst (λ (ws : List ℕ). Holds (write_formula row u [] 0) ws 0) (sym e) (formula_words_hold row u)) fits.closed other.closed
 
-both_pass : (cs ds : List Check) → first_fault cs ≡ Passed → first_fault ds ≡ Passed → first_fault (cs ++ ds) ≡ Passed
+both_pass : (cs ds : List Check) → first_fault cs ≡ Ok tt → first_fault ds ≡ Ok tt → first_fault (cs ++ ds) ≡ Ok tt
 unfolding first_fault
 both_pass [] ds p q = q
 both_pass (c ∷ cs) ds p q =
     let (a, b) = then_both c (first_fault cs) p in
     then_passed (first_fault (cs ++ ds)) a ∙ both_pass cs ds b q
 
-pass_more : (c : Check) (cs : List Check) → c ≡ Passed → first_fault cs ≡ Passed → first_fault (c ∷ cs) ≡ Passed
+pass_more : (c : Check) (cs : List Check) → c ≡ Ok tt → first_fault cs ≡ Ok tt → first_fault (c ∷ cs) ≡ Ok tt
 pass_more c cs p q = first_next cs p ∙ q
 
 -- what is written is not refused, unless for its labels or its system
-pub written_input_accepted : (x : Input) → first_fault (label_and_system_checks x) ≡ Passed → Written x → input_refusal x ≡ Passed
+pub written_input_accepted : (x : Input) → first_fault (label_and_system_checks x) ≡ Ok tt → Written x → input_refusal x ≡ Ok tt
 unfolding input_refusal
 written_input_accepted x h w =
     let a : ActionsAccepted x.labels x.actions =
@@ -197,7 +197,7 @@ written_input_accepted x h w =
 
 -- every input that is not refused is written: its words are those of a row and a closed formula, and the run goes by
 -- their equations
-pub accepted_input_is_written : (x : Input) → input_refusal x ≡ Passed → Written x
+pub accepted_input_is_written : (x : Input) → input_refusal x ≡ Ok tt → Written x
 unfolding input_refusal
 accepted_input_is_written x h =
     let (row, fits, e) = accepted_words_are_a_row x.labels x.actions

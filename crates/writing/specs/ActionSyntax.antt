@@ -2,7 +2,7 @@
 -- table is a row of complete trees. A first child is the next node; the operand of 3 and 4 is the right child, just
 -- past the left child's tree"). Assumes nothing: these are definitions.
 use Rattle.std.specs.Prelude.{◌≡◌, List, [], ◌∷◌, ◌++◌, ℕ, zero, suc, ◌+◌, ◌≤◌, ◌<◌}
-use Rattle.rules.specs.declared.Check.TheVariants.{Passed}
+use Rattle.std.specs.declared.result.Result.TheVariants.{Ok}
 use Rattle.rules.specs.Words.{most_nodes}
 use Rattle.rules.specs.Labels.{multiset}
 use Rattle.rules.specs.Actions.{Action, any_action, never_action, multi_action, union, intersection, negation}
@@ -76,10 +76,10 @@ pub record RowFits (labels : ℕ) (row : List ActionSyntax) : Type 0 where
 
 -- the words of the action formulas are not refused, given those of the labels
 pub record ActionsAccepted (ls acts : List ℕ) : Type 0 where
-  pub long : refusal31 acts ≡ Passed
-  pub few : refusal32 acts ≡ Passed
-  pub kinds : refusal33 acts ≡ Passed
-  pub operands : refusal34 ls acts ≡ Passed
+  pub long : refusal31 acts ≡ Ok tt
+  pub few : refusal32 acts ≡ Ok tt
+  pub kinds : refusal33 acts ≡ Ok tt
+  pub operands : refusal34 ls acts ≡ Ok tt
 
 -- the tree that a run goes by: a label stands for its multiset
 unfoldable pub read_action : List ℕ → ActionSyntax → Action

@@ -1,8 +1,8 @@
 -- Formulas as plain syntax trees, written as words, and the equations that they stand for (document 01, "Words handed
 -- over": "one tree in the same order", and "Equations"). Assumes nothing: these are definitions.
 use Rattle.std.specs.Prelude.{◌≡◌, Bool, true, false, cond, List, [], ◌∷◌, ◌++◌, map, ℕ, suc, ◌+◌, ◌≤◌, ◌<◌, length, get_or}
-use Rattle.rules.specs.declared.Check.{Check}
-use Rattle.rules.specs.declared.Check.TheVariants.{Passed}
+use Rattle.rules.specs.Answers.{Check}
+use Rattle.std.specs.declared.result.Result.TheVariants.{Ok}
 use Rattle.rules.specs.Words.{Input, most_nodes}
 use Rattle.rules.specs.Labels.{label_count}
 use Rattle.rules.specs.Actions.{Action}
@@ -76,11 +76,11 @@ pub record FormulaFits (trees : ℕ) (f : FormulaSyntax) : Type 0 where
 
 -- the words of the formula are not refused, given those of the action formulas
 pub record FormulaAccepted (acts f : List ℕ) : Type 0 where
-  pub long : refusal41 f ≡ Passed
-  pub few : refusal42 f ≡ Passed
-  pub kinds : refusal43 f ≡ Passed
-  pub operands : refusal44 (names_no_tree acts) f ≡ Passed
-  pub references : refusal45 f ≡ Passed
+  pub long : refusal41 f ≡ Ok tt
+  pub few : refusal42 f ≡ Ok tt
+  pub kinds : refusal43 f ≡ Ok tt
+  pub operands : refusal44 (names_no_tree acts) f ≡ Ok tt
+  pub references : refusal45 f ≡ Ok tt
 
 -- how many fixpoints stand in it
 unfoldable pub fixpoints : FormulaSyntax → ℕ

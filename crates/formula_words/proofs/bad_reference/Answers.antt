@@ -1,33 +1,26 @@
 use native.Mathlib.Omega.{arith}
-use Rattle.formula_words.proofs.References.{no_reference, later, low, high, broken, whole}
+use mathlib.Core.Path.{sym, ap, ◌∙◌}
+use mathlib.Core.Bool.{not}
+use Rattle.formula_words.proofs.References.{no_reference, inside_after, refers_outside, refers_inside}
 use Rattle.formula_words.proofs.bad_reference.Goals as goal
 
-pub returns-then-kind_at-ne8 : goal.returns-then-kind_at-ne8
-returns-then-kind_at-ne8 c = no_reference _ _ _ c.requires.1 c.kind_at.ensures c.if-kind_at-ne8.true
+pub returns-then-not-is_reference : goal.returns-then-not-is_reference
+returns-then-not-is_reference c =
+    no_reference c.args.trees.now.words.now c.args.node c.requires (sym c.is_reference.ensures ∙ c.if-not-is_reference.true)
 
-pub returns-then-node-fixpoint : goal.returns-then-node-fixpoint
-returns-then-node-fixpoint c =
-    later _ _ _ c.requires.1 c.kind_at.ensures c.if-kind_at-ne8.false _ c.operand_at-fixpoint.ensures
-    c.if-node-fixpoint.true
+pub returns-then-not-encloses : goal.returns-then-not-encloses
+returns-then-not-encloses c =
+    refers_outside c.args.trees.now.words.now c.args.node c.requires (sym c.is_reference.ensures ∙ c.if-not-is_reference.false)
+    c.operand_at-named.ensures (sym c.encloses.ensures ∙ c.if-not-encloses.true)
 
-pub returns-then-kind-lt6 : goal.returns-then-kind-lt6
-returns-then-kind-lt6 c =
-    low _ _ _ c.requires.1 c.kind_at.ensures c.if-kind_at-ne8.false _ c.operand_at-fixpoint.ensures
-    c.if-node-fixpoint.false _ c.kind_at-kind.ensures c.if-kind-lt6.true
-
-pub returns-then-kind-gt7 : goal.returns-then-kind-gt7
-returns-then-kind-gt7 c =
-    high _ _ _ c.requires.1 c.kind_at.ensures c.if-kind_at-ne8.false _ c.operand_at-fixpoint.ensures
-    c.if-node-fixpoint.false _ c.kind_at-kind.ensures c.if-kind-gt7.true
-
-pub returns-then-at-end : goal.returns-then-at-end
-returns-then-at-end c =
-    broken _ _ _ c.requires.1 c.kind_at.ensures c.if-kind_at-ne8.false _ c.operand_at-fixpoint.ensures
-    c.if-node-fixpoint.false _ c.kind_at-kind.ensures c.if-kind-lt6.false c.if-kind-gt7.false _ _
-    c.at.ensures.0 (c.requires.2 c.operand_at-fixpoint.result (omega arith)) c.if-at-end.true
+pub is_fixpoint-requires : goal.is_fixpoint-requires
+is_fixpoint-requires c =
+    let f = c.args.trees.now.words.now in
+    let before = inside_after f c.operand_at-named.result c.args.node (sym c.encloses.ensures ∙ c.if-not-encloses.false) in
+    (c.args.trees.now.sized, omega (arith, before, c.requires))
 
 pub returns : goal.returns
 returns c =
-    whole _ _ _ c.requires.1 c.kind_at.ensures c.if-kind_at-ne8.false _ c.operand_at-fixpoint.ensures
-    c.if-node-fixpoint.false _ c.kind_at-kind.ensures c.if-kind-lt6.false c.if-kind-gt7.false _ _
-    c.at.ensures.0 (c.requires.2 c.operand_at-fixpoint.result (omega arith)) c.if-at-end.false
+    ap not c.is_fixpoint.ensures
+    ∙ refers_inside c.args.trees.now.words.now c.args.node c.requires (sym c.is_reference.ensures ∙ c.if-not-is_reference.false)
+    c.operand_at-named.ensures (sym c.encloses.ensures ∙ c.if-not-encloses.false)

@@ -1,7 +1,8 @@
-use Prim.Native.Nat.{ℕ, suc, ◌-◌, ◌≤◌}
-use mathlib.Core.List.{List, map}
-use Rattle.rules.specs.Lists.{word, from}
-use Rattle.words.proofs.Stretches.{Writing}
+-- The words that are appended stand below `past`.
+use Prim.Native.Nat.{ℕ, suc, ◌-◌}
+use mathlib.Core.List.{List}
+use Rattle.rules.specs.Lists.{word}
+use Rattle.game_writer.proofs.Rows.{Row}
 use Rattle.game_writer.proofs.copy_down.Given as goal
 
 -- the words below the place
@@ -9,10 +10,4 @@ abbrev pub below : List ℕ → ℕ → ℕ → ℕ
 below src past i = word src (past - suc i)
 
 abbrev pub invariant-loop-index : goal.invariant-loop-index
-invariant-loop-index l =
-    (l.index ≤ l.count)
-    × Writing l.place (map (below l.src l.past) (from l.index (l.count - l.index))) l.out l.start
-    (map (below l.src l.past) (from 0 l.count)) l.initial.out
-
-abbrev pub decreases-loop-index : goal.decreases-loop-index
-decreases-loop-index l = l.count - l.index
+invariant-loop-index l = Row (below l.src l.past) l.count l.index l.start l.out l.initial.out

@@ -5,4 +5,4 @@ use Rattle.game_writer.proofs.stuck_priority.Goals as goal
 
 pub returns : goal.returns
 unfolding stuck_priority
-returns c = c.to_index.ensures ∙ ap player_index c.opponent-winner.ensures
+returns c = c.from.ensures ∙ ap player_index c.opponent-winner.ensures

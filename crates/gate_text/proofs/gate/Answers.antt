@@ -1,7 +1,9 @@
 -- `gate` meets its contract: a slice that is too short is refused; else the text is written, and zeros past it. Assumes
 -- nothing.
-use mathlib.Core.Path.{◌∙◌}
+use mathlib.Core.Path.{ap, ◌∙◌}
 use native.Mathlib.Omega.{arith}
+use lib.ListN.{length}
+use Rattle.std.proofs.Common.{rules}
 use Rattle.rules.specs.Program.{printed, gate_text_length, program_text}
 use Rattle.text_writer.proofs.Endings.{text_refused, text_finished}
 use Rattle.gate_text.proofs.Fits.{gate_fits}
@@ -12,30 +14,25 @@ unfolding program_text gate_text_length
 returns-then-text-lt16384 c =
     text_refused gate_text_length (printed c.args.bytes.now) c.args.text.now c.if-text-lt16384.true
 
-pub put_program-size-requires : goal.put_program-size-requires
+pub put_program-requires : goal.put_program-requires
 unfolding gate_text_length
-put_program-size-requires c = c.if-text-lt16384.false
+put_program-requires c =
+    let empty = c.new-written.ensures.empty in
+    omega (arith, gate_fits c.args.bytes.now, empty.0, ap length empty.1)
 
 pub finish-requires : goal.finish-requires
 unfolding gate_text_length
 finish-requires c =
-    let l = c.if-text-lt16384.false in
-    let f = gate_fits c.args.bytes.now in (
-      omega (arith, c.put_program-size.ensures.past, c.put_program-size.auto.text, f, l),
-      omega
-          (arith, c.put_program-size.ensures.past, f),
+    let empty = c.new-written.ensures.empty in
+    let fits = gate_fits c.args.bytes.now in
+    let wrote = c.put_program.ensures in (
+      omega (arith, fits, empty.0, ap length empty.1, wrote.long, wrote.wrote.past),
+      omega (arith, fits, empty.0, wrote.wrote.past),
     )
-
-pub shape_of-text : goal.shape_of-text
-shape_of-text c =
-    c.finish.auto.text ∙ c.put_program-size.auto.text
 
 pub returns : goal.returns
 unfolding program_text gate_text_length
 returns c =
-    text_finished gate_text_length (printed c.args.bytes.now) c.args.text.now
-    c.if-text-lt16384.false
-    c.put_program-size.auto.text
-    c.put_program-size.ensures
-    c.finish.ensures.value
-    c.finish.ensures.text_after
+    text_finished gate_text_length (printed c.args.bytes.now) c.args.text.now c.if-text-lt16384.false
+    c.new-written.ensures.empty c.put_program.ensures c.finish.ensures.value
+    (search rules ∙ c.finish.ensures.text_after)

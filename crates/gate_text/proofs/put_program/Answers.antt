@@ -1,54 +1,25 @@
 -- `put_program` meets its contract: the words run, or the refusal. Assumes nothing.
 use mathlib.Core.Path.{sym}
-use native.Mathlib.Omega.{arith}
-use lib.Seq.{length-take-le}
-use Rattle.text_writer.proofs.Lines.{wrote_as}
-use Rattle.gate_text.proofs.Programs.{read_agrees, read_printed, unreadable_printed, unreadable_room, read_count}
+use lib.ListN.{take}
+use Rattle.rules.specs.Program.{refused_text}
+use Rattle.text_writer.proofs.Appending.{room_as, appended_as}
+use Rattle.gate_text.proofs.Programs.{accepted_some, accepted_none}
 use Rattle.gate_text.proofs.put_program.Goals as goal
-
-pub slice_bounds-ws-end : goal.slice_bounds-ws-end
-slice_bounds-ws-end c =
-    omega (
-      arith,
-      read_count c.decode-read.result c.in-Read.count c.in-Read.is c.decode-read.ensures.1,
-      c.decode-read.auto.words,
-    )
-
-pub slice_bounds-run_words-end : goal.slice_bounds-run_words-end
-slice_bounds-run_words-end c =
-    let few = read_count c.decode-read.result c.in-Read.count c.in-Read.is c.decode-read.ensures.1 in
-    sym (length-take-le c.in-Read.count c.decode-read.new.words (omega (arith, few, c.decode-read.auto.words)))
 
 pub run_words-requires : goal.run_words-requires
 run_words-requires c =
-    let b = c.args.bytes.now in (
-      read_agrees b c.decode-read.new.words c.decode-read.result c.decode-read.ensures.0 c.in-Read.count
-          c.in-Read.is,
-      c.requires,
-    )
+    let run = accepted_some c.args.bytes.now (take c.in-Some.count c.decode.new.words) c.in-Some.ensures.0 in
+    record { agree = run.0; room = room_as c.args.text.now (sym run.1) c.requires }
 
 pub put_line-requires : goal.put_line-requires
-put_line-requires c =
-    let b = c.args.bytes.now in
-    let u = c.in-Unreadable.is in
-    unreadable_room b c.decode-read.new.words c.decode-read.result c.decode-read.ensures.0 u _ c.requires
+unfolding refused_text
+put_line-requires c = room_as c.args.text.now (accepted_none c.args.bytes.now c.in-None.ensures) c.requires
 
-pub shape_of-text-in-Read : goal.shape_of-text-in-Read
-shape_of-text-in-Read c = c.run_words.auto.text
+pub returns-in-Some : goal.returns-in-Some
+returns-in-Some c =
+    let run = accepted_some c.args.bytes.now (take c.in-Some.count c.decode.new.words) c.in-Some.ensures.0 in
+    appended_as (sym run.1) c.run_words.ensures
 
-pub returns-in-Read : goal.returns-in-Read
-returns-in-Read c =
-    let b = c.args.bytes.now in
-    wrote_as
-    (read_printed b c.decode-read.new.words c.decode-read.result c.decode-read.ensures.0 c.in-Read.count c.in-Read.is)
-    c.run_words.ensures
-
-pub shape_of-text-in-Unreadable : goal.shape_of-text-in-Unreadable
-shape_of-text-in-Unreadable c = c.put_line.auto.text
-
-pub returns-in-Unreadable : goal.returns-in-Unreadable
-returns-in-Unreadable c =
-    let b = c.args.bytes.now in
-    let u = c.in-Unreadable.is in
-    wrote_as (unreadable_printed b c.decode-read.new.words c.decode-read.result c.decode-read.ensures.0 u)
-    c.put_line.ensures
+pub returns-in-None : goal.returns-in-None
+unfolding refused_text
+returns-in-None c = appended_as (accepted_none c.args.bytes.now c.in-None.ensures) c.put_line.ensures

@@ -1,47 +1,29 @@
-use Prim.Native.Nat.{◌≤◌, ◌<◌}
 use native.Mathlib.Omega.{arith}
+use Prim.Native.Nat.{◌+◌, ◌-◌, ◌<◌, ◌≤◌}
 use Rattle.rules.specs.Game.{vertex_count}
-use Rattle.gate_text.proofs.Lines.{lines_start, lines_room, lines_put, lines_done}
+use Rattle.rules.specs.Program.{vertex_line, vertex_lines}
+use Rattle.text_writer.proofs.Appending.{left_as, left_room, left_more, left_done}
+use Rattle.gate_text.proofs.Lines.{lines_more, lines_none}
 use Rattle.gate_text.proofs.put_vertices.Goals as goal
 
-pub at-count-requires : goal.at-count-requires
-at-count-requires c = omega (arith, c.requires.shown.inside)
-
-pub loop-vertex-init : goal.loop-vertex-init
-loop-vertex-init c = (omega arith, lines_start _ _ _)
-
-pub put_vertex-place-requires : goal.put_vertex-place-requires
-put_vertex-place-requires c =
-    let h : c.loop-vertex.vertex < vertex_count c.args.game.now = omega
-    (arith, c.at-count.ensures.0, c.loop-vertex-test.true)
-    in record {
-      shown = c.requires.shown;
-      vertex_bound = h;
-      vertex_in_bounds = lines_room c.args.game.now c.loop-vertex.vertex h c.requires.game_in_bounds
-          c.loop-vertex.invariant.1;
-    }
-
-pub overflow_add-vertex : goal.overflow_add-vertex
-overflow_add-vertex c = omega arith
-
-pub loop-vertex-smaller : goal.loop-vertex-smaller
-loop-vertex-smaller c = omega arith
+pub put_vertex-requires-clause-room : goal.put_vertex-requires-clause-room
+put_vertex-requires-clause-room c =
+    let g = c.args.game.now in
+    let v = c.loop-vertex.vertex in
+    let h : v < vertex_count g = omega (arith, c.at-count.ensures.0) in
+    left_room (vertex_line g v) (vertex_lines g (v + 1) (vertex_count g - (v + 1))) c.requires.room
+    (left_as (lines_more g v (vertex_count g) h) c.loop-vertex.invariant)
 
 pub loop-vertex-preserved : goal.loop-vertex-preserved
 loop-vertex-preserved c =
-    let h : c.loop-vertex.vertex < vertex_count c.args.game.now = omega
-    (arith, c.at-count.ensures.0, c.loop-vertex-test.true)
-    in (
-      omega arith,
-      lines_put c.args.game.now c.loop-vertex.vertex h c.put_vertex-place.auto.text
-          c.put_vertex-place.ensures c.loop-vertex.invariant.1,
-    )
-
-pub shape_of-text : goal.shape_of-text
-shape_of-text c = c.loop-vertex.invariant.1.long
+    let g = c.args.game.now in
+    let v = c.loop-vertex.vertex in
+    let h : v < vertex_count g = omega (arith, c.at-count.ensures.0) in
+    left_more c.put_vertex.ensures (left_as (lines_more g v (vertex_count g) h) c.loop-vertex.invariant)
 
 pub returns : goal.returns
 returns c =
-    let h : vertex_count c.args.game.now ≤ c.loop-vertex.vertex = omega
-    (arith, c.at-count.ensures.0, c.loop-vertex-test.false) in lines_done c.args.game.now
-    c.loop-vertex.vertex h c.loop-vertex.invariant.1
+    let g = c.args.game.now in
+    let v = c.loop-vertex.vertex in
+    let h : vertex_count g ≤ v = omega (arith, c.at-count.ensures.0) in
+    left_done (left_as (lines_none g v (vertex_count g) h) c.loop-vertex.invariant)

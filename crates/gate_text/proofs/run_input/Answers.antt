@@ -1,8 +1,8 @@
 -- `run_input` meets its contract: the run's outcome is that of the rules, and its game can be printed. Assumes nothing.
 use Rattle.rules.specs.Words.{input_of, game_length, work_length}
 use Rattle.rules.specs.Program.{gate_room, gate_steps, gate_run}
-use Rattle.text_writer.proofs.Lines.{wrote_as}
-use Rattle.gate_text.proofs.Programs.{game_shown, run_room, run-printed}
+use Rattle.text_writer.proofs.Appending.{room_as, appended_as}
+use Rattle.gate_text.proofs.Programs.{game_shown, run-printed}
 use Rattle.gate_text.proofs.run_input.Goals as goal
 
 pub print-requires : goal.print-requires
@@ -10,8 +10,9 @@ unfolding gate_run gate_room gate_steps game_length work_length
 print-requires c =
     let x = input_of c.args.labels.now c.args.system.now c.args.actions.now c.args.formula.now in
     record {
-      game_in_bounds = run_room x c.translate-answer.result _ _ c.translate-answer.ensures.equals _
-          c.requires;
+      room =
+          room_as c.args.text.now
+          (run-printed x c.translate-answer.result _ _ c.translate-answer.ensures.equals) c.requires;
       shown = game_shown x c.translate-answer.result _ _ c.translate-answer.ensures.equals;
     }
 
@@ -19,4 +20,4 @@ pub returns : goal.returns
 unfolding gate_run gate_room gate_steps game_length work_length
 returns c =
     let x = input_of c.args.labels.now c.args.system.now c.args.actions.now c.args.formula.now in
-    wrote_as (run-printed x c.translate-answer.result _ _ c.translate-answer.ensures.equals) c.print.ensures
+    appended_as (run-printed x c.translate-answer.result _ _ c.translate-answer.ensures.equals) c.print.ensures

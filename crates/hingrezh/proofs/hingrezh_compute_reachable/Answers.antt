@@ -6,7 +6,7 @@ use Rattle.hingrezh.proofs.hingrezh_compute_reachable.Goals as goal
 pub returns : goal.returns
 returns c =
     let it =
-    restriction_carried _ _ _ _ _ _ _ _ c.compute_reachable-result.result c.put_answer.ensures (
+    restriction_carried _ _ _ _ _ _ _ _ c.compute_reachable-result.result c.into.ensures (
       c.compute_reachable-result.ensures.equals,
       (
         c.compute_reachable-result.ensures.coded,

@@ -6,7 +6,7 @@ use Rattle.hingrezh.proofs.hingrezh_read_pgsolver.Goals as goal
 pub returns : goal.returns
 returns c =
     let it =
-    reading_carried _ _ _ _ _ c.read_pgsolver-result.result c.put_answer.ensures (
+    reading_carried _ _ _ _ _ c.read_pgsolver-result.result c.into.ensures (
       c.read_pgsolver-result.ensures.equals,
       (
         c.read_pgsolver-result.ensures.coded,

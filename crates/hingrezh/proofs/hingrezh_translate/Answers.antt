@@ -6,7 +6,7 @@ use Rattle.hingrezh.proofs.hingrezh_translate.Goals as goal
 pub returns : goal.returns
 returns c =
     let it =
-    run_carried _ _ _ _ _ _ _ _ _ c.put_answer.ensures (
+    run_carried _ _ _ _ _ _ _ _ _ c.into.ensures (
       c.translate-result.ensures.equals,
       (
         c.translate-result.ensures.coded,

@@ -6,7 +6,7 @@ use Rattle.hingrezh.proofs.hingrezh_write_pgsolver.Goals as goal
 pub returns : goal.returns
 returns c =
     let it =
-    writing_carried _ _ _ _ c.write_pgsolver-result.result c.put_answer.ensures (
+    writing_carried _ _ _ _ c.write_pgsolver-result.result c.into.ensures (
       c.write_pgsolver-result.ensures.equals,
       (
         c.write_pgsolver-result.ensures.coded,

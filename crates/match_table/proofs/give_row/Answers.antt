@@ -1,4 +1,4 @@
--- `give_row` meets its contract: a row more, or the table as it was. Assumes nothing.
+-- A row more, or the table as it was. Assumes nothing.
 use native.Mathlib.Omega.{arith}
 use Rattle.match_table.proofs.Filled.{rows_small, rows_given}
 use Rattle.match_table.proofs.give_row.Goals as goal
@@ -8,7 +8,7 @@ overflow_mul-start c =
     omega (
       arith,
       rows_small c.args.rows c.at-count.result c.requires.first_rows.few
-          (omega (arith, c.requires.good_tables.0.0.few, c.at-count.ensures.0)),
+          (omega (arith, c.args.words.now.good.0.few, c.at-count.ensures.0)),
     )
 
 pub overflow_add-start : goal.overflow_add-start
@@ -16,30 +16,11 @@ overflow_add-start c =
     omega (
       arith,
       rows_small c.args.rows c.at-count.result c.requires.first_rows.few
-          (omega (arith, c.requires.good_tables.0.0.few, c.at-count.ensures.0)),
+          (omega (arith, c.args.words.now.good.0.few, c.at-count.ensures.0)),
     )
-
-pub overflow_add-start-2 : goal.overflow_add-start-2
-overflow_add-start-2 c =
-    omega (
-      arith,
-      rows_small c.args.rows c.at-count.result c.requires.first_rows.few
-          (omega (arith, c.requires.good_tables.0.0.few, c.at-count.ensures.0)),
-      c.at-count.ensures.1,
-    )
-
-pub fill_row-requires : goal.fill_row-requires
-fill_row-requires c =
-    record {
-      good_tables = c.requires.good_tables;
-      count_value =
-          (c.at-count.ensures.0, omega (arith, c.if-start-count-gt-MATCHED.false));
-      matched_len =
-          c.requires.first_rows.sized;
-    }
 
 pub returns : goal.returns
 returns c =
-    rows_given _ _ _ _ _ _ _ c.at-count.ensures.0 c.requires.first_rows c.requires.good_tables.0.1.few
-    c.requires.good_tables.1 c.fill_row.ensures.row_at c.fill_row.ensures.same_before
+    rows_given _ _ _ _ _ _ _ c.at-count.ensures.0 c.requires.first_rows c.args.words.now.good.1.few
+    c.requires.classes.1 (omega arith) c.fill_row.ensures.row_at c.fill_row.ensures.same_before
     (omega (arith, c.requires.first_rows.few, c.if-rows-eq-MOST_ROWS.false))

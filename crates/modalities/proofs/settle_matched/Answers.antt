@@ -1,8 +1,7 @@
 -- `settle_matched` meets its contract: there are marks for the step that its edges do not meet, and none of them is
 -- past the edges. Assumes nothing.
-use mathlib.Core.Path.{refl, subst, sym}
+use mathlib.Core.Path.{refl}
 use native.Mathlib.Omega.{arith}
-use Rattle.pairs.specs.Slot.{Multiples}
 use Rattle.modalities.proofs.Spaces.{marks_inside, cleared_ready, cleared_spacious, cleared_answer}
 use Rattle.modalities.proofs.settle_matched.Goals as goal
 
@@ -11,38 +10,19 @@ clear_marks-requires c =
     let ready = c.requires.unmarked.0.0 in
     (ready.most, marks_inside _ _ _ _ _ _ c.mark_count-marks.ensures ready)
 
-pub product-requires : goal.product-requires
-product-requires c =
-    record {
-      multiples = subst Multiples (sym c.multiples-multiples.ensures) c.requires.multiples.0;
-      factor_bound =
-          omega (arith, c.requires.multiples.3);
-    }
-
-pub follow_all-requires : goal.follow_all-requires
-follow_all-requires c =
-    let p = c.requires.multiples in
+pub follow_all-requires-clause-ready : goal.follow_all-requires-clause-ready
+follow_all-requires-clause-ready c =
     let unmarked = c.requires.unmarked.0 in
     let count = c.mark_count-marks.ensures in
-    let cleared = c.clear_marks.ensures in record {
-      scaled = (
-        record {
-          multiples = subst Multiples (sym c.multiples-multiples.ensures) p.0;
-          product = c.product.ensures;
-        },
-        p.1,
-        p.2,
-        p.3,
-      );
-      ready = (
-        cleared_ready _ _ _ _ _ _ count _ unmarked cleared,
-        refl,
-        cleared_spacious _ _ _ _ _ _ count _ unmarked cleared c.args.system.now refl _ _,
-      );
-      have_bytes = c.requires.unmarked.1;
-    }
+    let cleared = c.clear_marks.ensures in (
+      cleared_ready _ _ _ _ _ _ count _ unmarked cleared,
+      refl,
+      omega (arith, c.scale.ensures, c.requires.unmarked.1),
+      cleared_spacious _ _ _ _ _ _ count _ unmarked cleared c.args.moves.system.now refl c.scale.result _
+          c.marked_by.ensures,
+    )
 
 pub returns : goal.returns
 returns c =
     cleared_answer _ _ _ _ _ _ c.mark_count-marks.ensures _ c.requires.unmarked.0 c.clear_marks.ensures
-    _ _ _ c.follow_all.result c.follow_all.ensures
+    _ _ _ c.follow_all.result (rw c.scale.ensures at c.follow_all.ensures)

@@ -5,4 +5,4 @@ use Rattle.pairs.proofs.byte_multiples.Goals as goal
 
 pub returns : goal.returns
 unfolding every right
-returns c = right_multiples _ (omega arith) refl
+returns c = (refl, right_multiples _ (omega arith) refl)

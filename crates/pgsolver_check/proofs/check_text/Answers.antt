@@ -1,64 +1,29 @@
 -- `check_text` meets its contract. Assumes nothing.
 use native.Mathlib.Omega.{arith}
-use Rattle.pgsolver_check.proofs.Checking.{seen_at, seen_not, refused91, refused92, passed_numbers, refused93}
-use Rattle.pgsolver_check.proofs.Checking.{planned}
+use Rattle.pgsolver_check.proofs.Checking.{refused91, refused92, passed_numbers, refused93, planned}
 use Rattle.pgsolver_check.proofs.check_text.Goals as goal
 
-pub survey_text-seen-requires : goal.survey_text-seen-requires
-survey_text-seen-requires c = c.requires.1
-
 pub returns-in_default : goal.returns-in_default
-returns-in_default c =
-    record {
-      told_plan = refused91 c.args.text.now c.args.vertices c.args.edges
-          (seen_not c.args.text.now c.in_default.is c.survey_text-seen.ensures.told_survey);
-      bits_len = c.survey_text-seen.ensures.bits_len;
-    }
+returns-in_default c = refused91 c.args.text.now c.args.vertices c.args.edges c.in_default.ensures
 
-pub numbered-right-requires : goal.numbered-right-requires
-numbered-right-requires c = (
-  seen_at c.args.text.now
-      c.in-Surveyed.found c.in-Surveyed.is c.survey_text-seen.ensures.told_survey,
-  c.survey_text-seen.ensures.bits_len,
+pub returns-then-not-numbered : goal.returns-then-not-numbered
+returns-then-not-numbered c =
+    refused92 c.in-Some.ensures c.args.vertices c.args.edges c.numbered.ensures c.if-not-numbered.true
+
+pub fits-requires-clause-seen : goal.fits-requires-clause-seen
+fits-requires-clause-seen c = (
+  c.in-Some.ensures,
+  passed_numbers c.in-Some.ensures c.args.vertices c.args.edges c.numbered.ensures c.if-not-numbered.false,
 )
 
-pub fits-roomy-requires : goal.fits-roomy-requires
-fits-roomy-requires c =
-    let s = seen_at c.args.text.now c.in-Surveyed.found c.in-Surveyed.is
-    c.survey_text-seen.ensures.told_survey in record {
-      seen = (
-        s,
-        passed_numbers s c.args.vertices c.args.edges c.numbered-right.ensures.text_value
-            c.if-right.true,
-      );
-      vertices_le_most_vertices = (c.requires.0, c.numbered-right.ensures.bits_len);
-    }
-
-pub returns-then-roomy : goal.returns-then-roomy
-returns-then-roomy c =
-    let s = seen_at c.args.text.now c.in-Surveyed.found c.in-Surveyed.is
-    c.survey_text-seen.ensures.told_survey in record {
-      told_plan = planned s c.args.vertices c.args.edges
-          (passed_numbers s c.args.vertices c.args.edges c.numbered-right.ensures.text_value
-          c.if-right.true) (omega arith) c.fits-roomy.ensures.text_value c.if-roomy.true;
-      bits_len = c.fits-roomy.ensures.bits_len;
-    }
-
-pub returns-then-right : goal.returns-then-right
-returns-then-right c =
-    let s = seen_at c.args.text.now c.in-Surveyed.found c.in-Surveyed.is
-    c.survey_text-seen.ensures.told_survey in record {
-      told_plan = refused93 s c.args.vertices c.args.edges
-          (passed_numbers s c.args.vertices c.args.edges c.numbered-right.ensures.text_value
-          c.if-right.true) c.fits-roomy.ensures.text_value c.if-roomy.false;
-      bits_len = c.fits-roomy.ensures.bits_len;
-    }
+pub returns-then-not-fits : goal.returns-then-not-fits
+returns-then-not-fits c =
+    let passed = passed_numbers c.in-Some.ensures c.args.vertices c.args.edges c.numbered.ensures
+    c.if-not-numbered.false in
+    refused93 c.in-Some.ensures c.args.vertices c.args.edges passed c.fits.ensures c.if-not-fits.true
 
 pub returns : goal.returns
 returns c =
-    let s = seen_at c.args.text.now c.in-Surveyed.found c.in-Surveyed.is
-    c.survey_text-seen.ensures.told_survey in record {
-      told_plan = refused92 s c.args.vertices c.args.edges
-          c.numbered-right.ensures.text_value c.if-right.false;
-      bits_len = c.numbered-right.ensures.bits_len;
-    }
+    let passed = passed_numbers c.in-Some.ensures c.args.vertices c.args.edges c.numbered.ensures
+    c.if-not-numbered.false in
+    planned c.in-Some.ensures c.args.vertices c.args.edges passed (omega arith) c.fits.ensures c.if-not-fits.false

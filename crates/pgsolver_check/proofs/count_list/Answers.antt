@@ -1,82 +1,76 @@
+-- `count_list` meets its contract. Assumes nothing.
 use Prim.Native.Nat.{◌+◌}
 use native.Mathlib.Omega.{arith}
-use mathlib.Core.Path.{refl, ◌∙◌}
+use mathlib.Core.Path.{◌∙◌}
+use Rattle.bitmap.specs.Marks.{marked}
 use Rattle.pgsolver_check.proofs.Counting.{list_there, list_stands, list_small, list_later, known_more}
-use Rattle.pgsolver_check.proofs.Counting.{known_last, known_line, comma_behind, counting_start}
+use Rattle.pgsolver_check.proofs.Counting.{known_last, known_line, comma_behind, counting_start, count_met}
 use Rattle.pgsolver_check.proofs.Counting.{counting_more, counting_only, counting_done}
 use Rattle.pgsolver_check.proofs.count_list.Goals as goal
 
-pub loop-place-init : goal.loop-place-init
-loop-place-init c =
-    counting_start c.requires.0 c.requires.1
+pub loop-bits-init : goal.loop-bits-init
+loop-bits-init c = counting_start c.requires.0 c.requires.1
 
-pub known_number-number-requires : goal.known_number-number-requires
-known_number-number-requires c = list_stands c.loop-place.invariant.here
+pub known_number-value-requires : goal.known_number-value-requires
+known_number-value-requires c = list_stands c.loop-bits.invariant.here
 
-pub count_new-count-requires : goal.count_new-count-requires
-count_new-count-requires c = (
-  list_small c.loop-place.invariant.here c.known_number-number.result.value
-      c.known_number-number.result.next refl c.known_number-number.ensures.told,
-  c.loop-place.invariant.holds.long,
-  omega (arith, c.loop-place.invariant.few, list_there c.loop-place.invariant.here),
-)
-
-pub bounds-text-past : goal.bounds-text-past
-bounds-text-past c = c.known_number-number.ensures.next_in_bounds
-
-pub overflow_add-place : goal.overflow_add-place
-overflow_add-place c = omega (arith, c.known_number-number.ensures.next_in_bounds)
-
-pub loop-place-smaller : goal.loop-place-smaller
-loop-place-smaller c =
-    omega (
-      arith,
-      list_there c.loop-place.invariant.here,
-      list_later c.loop-place.invariant.here c.known_number-number.result.value
-          c.known_number-number.result.next refl c.known_number-number.ensures.told,
+pub meet-requires : goal.meet-requires
+meet-requires c =
+    let known = c.known_number-value in (
+      list_small c.loop-bits.invariant.here known.result.value known.result.next known.ensures.told,
+      c.loop-bits.invariant.holds.long,
     )
-
-pub loop-place-preserved : goal.loop-place-preserved
-loop-place-preserved c =
-    let here = c.loop-place.invariant.here in
-    let value = c.known_number-number.result.value in
-    let past = c.known_number-number.result.next in
-    counting_more value c.count_new-count.result c.loop-place.invariant c.count_new-count.ensures.value
-    c.count_new-count.ensures.met (past + 1)
-    (omega (arith, list_later here value past refl c.known_number-number.ensures.told))
-    (comma_behind here value past c.known_number-number.ensures.told
-    c.known_number-number.ensures.next_in_bounds c.if-text-past-eq44.true)
-    (known_more here value past c.known_number-number.ensures.told
-    c.known_number-number.ensures.next_in_bounds c.if-text-past-eq44.true)
 
 pub empty_list-requires : goal.empty_list-requires
 empty_list-requires c =
-    let here = c.loop-place.invariant.here in
-    let value = c.known_number-number.result.value in
-    let past = c.known_number-number.result.next in (
+    let here = c.loop-bits.invariant.here in
+    let known = c.known_number-value in
+    let value = known.result.value in
+    let next = known.result.next in (
       c.requires.0,
-      counting_only value c.count_new-count.result c.loop-place.invariant
-          c.count_new-count.ensures.value c.count_new-count.ensures.met
-          (known_last here value past c.known_number-number.ensures.told
-          c.known_number-number.ensures.next_in_bounds c.if-text-past-eq44.false),
-      omega (
-        arith,
-        c.loop-place.invariant.onward,
-        list_later here value past refl
-            c.known_number-number.ensures.told,
-      ),
+      counting_only value _ c.loop-bits.invariant
+          (count_met c.loop-bits.count (marked c.loop-bits.bits value) c.meet.result c.meet.ensures.0)
+          c.meet.ensures.1
+          (known_last here value next known.ensures.told known.ensures.next_in_bounds c.if-text-next-ne44.true),
+      omega (arith, c.loop-bits.invariant.onward, list_later here value next known.ensures.told),
     )
 
-pub returns-else-text-past-eq44 : goal.returns-else-text-past-eq44
-returns-else-text-past-eq44 c =
-    let here = c.loop-place.invariant.here in
-    let value = c.known_number-number.result.value in
-    let past = c.known_number-number.result.next in record {
-      count_value = counting_done value c.count_new-count.result c.loop-place.invariant
-          c.count_new-count.ensures.value c.count_new-count.ensures.met
-          (known_last here value past c.known_number-number.ensures.told
-          c.known_number-number.ensures.next_in_bounds c.if-text-past-eq44.false);
-      list_value = c.loop-place.invariant.line ∙ known_line here value past c.known_number-number.ensures.told
-          c.known_number-number.ensures.next_in_bounds;
-      holds = c.empty_list.ensures;
-    }
+pub returns-then-text-next-ne44-clause-count_value : goal.returns-then-text-next-ne44-clause-count_value
+returns-then-text-next-ne44-clause-count_value c =
+    let here = c.loop-bits.invariant.here in
+    let known = c.known_number-value in
+    let value = known.result.value in
+    let next = known.result.next in
+    counting_done value _ c.loop-bits.invariant
+    (count_met c.loop-bits.count (marked c.loop-bits.bits value) c.meet.result c.meet.ensures.0)
+    c.meet.ensures.1
+    (known_last here value next known.ensures.told known.ensures.next_in_bounds c.if-text-next-ne44.true)
+
+pub returns-then-text-next-ne44-clause-list_value : goal.returns-then-text-next-ne44-clause-list_value
+returns-then-text-next-ne44-clause-list_value c =
+    let known = c.known_number-value in
+    c.loop-bits.invariant.line
+    ∙ known_line c.loop-bits.invariant.here known.result.value known.result.next known.ensures.told
+    known.ensures.next_in_bounds
+
+pub loop-bits-smaller : goal.loop-bits-smaller
+loop-bits-smaller c =
+    let here = c.loop-bits.invariant.here in
+    let known = c.known_number-value in
+    omega (
+      arith,
+      list_there here,
+      list_later here known.result.value known.result.next known.ensures.told,
+    )
+
+pub loop-bits-preserved : goal.loop-bits-preserved
+loop-bits-preserved c =
+    let here = c.loop-bits.invariant.here in
+    let known = c.known_number-value in
+    let value = known.result.value in
+    let next = known.result.next in
+    counting_more value _ c.loop-bits.invariant
+    (count_met c.loop-bits.count (marked c.loop-bits.bits value) c.meet.result c.meet.ensures.0)
+    c.meet.ensures.1 (next + 1) (omega (arith, list_later here value next known.ensures.told))
+    (comma_behind here value next known.ensures.told known.ensures.next_in_bounds c.if-text-next-ne44.false)
+    (known_more here value next known.ensures.told known.ensures.next_in_bounds c.if-text-next-ne44.false)

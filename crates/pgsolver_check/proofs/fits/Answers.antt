@@ -6,41 +6,25 @@ use Rattle.pgsolver_check.proofs.fits.Goals as goal
 
 pub returns-then-vertices-found : goal.returns-then-vertices-found
 returns-then-vertices-found c =
-    record {
-      text_value = beyond_vertices c.requires.seen.0 (omega arith) c.requires.seen.1 c.args.vertices
-          c.args.edges c.if-vertices-found.true;
-      bits_len = c.requires.vertices_le_most_vertices.1;
-    }
+    beyond_vertices c.requires.seen.0 (omega arith) c.requires.seen.1 c.args.vertices c.args.edges
+    c.if-vertices-found.true
 
 pub returns-then-found-gt4294967295 : goal.returns-then-found-gt4294967295
 returns-then-found-gt4294967295 c =
-    record {
-      text_value = beyond_rank c.requires.seen.0 (omega arith) c.requires.seen.1 c.args.vertices
-          c.args.edges c.if-found-gt4294967295.true;
-      bits_len = c.requires.vertices_le_most_vertices.1;
-    }
+    beyond_rank c.requires.seen.0 (omega arith) c.requires.seen.1 c.args.vertices c.args.edges
+    c.if-found-gt4294967295.true
 
 pub returns-then-found-edges : goal.returns-then-found-edges
 returns-then-found-edges c =
-    record {
-      text_value = listed_fits c.requires.seen.0 (omega arith) c.requires.seen.1 c.args.vertices
-          c.args.edges c.if-vertices-found.false c.if-found-gt4294967295.false c.if-found-edges.true;
-      bits_len = c.requires.vertices_le_most_vertices.1;
-    }
+    listed_fits c.requires.seen.0 (omega arith) c.requires.seen.1 c.args.vertices c.args.edges
+    c.if-vertices-found.false c.if-found-gt4294967295.false c.if-found-edges.true
 
 pub count_edges-requires : goal.count_edges-requires
-count_edges-requires c = (
-  right_narrow c.requires.seen.0 (omega arith) c.requires.seen.1 c.args.vertices
-      c.args.edges c.if-vertices-found.false
-      c.if-found-gt4294967295.false c.requires.vertices_le_most_vertices.0,
-  c.requires.vertices_le_most_vertices.1,
-)
+count_edges-requires c =
+    right_narrow c.requires.seen.0 (omega arith) c.requires.seen.1 c.args.vertices c.args.edges
+    c.if-vertices-found.false c.if-found-gt4294967295.false c.requires.most
 
 pub returns : goal.returns
 returns c =
-    record {
-      text_value = edges_told c.requires.seen.0 (omega arith) c.requires.seen.1 c.args.vertices
-          c.args.edges c.if-vertices-found.false c.if-found-gt4294967295.false c.count_edges.result
-          c.count_edges.ensures.value;
-      bits_len = c.count_edges.ensures.bits_len;
-    }
+    edges_told c.requires.seen.0 (omega arith) c.requires.seen.1 c.args.vertices c.args.edges
+    c.if-vertices-found.false c.if-found-gt4294967295.false c.count_edges.result c.count_edges.ensures

@@ -1,3 +1,4 @@
+-- `post_lines` meets its contract. Assumes nothing.
 use mathlib.Core.Path.{refl, ◌∙◌}
 use native.Mathlib.Omega.{arith}
 use Rattle.pgsolver_reader.proofs.Posting.{posting_start, posting_stands, posting_below, posting_later}
@@ -5,8 +6,7 @@ use Rattle.pgsolver_reader.proofs.Posting.{posting_more, posting_done}
 use Rattle.pgsolver_reader.proofs.post_lines.Goals as goal
 
 pub loop-place-init : goal.loop-place-init
-loop-place-init c =
-    (refl, posting_start c.args.game.now c.requires.1 c.requires.2)
+loop-place-init c = (refl, posting_start c.args.game.now c.requires.1 c.requires.2)
 
 pub known_field-number-requires : goal.known_field-number-requires
 known_field-number-requires c =
@@ -40,9 +40,6 @@ loop-place-preserved c =
           number.value number.next c.known_field-number.ensures c.post.ensures
           c.past_line-place.ensures,
     )
-
-pub shape_of-game : goal.shape_of-game
-shape_of-game c = c.loop-place.invariant.0
 
 pub returns : goal.returns
 returns c = posting_done c.requires.1 c.loop-place.invariant.1 c.loop-place-test.false

@@ -1,82 +1,68 @@
+-- `put_list` meets its contract. Assumes nothing.
 use Prim.Native.Nat.{◌+◌}
-use mathlib.Core.Path.{refl, ◌∙◌}
-use mathlib.Core.Bool.{true, false}
+use mathlib.Core.Path.{◌∙◌}
 use native.Mathlib.Omega.{arith}
-use borrow.Author.Tests.{eq-eqb, ne_eqb}
-use Rattle.rules.specs.Lists.{word}
-use Rattle.pgsolver_check.proofs.Counting.{list_stands, list_small, list_later, list_head, list_more, list_last}
-use Rattle.pgsolver_scan.proofs.Scanning.{byte_here}
-use Rattle.pgsolver_scan.proofs.SameLine.{comma_line}
-use Rattle.pgsolver_reader.proofs.Putting.{putting_start, putting_room, putting_more, putting_done}
-use Rattle.pgsolver_reader.proofs.Putting.{putting_holds, read_line_on}
+use Rattle.pgsolver_check.proofs.Counting.{list_stands, list_small, list_later, list_head, known_more, known_last}
+use Rattle.pgsolver_check.proofs.Counting.{known_line, comma_behind}
+use Rattle.pgsolver_reader.proofs.Putting.{putting_start, putting_room, putting_more, putting_done, putting_holds}
 use Rattle.pgsolver_reader.proofs.put_list.Goals as goal
 
-pub loop-list-init : goal.loop-list-init
-loop-list-init c =
-    putting_start c.args.start c.args.game.now c.requires.listed.0 c.requires.listed.1
+pub loop-number-init : goal.loop-number-init
+loop-number-init c = putting_start c.args.start c.args.game.now c.requires.listed.0 c.requires.listed.1
 
 pub known_number-number-requires : goal.known_number-number-requires
-known_number-number-requires c = list_stands c.loop-list.invariant.here
+known_number-number-requires c = list_stands c.loop-number.invariant.here
 
-pub put_new-end-requires : goal.put_new-end-requires
-put_new-end-requires c =
-    let number = c.known_number-number.result in
-    let told = c.known_number-number.ensures.told in
-    let head = list_head c.loop-list.invariant.here number.value number.next refl told in record {
-      value_lt_bitmap_numbers = (
-        list_small c.loop-list.invariant.here number.value number.next refl told,
-        c.loop-list.invariant.holds.long,
-      );
-      value_in_bounds = putting_room number.value c.loop-list.invariant head.0 head.1 c.requires.list_in_bounds;
-    }
+pub put_new-end-requires-clause-value_lt_bitmap_numbers : goal.put_new-end-requires-clause-value_lt_bitmap_numbers
+put_new-end-requires-clause-value_lt_bitmap_numbers c =
+    let known = c.known_number-number in
+    list_small c.loop-number.invariant.here known.result.value known.result.next known.ensures.told
 
-pub bounds-text-past : goal.bounds-text-past
-bounds-text-past c = c.known_number-number.ensures.next_in_bounds
+pub put_new-end-requires-clause-value_in_bounds : goal.put_new-end-requires-clause-value_in_bounds
+put_new-end-requires-clause-value_in_bounds c =
+    let known = c.known_number-number in
+    let head = list_head c.loop-number.invariant.here known.result.value known.result.next known.ensures.told in
+    putting_room known.result.value c.loop-number.invariant head.0 head.1 c.requires.list_in_bounds
 
-pub shape_of-game-then-text-past-ne44 : goal.shape_of-game-then-text-past-ne44
-shape_of-game-then-text-past-ne44 c =
-    c.put_new-end.auto.game ∙ c.loop-list.invariant.long
+pub returns-then-text-number-ne44-clause-wrote : goal.returns-then-text-number-ne44-clause-wrote
+returns-then-text-number-ne44-clause-wrote c =
+    let known = c.known_number-number in
+    putting_done known.result.value c.loop-number.invariant c.put_new-end.auto.game
+    c.put_new-end.ensures.wrote c.put_new-end.ensures.met
+    (known_last c.loop-number.invariant.here known.result.value known.result.next known.ensures.told
+    known.ensures.next_in_bounds c.if-text-number-ne44.true)
 
-pub returns-then-text-past-ne44 : goal.returns-then-text-past-ne44
-returns-then-text-past-ne44 c =
-    let number = c.known_number-number.result in
-    let told = c.known_number-number.ensures.told in
-    let text = c.args.text.now in
-    let other = byte_here text number.next 44 false c.known_number-number.ensures.next_in_bounds
-    (ne_eqb (word text number.next) 44 c.if-text-past-ne44.true) in
-    let last = list_last c.loop-list.invariant.here number.value number.next refl told other refl in record {
-      wrote = putting_done number.value c.loop-list.invariant c.put_new-end.auto.game
-          c.put_new-end.ensures.wrote c.put_new-end.ensures.met last;
-      holds = putting_holds number.value c.loop-list.invariant c.put_new-end.auto.game
-          c.put_new-end.ensures.wrote c.put_new-end.ensures.met last;
-      list_value = c.loop-list.invariant.line
-          ∙ read_line_on text c.loop-list.next number.value number.next c.loop-list.invariant.here.within
-          told;
-    }
+pub returns-then-text-number-ne44-clause-holds : goal.returns-then-text-number-ne44-clause-holds
+returns-then-text-number-ne44-clause-holds c =
+    let known = c.known_number-number in
+    putting_holds known.result.value c.loop-number.invariant c.put_new-end.auto.game
+    c.put_new-end.ensures.wrote c.put_new-end.ensures.met
+    (known_last c.loop-number.invariant.here known.result.value known.result.next known.ensures.told
+    known.ensures.next_in_bounds c.if-text-number-ne44.true)
 
-pub overflow_add-next : goal.overflow_add-next
-overflow_add-next c = omega (arith, c.known_number-number.ensures.next_in_bounds)
+pub returns-then-text-number-ne44-clause-list_value : goal.returns-then-text-number-ne44-clause-list_value
+returns-then-text-number-ne44-clause-list_value c =
+    let known = c.known_number-number in
+    c.loop-number.invariant.line
+    ∙ known_line c.loop-number.invariant.here known.result.value known.result.next known.ensures.told
+    known.ensures.next_in_bounds
 
-pub loop-list-smaller : goal.loop-list-smaller
-loop-list-smaller c =
-    let number = c.known_number-number.result in
+pub loop-number-smaller : goal.loop-number-smaller
+loop-number-smaller c =
+    let known = c.known_number-number in
     omega (
       arith,
-      c.known_number-number.ensures.next_in_bounds,
-      list_later c.loop-list.invariant.here number.value number.next refl
-          c.known_number-number.ensures.told,
+      known.ensures.next_in_bounds,
+      list_later c.loop-number.invariant.here known.result.value known.result.next known.ensures.told,
     )
 
-pub loop-list-preserved : goal.loop-list-preserved
-loop-list-preserved c =
-    let number = c.known_number-number.result in
-    let told = c.known_number-number.ensures.told in
-    let inside = c.known_number-number.ensures.next_in_bounds in
-    let text = c.args.text.now in
-    let comma = byte_here text number.next 44 true inside
-    (eq-eqb (word text number.next) 44 c.if-text-past-ne44.false) in
-    putting_more number.value c.loop-list.invariant c.put_new-end.auto.game
-    c.put_new-end.ensures.wrote c.put_new-end.ensures.met (number.next + 1)
-    (read_line_on text c.loop-list.next number.value number.next c.loop-list.invariant.here.within told
-    ∙ comma_line text number.next comma (λ e. inside) refl)
-    (list_more c.loop-list.invariant.here number.value number.next refl told comma (λ e. inside) refl)
+pub loop-number-preserved : goal.loop-number-preserved
+loop-number-preserved c =
+    let known = c.known_number-number in
+    let here = c.loop-number.invariant.here in
+    putting_more known.result.value c.loop-number.invariant c.put_new-end.auto.game
+    c.put_new-end.ensures.wrote c.put_new-end.ensures.met (known.result.next + 1)
+    (comma_behind here known.result.value known.result.next known.ensures.told known.ensures.next_in_bounds
+    c.if-text-number-ne44.false)
+    (known_more here known.result.value known.result.next known.ensures.told known.ensures.next_in_bounds
+    c.if-text-number-ne44.false)

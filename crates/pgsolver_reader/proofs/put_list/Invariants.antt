@@ -4,10 +4,10 @@ use lib.ListN.{length}
 use Rattle.pgsolver_reader.proofs.Putting.{Putting}
 use Rattle.pgsolver_reader.proofs.put_list.Given as goal
 
-abbrev pub invariant-loop-list : goal.invariant-loop-list
-invariant-loop-list l =
+abbrev pub invariant-loop-number : goal.invariant-loop-number
+invariant-loop-number l =
     Putting l.text l.list l.next l.start l.end l.bits l.game l.initial.game
 
-abbrev pub decreases-loop-list : goal.decreases-loop-list
-decreases-loop-list l =
+abbrev pub decreases-loop-number : goal.decreases-loop-number
+decreases-loop-number l =
     length l.text - l.next

@@ -1,5 +1,5 @@
 -- `write_block` meets its contract. Assumes nothing.
-use Prim.Native.Nat.{◌-◌, ◌≤◌}
+use Prim.Native.Nat.{◌≤◌}
 use mathlib.Core.Path.{◌≡◌}
 use mathlib.Core.List.{[]}
 use lib.ListN.{length}
@@ -11,7 +11,3 @@ abbrev pub invariant-loop-vertex : goal.invariant-loop-vertex
 invariant-loop-vertex l =
     (length l.game ≡ length l.initial.game) × Part l.text l.vertices l.vertex l.end l.game × Holds l.bits []
     × PostedFrom l.text l.vertices l.vertex l.game × (l.vertex ≤ l.last)
-
-abbrev pub decreases-loop-vertex : goal.decreases-loop-vertex
-decreases-loop-vertex l =
-    l.last - l.vertex

@@ -1,5 +1,4 @@
 -- `write_in_order` meets its contract. Assumes nothing.
-use Prim.Native.Nat.{◌-◌}
 use mathlib.Core.Path.{◌≡◌}
 use mathlib.Core.List.{[]}
 use lib.ListN.{length}
@@ -12,7 +11,3 @@ abbrev pub invariant-loop-vertex : goal.invariant-loop-vertex
 invariant-loop-vertex l =
     (length l.game ≡ length l.initial.game) × Part l.text l.vertices l.vertex l.end l.game × Holds l.bits []
     × Ordering l.text l.first l.vertices l.vertex l.line × DigitBound l.digits.count l.digits.bound l.vertex
-
-abbrev pub decreases-loop-vertex : goal.decreases-loop-vertex
-decreases-loop-vertex l =
-    l.vertices - l.vertex

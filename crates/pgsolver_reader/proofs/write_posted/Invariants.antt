@@ -1,5 +1,5 @@
 -- `write_posted` meets its contract: no byte that is looked at is odd, and every block is written. Assumes nothing.
-use Prim.Native.Nat.{◌-◌}
+use Prim.Native.Nat.{min}
 use mathlib.Core.Path.{◌≡◌}
 use mathlib.Core.List.{[]}
 use lib.ListN.{length}
@@ -7,11 +7,7 @@ use Rattle.bitmap.specs.Marks.{Holds}
 use Rattle.pgsolver_reader.specs.Parts.{Part, PostedFrom}
 use Rattle.pgsolver_reader.proofs.write_posted.Given as goal
 
-abbrev pub invariant-loop-vertex : goal.invariant-loop-vertex
-invariant-loop-vertex l =
-    (length l.game ≡ length l.initial.game) × Part l.text l.vertices l.vertex l.end l.game × Holds l.bits []
-    × PostedFrom l.text l.vertices l.vertex l.game
-
-abbrev pub decreases-loop-vertex : goal.decreases-loop-vertex
-decreases-loop-vertex l =
-    l.vertices - l.vertex
+abbrev pub invariant-loop-first : goal.invariant-loop-first
+invariant-loop-first l =
+    (length l.game ≡ length l.initial.game) × Part l.text l.vertices (min l.vertices l.first) l.end l.game
+    × Holds l.bits [] × PostedFrom l.text l.vertices (min l.vertices l.first) l.game

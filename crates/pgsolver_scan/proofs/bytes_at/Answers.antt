@@ -1,28 +1,21 @@
 -- `bytes_at` meets its contract. Assumes nothing.
 use native.Mathlib.Omega.{arith}
-use mathlib.Core.Bool.{false≢true}
-use Rattle.pgsolver_scan.proofs.Headers.{pair_not, pair_told}
+use mathlib.Core.Path.{refl}
+use Rattle.pgsolver_scan.proofs.Reading.{when_true, when_false}
+use Rattle.pgsolver_scan.proofs.Headers.{standing_more, standing_not, standing_all}
 use Rattle.pgsolver_scan.proofs.bytes_at.Goals as goal
 
-pub overflow_add-place : goal.overflow_add-place
-overflow_add-place c = omega (arith, c.byte_at-begun.ensures.place_in_bounds c.if-begun.true)
+pub returns-then-not-byte_at-clause-place_value : goal.returns-then-not-byte_at-clause-place_value
+returns-then-not-byte_at-clause-place_value g c =
+    standing_not c.loop-count.invariant (omega (arith, c.told-bytes, c.loop-count-test.true)) _ refl
+    (when_false _ _ _ c.byte_at.ensures.place_value c.if-not-byte_at.true)
 
-pub returns-then-begun : goal.returns-then-begun
-returns-then-begun c =
-    record {
-      place_value = pair_told c.args.text.now c.args.place c.args.first c.args.second
-          c.byte_at-begun.ensures.place_value c.byte_at.result c.if-begun.true c.byte_at.ensures.place_value;
-      place_in_bounds = λ e. (
-        omega (arith, c.byte_at.ensures.place_in_bounds e),
-        omega
-            (arith, c.byte_at.ensures.place_in_bounds e),
-      );
-    }
+pub loop-count-preserved : goal.loop-count-preserved
+loop-count-preserved g c =
+    standing_more c.loop-count.invariant (omega (arith, c.told-bytes, c.loop-count-test.true)) _ refl
+    (when_true _ _ _ c.byte_at.ensures.place_value c.if-not-byte_at.false)
+    (c.byte_at.ensures.place_in_bounds c.if-not-byte_at.false)
 
-pub returns : goal.returns
-returns c =
-    record {
-      place_value = pair_not c.args.text.now c.args.place c.args.first c.args.second
-          c.byte_at-begun.ensures.place_value c.if-begun.false;
-      place_in_bounds = λ e. absurd (false≢true e);
-    }
+pub returns-clause-place_value : goal.returns-clause-place_value
+returns-clause-place_value g c =
+    standing_all c.loop-count.invariant g.row.N c.told-bytes c.loop-count-test.false c.loop-count.auto.count-end

@@ -1,12 +1,19 @@
 -- `digit_of` meets its contract. Assumes nothing.
-use Rattle.pgsolver_scan.proofs.Scanning.{digit_low, digit_high, digit_here}
+use Prim.Native.Nat.{◌-◌}
+use mathlib.Core.Bool.{Bool, cond}
+use mathlib.Core.Path.{sym, ap, ◌∙◌}
+use Rattle.std.specs.Prelude.{Some, None}
+use Rattle.rules.specs.TextReading.{is_digit}
 use Rattle.pgsolver_scan.proofs.digit_of.Goals as goal
 
-pub returns-then-byte-lt48 : goal.returns-then-byte-lt48
-returns-then-byte-lt48 c = digit_low c.args.byte c.if-byte-lt48.true
-
-pub returns-then-byte-gt57 : goal.returns-then-byte-gt57
-returns-then-byte-gt57 c = digit_high c.args.byte c.if-byte-gt57.true
+pub returns-then-is_ascii_digit : goal.returns-then-is_ascii_digit
+unfolding is_digit
+returns-then-is_ascii_digit c =
+    ap (λ (b : Bool). cond b (Some (c.args.byte - 48)) None)
+    (sym c.if-is_ascii_digit.true ∙ c.is_ascii_digit.ensures.value)
 
 pub returns : goal.returns
-returns c = digit_here c.args.byte c.if-byte-lt48.false c.if-byte-gt57.false
+unfolding is_digit
+returns c =
+    ap (λ (b : Bool). cond b (Some (c.args.byte - 48)) None)
+    (sym c.if-is_ascii_digit.false ∙ c.is_ascii_digit.ensures.value)

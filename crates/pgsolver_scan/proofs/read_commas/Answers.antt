@@ -1,47 +1,36 @@
+-- `read_commas` meets its contract. Assumes nothing.
 use native.Mathlib.Omega.{arith}
-use Rattle.pgsolver_scan.proofs.Reading.{commas_start, commas_end, commas_fail}
-use Rattle.pgsolver_scan.proofs.Reading.{commas_more, commas_later}
+use Rattle.pgsolver_scan.proofs.Reading.{commas_start, commas_end, commas_fail, commas_more, commas_later}
 use Rattle.pgsolver_scan.proofs.read_commas.Goals as goal
 
-pub loop-next-init : goal.loop-next-init
-loop-next-init c =
-    commas_start c.args.text.now c.args.place c.args.first c.requires
+pub loop-list-init : goal.loop-list-init
+loop-list-init c = commas_start c.args.text.now c.args.first.next c.args.first.value c.requires
 
-pub bounds-text-next : goal.bounds-text-next
-bounds-text-next c = c.loop-next-test.true
+pub returns-in_err-number : goal.returns-in_err-number
+returns-in_err-number c =
+    rw c.from_residual.ensures
+    (commas_fail c.loop-list.list c.loop-list.invariant c.loop-list-test.true c.if-text-list-eq44.true
+    c.in_err-number.ensures)
 
-pub returns-then-text-next-ne44 : goal.returns-then-text-next-ne44
-returns-then-text-next-ne44 c = commas_end c.loop-next.invariant (λ h. c.if-text-next-ne44.true)
-
-pub overflow_add-next : goal.overflow_add-next
-overflow_add-next c = omega arith
-
-pub read_number-number-requires : goal.read_number-number-requires
-read_number-number-requires c = omega arith
-
-pub returns-in_default : goal.returns-in_default
-returns-in_default c =
-    commas_fail c.loop-next.invariant c.loop-next-test.true c.if-text-next-ne44.false c.in_default.is
-    c.read_number-number.ensures
-
-pub overflow_add-listed : goal.overflow_add-listed
-overflow_add-listed c =
-    omega (arith, c.loop-next-test.true, c.loop-next.invariant.short)
-
-pub loop-next-smaller : goal.loop-next-smaller
-loop-next-smaller c =
-    let text = c.args.text.now in
+pub loop-list-smaller : goal.loop-list-smaller
+loop-list-smaller c =
     omega (
       arith,
-      c.loop-next-test.true,
-      commas_later text c.loop-next.next _ _ c.loop-next-test.true c.in-At.is
-          c.read_number-number.ensures,
+      c.loop-list-test.true,
+      commas_later c.args.text.now c.loop-list.list.next c.in_ok-number.number c.loop-list-test.true
+          c.in_ok-number.ensures,
     )
 
-pub loop-next-preserved : goal.loop-next-preserved
-loop-next-preserved c =
-    commas_more c.loop-next.invariant _ _ _ c.loop-next-test.true c.if-text-next-ne44.false
-    c.in-At.is c.read_number-number.ensures c.larger-largest.ensures
+pub loop-list-preserved : goal.loop-list-preserved
+loop-list-preserved c =
+    rw c.max.ensures
+    (commas_more c.loop-list.list c.loop-list.invariant c.loop-list-test.true c.if-text-list-eq44.true
+    c.in_ok-number.number c.in_ok-number.ensures)
 
-pub returns : goal.returns
-returns c = commas_end c.loop-next.invariant (λ h. absurd (omega (arith, c.loop-next-test.false)))
+pub returns-else-text-list-eq44 : goal.returns-else-text-list-eq44
+returns-else-text-list-eq44 c =
+    commas_end c.loop-list.list c.loop-list.invariant (λ h. c.if-text-list-eq44.false)
+
+pub returns-after-loop-list : goal.returns-after-loop-list
+returns-after-loop-list c =
+    commas_end c.loop-list.list c.loop-list.invariant (λ h. absurd (omega (arith, c.loop-list-test.false)))

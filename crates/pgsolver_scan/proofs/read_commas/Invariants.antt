@@ -4,8 +4,8 @@ use lib.ListN.{length}
 use Rattle.pgsolver_scan.proofs.Reading.{Commas}
 use Rattle.pgsolver_scan.proofs.read_commas.Given as goal
 
-abbrev pub invariant-loop-next : goal.invariant-loop-next
-invariant-loop-next l = Commas l.text l.place l.first l.next l.largest l.listed
+abbrev pub invariant-loop-list : goal.invariant-loop-list
+invariant-loop-list l = Commas l.text l.fn.first.next l.fn.first.value l.list
 
-abbrev pub decreases-loop-next : goal.decreases-loop-next
-decreases-loop-next l = length l.text - l.next
+abbrev pub decreases-loop-list : goal.decreases-loop-list
+decreases-loop-list l = length l.text - l.list.next

@@ -1,12 +1,9 @@
 -- `check_successors` meets its contract: no vertex before this one is without successors. Assumes nothing.
 use mathlib.Core.Path.{◌≡◌}
 use mathlib.Core.List.{[]}
-use Prim.Native.Nat.{ℕ, ◌≤◌, ◌<◌, ◌-◌}
+use Prim.Native.Nat.{ℕ, ◌<◌}
 use Rattle.rules.specs.Game.{targets_in}
 use Rattle.pgsolver_writer.proofs.check_successors.Given as goal
 
 abbrev pub invariant-loop-vertex : goal.invariant-loop-vertex
-invariant-loop-vertex l = (l.vertex ≤ l.vertices) × ((u : ℕ) → u < l.vertex → ¬ (targets_in l.game u ≡ []))
-
-abbrev pub decreases-loop-vertex : goal.decreases-loop-vertex
-decreases-loop-vertex l = l.vertices - l.vertex
+invariant-loop-vertex l = (u : ℕ) → u < l.vertex → ¬ (targets_in l.game u ≡ [])

@@ -1,49 +1,38 @@
--- `put_successor` meets its contract: the bitmap tells whether the successor was (unless (marked before.args.bits.now before.args.target) ((separator before.args.start before.args.place ∷ decimal before.args.target))). Assumes nothing.
-use mathlib.Core.Path.{ap, sym, ◌∙◌}
+-- `put_successor` meets its contract: the bitmap tells whether the successor was met before. Assumes nothing.
+use mathlib.Core.Path.{sym, ap}
 use mathlib.Core.List.{◌∷◌}
-use Prim.Native.Nat.{ℕ}
 use native.Mathlib.Omega.{arith}
 use lib.ListN.{length}
 use Rattle.rules.specs.Texts.{decimal}
-use Rattle.text_writer.proofs.Lines.{wrote_none, wrote_as}
+use Rattle.text_writer.proofs.Appending.{appended_none, appended_as, appended_both}
 use Rattle.bitmap.specs.Marks.{marked}
-use Rattle.pgsolver_writer.specs.Successors.{separator}
 use Rattle.pgsolver_writer.proofs.Lists.{unless_new, unless_old}
 use Rattle.pgsolver_writer.proofs.put_successor.Goals as goal
 
-pub meet-new-requires : goal.meet-new-requires
-meet-new-requires c = c.requires.target_lt_bitmap_numbers
+pub put_byte-requires : goal.put_byte-requires
+put_byte-requires c =
+    let new =
+    unless_new (marked c.args.bits.now c.args.target) _ (c.args.separator ∷ decimal c.args.target)
+    c.meet-new.ensures.0 c.if-new.true in
+    omega (arith, c.requires.room, ap length new)
 
-pub put_parted-requires : goal.put_parted-requires
-put_parted-requires c =
-    omega (
-      arith,
-      c.requires.target_in_bounds,
-      ap length
-          ((unless_new (marked c.args.bits.now c.args.target) _
-          ((separator c.args.start c.args.place ∷ decimal c.args.target)) c.meet-new.ensures.0 c.if-new.true)),
-    )
+pub put_decimal-requires : goal.put_decimal-requires
+put_decimal-requires c =
+    let new =
+    unless_new (marked c.args.bits.now c.args.target) _ (c.args.separator ∷ decimal c.args.target)
+    c.meet-new.ensures.0 c.if-new.true in
+    omega (arith, c.requires.room, ap length new, c.put_byte.ensures.long, c.put_byte.ensures.wrote.past)
 
-pub shape_of-text-then-new : goal.shape_of-text-then-new
-shape_of-text-then-new c = c.put_parted.auto.text
+pub returns-then-new-clause-wrote : goal.returns-then-new-clause-wrote
+returns-then-new-clause-wrote c =
+    let new =
+    unless_new (marked c.args.bits.now c.args.target) _ (c.args.separator ∷ decimal c.args.target)
+    c.meet-new.ensures.0 c.if-new.true in
+    appended_as (sym new) (appended_both c.put_byte.ensures c.put_decimal.ensures)
 
-pub returns-then-new : goal.returns-then-new
-returns-then-new c =
-    let at-put = c.before.before in
-    let at-separator = at-put.before.before in
-    let at_test = at-separator.before in
-    let at_meet = at_test.before in
-    let s = at_meet.before.before.before in
-    let byte = ap (λ (b : ℕ). b ∷ decimal c.args.target) c.separator_at-byte.ensures in record {
-      wrote = wrote_as (byte ∙ sym ((let s = at_meet.before.before.before in unless_new
-          (marked c.args.bits.now c.args.target) _ ((separator c.args.start c.args.place ∷ decimal c.args.target))
-          c.meet-new.ensures.0 c.if-new.true))) c.put_parted.ensures;
-      met = c.meet-new.ensures.1;
-    }
-
-pub returns : goal.returns
-returns c =
-    let old = unless_old (marked c.args.bits.now c.args.target) _
-    ((separator c.args.start c.args.place ∷ decimal c.args.target)) c.meet-new.ensures.0
-    c.if-new.false
-    in record { wrote = wrote_none old; met = c.meet-new.ensures.1 }
+pub returns-clause-wrote : goal.returns-clause-wrote
+returns-clause-wrote c =
+    let old =
+    unless_old (marked c.args.bits.now c.args.target) _ (c.args.separator ∷ decimal c.args.target)
+    c.meet-new.ensures.0 c.if-new.false in
+    appended_as (sym old) appended_none

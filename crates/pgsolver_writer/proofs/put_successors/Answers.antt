@@ -1,47 +1,38 @@
+use mathlib.Core.Path.{ap}
 use native.Mathlib.Omega.{arith}
-use Rattle.pgsolver_writer.proofs.Turns.{listing_start, listing_room, listing_more, listing_last}
-use Rattle.pgsolver_writer.proofs.Turns.{only_once}
+use Rattle.text_writer.proofs.Appending.{appended_as}
+use Rattle.pgsolver_writer.specs.Successors.{spaced_list}
+use Rattle.pgsolver_writer.proofs.Turns.{listing_start, listing_room, listing_more, first_all, only_first}
 use Rattle.pgsolver_writer.proofs.put_successors.Goals as goal
 
-pub loop-place-init : goal.loop-place-init
-loop-place-init c =
-    listing_start c.args.start c.args.text.now c.requires.places c.requires.holds
+pub loop-target-init : goal.loop-target-init
+loop-target-init c = listing_start c.args.targets.now c.requires.holds
 
-pub at-target-requires : goal.at-target-requires
-at-target-requires c = omega (arith, c.requires.places.within)
-
-pub put_successor-past-requires : goal.put_successor-past-requires
-put_successor-past-requires c =
-    let below = c.loop-place-test.true in
-    let inv = c.loop-place.invariant in
-    let small = c.requires.places.small c.loop-place.place inv.begun below in record {
-      target_lt_bitmap_numbers = (omega (arith, c.at-target.ensures.0, small), inv.holds.long);
-      target_in_bounds = listing_room c.at-target.result c.requires.places below c.at-target.ensures.0 inv
-          c.requires.end_in_bounds;
+pub put_successor-separator-requires : goal.put_successor-separator-requires
+put_successor-separator-requires c =
+    let small = c.requires.vertices.small c.loop-target.target-index (omega arith) in
+    record {
+      target_lt_bitmap_numbers = (omega (arith, small), c.loop-target.invariant.holds.long);
+      room =
+          listing_room c.args.targets.now c.loop-target.target-index (omega arith) c.loop-target.invariant
+          c.requires.room;
     }
 
-pub overflow_add-place : goal.overflow_add-place
-overflow_add-place c =
-    omega (arith, c.requires.places.few)
-
-pub loop-place-smaller : goal.loop-place-smaller
-loop-place-smaller c = omega arith
-
-pub loop-place-preserved : goal.loop-place-preserved
-loop-place-preserved c =
-    listing_more c.at-target.result c.requires.places c.loop-place-test.true c.at-target.ensures.0
-    c.loop-place.invariant c.put_successor-past.auto.text c.put_successor-past.ensures.wrote
-    c.put_successor-past.ensures.met
+pub loop-target-preserved : goal.loop-target-preserved
+loop-target-preserved c =
+    let put = c.put_successor-separator.ensures in
+    listing_more c.args.targets.now c.loop-target.target-index (omega arith) c.loop-target.invariant put.wrote put.next
+    put.met
 
 pub empty-requires : goal.empty-requires
 empty-requires c =
-    let listed = listing_last c.loop-place.invariant c.loop-place-test.false in
-    record { places = c.requires.places; only = only_once c.args.game.now c.args.first c.args.end listed.holds }
-
-pub shape_of-text : goal.shape_of-text
-shape_of-text c = c.loop-place.invariant.long
+    let listed = c.loop-target.invariant in
+    record {
+      vertices = c.requires.vertices;
+      only = only_first c.args.targets.now c.loop-target.target-index c.loop-target-test.false listed.holds;
+    }
 
 pub returns : goal.returns
 returns c =
-    let listed = listing_last c.loop-place.invariant c.loop-place-test.false in
-    record { wrote = listed.wrote; holds_2 = c.empty.ensures }
+    let all = first_all c.args.targets.now c.loop-target.target-index c.loop-target-test.false in
+    record { wrote = appended_as (ap spaced_list all) c.loop-target.invariant.wrote; holds_2 = c.empty.ensures }

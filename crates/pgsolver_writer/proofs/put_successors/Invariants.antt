@@ -1,11 +1,6 @@
--- `put_successors` meets its contract: the successors met are written. Assumes nothing.
-use Prim.Native.Nat.{◌-◌}
+-- `put_successors` meets its contract: the successors before this one are written, and are marked. Assumes nothing.
 use Rattle.pgsolver_writer.proofs.Turns.{Listing}
 use Rattle.pgsolver_writer.proofs.put_successors.Given as goal
 
-abbrev pub invariant-loop-place : goal.invariant-loop-place
-invariant-loop-place l =
-    Listing l.game l.first l.end l.start l.place l.past l.bits l.text l.initial.text
-
-abbrev pub decreases-loop-place : goal.decreases-loop-place
-decreases-loop-place l = l.end - l.place
+abbrev pub invariant-loop-target : goal.invariant-loop-target
+invariant-loop-target l = Listing l.targets l.target-index l.separator l.bits l.text l.initial.text

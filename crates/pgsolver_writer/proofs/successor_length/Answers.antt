@@ -9,25 +9,16 @@ use Rattle.bitmap.specs.Marks.{marked}
 use Rattle.pgsolver_writer.proofs.Lists.{unless_new, unless_old}
 use Rattle.pgsolver_writer.proofs.successor_length.Goals as goal
 
-pub meet-new-requires : goal.meet-new-requires
-meet-new-requires c = c.requires
-
-pub overflow_add-result : goal.overflow_add-result
-overflow_add-result c = omega (arith, c.digit_count.ensures.1)
-
-pub returns-then-new : goal.returns-then-new
-returns-then-new c =
+pub returns-then-new-clause-value : goal.returns-then-new-clause-value
+returns-then-new-clause-value c =
     let target = c.args.target in
-    let new = unless_new (marked c.args.bits.now target) _ (32 ∷ decimal target) c.meet-new.ensures.0
-    c.if-new.true
-    in
+    let new = unless_new (marked c.args.bits.now target) _ (32 ∷ decimal target) c.meet-new.ensures.0 c.if-new.true in
     let size = c.digit_count.ensures.0 in
     let few = decimal-word target (omega (arith, c.requires.0)) in
-    record { value = (omega (arith, ap length new, size), omega (arith, size, few)); met = c.meet-new.ensures.1 }
+    (omega (arith, ap length new, size), omega (arith, size, few))
 
-pub returns : goal.returns
-returns c =
+pub returns-clause-value : goal.returns-clause-value
+returns-clause-value c =
     let target = c.args.target in
-    let old = unless_old (marked c.args.bits.now target) _ (32 ∷ decimal target) c.meet-new.ensures.0
-    c.if-new.false
-    in record { value = (omega (arith, ap length old), omega arith); met = c.meet-new.ensures.1 }
+    let old = unless_old (marked c.args.bits.now target) _ (32 ∷ decimal target) c.meet-new.ensures.0 c.if-new.false in
+    (omega (arith, ap length old), omega arith)

@@ -2,17 +2,13 @@
 -- nothing.
 use mathlib.Core.Path.{◌≡◌}
 use mathlib.Core.List.{[]}
-use Prim.Native.Nat.{◌+◌, ◌-◌, ◌≤◌}
+use Prim.Native.Nat.{◌+◌}
 use lib.ListN.{length}
 use Rattle.rules.specs.PgsolverWriting.{game_text}
 use Rattle.bitmap.specs.Marks.{Holds}
 use Rattle.pgsolver_writer.proofs.Texts.{lines_from}
 use Rattle.pgsolver_writer.proofs.text_length.Given as goal
 
-abbrev pub invariant-loop-vertex : goal.invariant-loop-vertex
-invariant-loop-vertex l =
-    (l.vertex ≤ l.vertices) × (l.size + length (lines_from l.game l.vertex) ≡ length (game_text l.game)) × Holds
-    l.bits []
-
-abbrev pub decreases-loop-vertex : goal.decreases-loop-vertex
-decreases-loop-vertex l = l.vertices - l.vertex
+abbrev pub invariant-loop-number : goal.invariant-loop-number
+invariant-loop-number l =
+    (l.size + length (lines_from l.game l.number) ≡ length (game_text l.game)) × Holds l.bits []

@@ -2,27 +2,18 @@ use native.Mathlib.Omega.{arith}
 use Rattle.settling.proofs.Clearing.{clearing_start, clearing_on, clearing_end}
 use Rattle.settling.proofs.clear_marks.Goals as goal
 
-pub loop-i-init : goal.loop-i-init
-loop-i-init c = clearing_start _ _ _
+pub loop-index-init : goal.loop-index-init
+loop-index-init c = clearing_start _ _ _
 
 pub put_mark-requires : goal.put_mark-requires
 put_mark-requires c =
-    let cleared = c.loop-i.invariant.cleared in
-    (c.requires.0, omega (arith, c.requires.1, cleared.long, c.loop-i-test.true))
+    let cleared = c.loop-index.invariant.cleared in
+    (c.requires.0, omega (arith, c.requires.1, cleared.long, c.loop-index-test.true))
 
-pub overflow_add-i : goal.overflow_add-i
-overflow_add-i c = omega (arith, c.loop-i-test.true)
-
-pub loop-i-smaller : goal.loop-i-smaller
-loop-i-smaller c = omega (arith, c.loop-i-test.true)
-
-pub loop-i-preserved : goal.loop-i-preserved
-loop-i-preserved c =
-    clearing_on _ _ _ _ _ _ c.loop-i.invariant c.loop-i-test.true c.requires.1
+pub loop-index-preserved : goal.loop-index-preserved
+loop-index-preserved c =
+    clearing_on _ _ _ _ _ _ c.loop-index.invariant c.loop-index-test.true c.requires.1
     c.put_mark.ensures
 
-pub shape_of-work : goal.shape_of-work
-shape_of-work c = c.loop-i.invariant.cleared.long
-
 pub returns : goal.returns
-returns c = clearing_end _ _ _ _ _ c.loop-i.invariant c.loop-i-test.false
+returns c = clearing_end _ _ _ _ _ c.loop-index.invariant c.loop-index-test.false

@@ -7,10 +7,6 @@ returns-then-edges-start c =
     close_loop _ _ _ _ _ _ _ _ c.requires.0 c.requires.1 c.requires.3 c.if-edges-start.true
     (omega (arith, c.requires.0.buffer, c.if-edges-room.false)) c.put_edge.ensures c.put_word.ensures
 
-pub overflow_add-edges : goal.overflow_add-edges
-overflow_add-edges c =
-    omega (arith, c.requires.0.buffer, c.requires.0.most-edges)
-
 pub returns : goal.returns
 returns c =
     close_others _ _ c.args.work.now _ c.args.work.now _ _ _ c.requires.0 c.requires.1 c.requires.3

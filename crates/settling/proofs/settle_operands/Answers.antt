@@ -1,55 +1,34 @@
-use mathlib.Core.Path.{sym, subst}
 use native.Mathlib.Omega.{arith}
-use Rattle.settling.specs.Made.{Fitting, Answer}
-use Rattle.settling.proofs.Operands.{settling_start, settling_on, settling_many, settling_end, operand_fits}
+use Rattle.lists.proofs.Members.{in_at}
+use Rattle.settling.proofs.Make.{answer_failed}
+use Rattle.settling.proofs.Operands.{settling_start, settling_on, settling_many, settling_end}
 use Rattle.settling.proofs.settle_operands.Goals as goal
 
-pub loop-i-init : goal.loop-i-init
-loop-i-init c = settling_start _ _ _ _ _ _ c.requires.ready.0
+pub loop-number-init : goal.loop-number-init
+loop-number-init c = settling_start _ _ _ _ _ _ c.requires.ready
 
-pub nth_operand-item-requires : goal.nth_operand-item-requires
-nth_operand-item-requires c =
-    omega (arith, c.loop-i-test.true, c.requires.ready.2)
-
-pub product-scaled-requires : goal.product-scaled-requires
-product-scaled-requires c =
-    let fits = operand_fits c.args.state _ _ _ _ c.loop-i-test.true c.requires.ready.2 c.requires.ready.1
-    c.requires.fitting in
-    record {
-      multiples = c.requires.multiples;
-      factor_bound = omega
-          (arith, c.nth_operand-item.ensures, fits.item_fits);
-    }
+pub scale-item-requires : goal.scale-item-requires
+scale-item-requires c =
+    let fits = c.requires.fitting _ (in_at c.args.items.now c.loop-number.number-index 0 c.loop-number-test.true) in
+    omega (arith, fits.item_fits)
 
 pub number_target-requires : goal.number_target-requires
 number_target-requires c =
-    let less = c.loop-i-test.true in
-    let fits = operand_fits c.args.state _ _ _ _ less c.requires.ready.2 c.requires.ready.1 c.requires.fitting in
-    let fits-item = subst (Fitting c.args.state) (sym c.nth_operand-item.ensures) fits in
-    let ready = c.loop-i.invariant.made.ready in
-    record {
-      scaled = record { multiples = c.requires.multiples; product = c.product-scaled.ensures };
-      ready =
-          (ready, fits-item);
-    }
+    let fits = c.requires.fitting _ (in_at c.args.items.now c.loop-number.number-index 0 c.loop-number-test.true) in
+    (c.loop-number.invariant.made.ready, rw c.scale-item.ensures fits)
 
-pub returns-in-Full : goal.returns-in-Full
-returns-in-Full c =
-    settling_many _ _ _ _ _ _ _ _ c.requires.ready.2 _ c.number_target.new.work _ _
-    c.loop-i.invariant c.loop-i-test.true _
-    c.nth_operand-item.ensures
-    (subst (Answer _ _ _ _ _ _ _) c.in-Full.is c.number_target.ensures)
+pub returns-in_err-so_far : goal.returns-in_err-so_far
+returns-in_err-so_far c =
+    answer_failed _ _ _ _ _ _ _ _ c.from_residual.ensures.0
+    (settling_many _ _ _ _ _ _ _ c.loop-number.work _ _ c.loop-number.invariant c.loop-number-test.true
+    (rw c.scale-item.ensures at c.in_err-so_far.ensures))
 
-pub loop-i-preserved : goal.loop-i-preserved
-loop-i-preserved c =
-    settling_on _ _ _ _ _ _ _ _ c.requires.ready.2 _ _ _ _ c.loop-i.invariant
-    c.loop-i-test.true _ c.nth_operand-item.ensures _
-    c.number_target.auto.work
-    (subst (Answer _ _ _ _ _ _ _) c.in-Fits.is c.number_target.ensures)
-
-pub shape_of-work : goal.shape_of-work
-shape_of-work c = c.loop-i.invariant.same
+pub loop-number-preserved : goal.loop-number-preserved
+loop-number-preserved c =
+    settling_on _ _ _ _ _ _ _ _ _ _ c.loop-number.invariant c.loop-number-test.true _ c.number_target.auto.work
+    (rw c.scale-item.ensures at c.in_ok-so_far.ensures)
 
 pub returns : goal.returns
 returns c =
-    settling_end _ _ _ _ _ _ _ _ c.requires.ready.2 _ _ _ c.loop-i.invariant c.loop-i-test.false
+    settling_end _ _ _ _ _ _ _ _ _ c.loop-number.invariant
+    (omega (arith, c.loop-number-test.false, c.loop-number.auto.number-index-end))

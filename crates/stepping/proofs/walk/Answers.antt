@@ -1,16 +1,22 @@
--- `walk` meets its contract: fewer steps than the limit with a vertex left waiting are too many targets. Assumes
--- nothing.
-use mathlib.Core.Logic.{inl, inr}
+use Rattle.stepping.proofs.Walking.{walking_on, tried_last, tried_many, walking_end}
 use Rattle.stepping.proofs.walk.Goals as goal
 
-pub returns-then-last-gt0 : goal.returns-then-last-gt0
-returns-then-last-gt0 c =
-    c.run_steps-ran.ensures.many c.if-ran-bounds.true c.if-last-gt0.true
+pub step_in_place-requires : goal.step_in_place-requires
+step_in_place-requires c = c.loop-done.invariant.made.good
 
-pub returns-else-last-gt0 : goal.returns-else-last-gt0
-returns-else-last-gt0 c =
-    c.run_steps-ran.ensures.made (inr c.if-last-gt0.false)
+pub loop-done-preserved : goal.loop-done-preserved
+loop-done-preserved c =
+    walking_on _ _ _ _ _ _ _ _ _ c.loop-done.invariant _ _ c.loop-done-test.true c.if-step_in_place.ensures
 
-pub returns-else-ran-bounds : goal.returns-else-ran-bounds
-returns-else-ran-bounds c =
-    c.run_steps-ran.ensures.made (inl c.if-ran-bounds.false)
+pub returns-then-counters-gt0 : goal.returns-then-counters-gt0
+returns-then-counters-gt0 c =
+    tried_many _ _ _ _ _ _ _ _ _ c.loop-done.invariant c.loop-done-test.true _ _ c.if-step_in_place.ensures
+    c.if-counters-gt0.true
+
+pub returns-in-loop-done : goal.returns-in-loop-done
+returns-in-loop-done c =
+    tried_last _ _ _ _ _ _ _ _ _ c.loop-done.invariant c.loop-done-test.true _ _ c.if-step_in_place.ensures
+    c.if-counters-gt0.false
+
+pub returns : goal.returns
+returns c = walking_end _ _ _ _ _ _ _ _ _ c.loop-done.invariant c.loop-done-test.false

@@ -1,20 +1,18 @@
-use mathlib.Core.Path.{ap}
+use Prim.Native.Nat.{◌+◌, ◌-◌}
 use native.Mathlib.Omega.{arith}
-use mathlib.Core.Path.{◌≡◌, sym, ◌∙◌}
-use Rattle.rules.specs.Lists.{sum_words}
+use mathlib.Core.Path.{sym, ◌∙◌}
+use lib.ListN.{drop}
+use lib.Seq.{get_or-take, get_or-drop}
 use Rattle.lists.proofs.Sums.{sum_none, sum_more}
 use Rattle.system_words.proofs.sum_words.Goals as goal
 
-pub loop-i-init : goal.loop-i-init
-loop-i-init c = (omega arith, omega arith, sym (sum_none _ _))
+pub loop-degree-init : goal.loop-degree-init
+loop-degree-init c = (omega arith, sym (sum_none _ _))
 
-pub loop-i-preserved : goal.loop-i-preserved
-loop-i-preserved c =
+pub loop-degree-preserved : goal.loop-degree-preserved
+loop-degree-preserved c =
     let a = c.args in
-    omega (arith, sum_more a.ws.now a.first c.loop-i.i)
-
-pub returns : goal.returns
-returns c =
-    let a = c.args in
-    let e : c.loop-i.i ≡ a.count = omega arith in
-    c.loop-i.invariant.2 ∙ ap (sum_words a.ws.now a.first) e
+    let i = c.loop-degree.degree-index in
+    let e = get_or-take (a.first + a.count - a.first) (drop a.first a.ws.now) i 0 (omega arith) ∙ get_or-drop a.first a.ws.now i 0 in
+    let small = c.type_inv.ws (a.first + i) in
+    omega (arith, e, sum_more a.ws.now a.first i)

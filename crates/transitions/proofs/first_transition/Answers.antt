@@ -1,7 +1,5 @@
-use mathlib.Core.Path.{◌≡◌, ap, ◌∙◌}
 use Prim.Native.Nat.{◌*◌, ◌/◌}
 use native.Mathlib.Omega.{arith}
-use Rattle.rules.specs.System.{first_transition}
 use Rattle.transitions.specs.Samples.{stride}
 use Rattle.transitions.proofs.Sums.{first_more, sum_small}
 use Rattle.transitions.proofs.first_transition.Goals as goal
@@ -17,26 +15,18 @@ overflow_cast-first c =
     )
 
 pub loop-s-init : goal.loop-s-init
-loop-s-init c =
-    (omega arith, c.requires.samples.entry (c.args.state / stride) (omega (arith, c.requires.state_bound)))
+loop-s-init c = c.requires.samples.entry (c.args.state / stride) (omega (arith, c.requires.state_bound))
 
 pub overflow_add-first : goal.overflow_add-first
 overflow_add-first c =
     let l = c.loop-s in
     omega (
       arith,
-      sum_small c.args.system.now c.requires.system l.s l.first
-          (omega (arith, l.invariant.0, c.requires.state_bound)) l.invariant.1,
+      sum_small c.args.system.now c.requires.system l.s l.first (omega (arith, c.requires.state_bound)) l.invariant,
       c.at-first.ensures.1,
     )
 
 pub loop-s-preserved : goal.loop-s-preserved
 loop-s-preserved c =
     let l = c.loop-s in
-    (omega arith, omega (arith, first_more c.args.system.now l.s, l.invariant.1, c.at-first.ensures.0))
-
-pub returns : goal.returns
-returns c =
-    let l = c.loop-s in
-    let e : l.s ≡ c.args.state = omega (arith, l.invariant.0, c.loop-s-test.false) in
-    l.invariant.1 ∙ ap (first_transition c.args.system.now) e
+    omega (arith, first_more c.args.system.now l.s, l.invariant, c.at-first.ensures.0)

@@ -1,11 +1,7 @@
 -- `first_transition` meets its contract: the loop begins at a sample. Assumes nothing.
 use mathlib.Core.Path.{◌≡◌}
-use Prim.Native.Nat.{◌-◌, ◌≤◌}
 use Rattle.rules.specs.System.{first_transition}
 use Rattle.transitions.proofs.first_transition.Given as goal
 
 abbrev pub invariant-loop-s : goal.invariant-loop-s
-invariant-loop-s l = (l.s ≤ l.state) × (l.first ≡ first_transition l.system l.s)
-
-abbrev pub decreases-loop-s : goal.decreases-loop-s
-decreases-loop-s l = l.state - l.s
+invariant-loop-s l = l.first ≡ first_transition l.system l.s

@@ -1,8 +1,7 @@
-use mathlib.Core.Path.{◌≡◌, refl, sym, ap, subst, ◌∙◌}
+use mathlib.Core.Path.{◌≡◌, sym, subst}
 use mathlib.Core.List.{List}
-use Prim.Native.Nat.{ℕ, ◌+◌, ◌*◌, ◌/◌, ◌<◌}
+use Prim.Native.Nat.{ℕ, ◌+◌, ◌*◌, ◌<◌}
 use native.Mathlib.Omega.{arith}
-use lib.ListN.{length, length-set}
 use Rattle.rules.specs.Lists.{word}
 use Rattle.rules.specs.System.{first_transition}
 use Rattle.transitions.specs.Samples.{stride}
@@ -11,21 +10,14 @@ use Rattle.transitions.proofs.sample_transitions.Goals as goal
 use Rattle.transitions.proofs.sample_transitions.Goals.{then-s-eq0, else-s-eq0}
 
 pub loop-s-init : goal.loop-s-init
-loop-s-init c = (
-  omega arith,
-  c.at-states.ensures.0,
-  refl,
-  sym (first-none c.args.system.now),
-  λ i h. absurd (omega arith),
-)
+loop-s-init c = (sym (first-none c.args.system.now), λ i h. absurd (omega arith))
 
 pub overflow_cast-samples : goal.overflow_cast-samples
 overflow_cast-samples c =
     let l = c.loop-s in
     omega (
       arith,
-      sum_small c.args.system.now c.requires.system l.s l.sum
-          (omega (arith, l.invariant.0, l.invariant.1)) l.invariant.3,
+      sum_small c.args.system.now c.requires.system l.s l.sum (omega (arith, c.at-states.ensures.0)) l.invariant.0,
     )
 
 pub overflow_add-sum : goal.overflow_add-sum
@@ -33,8 +25,7 @@ overflow_add-sum c =
     let l = c.loop-s in
     omega (
       arith,
-      sum_small c.args.system.now c.requires.system l.s l.sum
-          (omega (arith, l.invariant.0, l.invariant.1)) l.invariant.3,
+      sum_small c.args.system.now c.requires.system l.s l.sum (omega (arith, c.at-states.ensures.0)) l.invariant.0,
       c.at-sum.ensures.1,
     )
 
@@ -43,31 +34,23 @@ loop-s-preserved c =
     let l = c.loop-s in
     let ss = c.args.system.now in
     let more : l.sum + c.at-sum.result ≡ first_transition ss (l.s + 1) = omega
-    (arith, first_more ss l.s, l.invariant.3, c.at-sum.ensures.0) in
+    (arith, first_more ss l.s, l.invariant.0, c.at-sum.ensures.0) in
+    let P : List ℕ → Type 0 = λ z. (i : ℕ) → i * stride < l.s + 1 → word z i ≡ first_transition ss (i * stride) in
     elim c.if-s-eq0.branch [
       | then-s-eq0 w ↦ (
-        omega arith,
-        l.invariant.1,
-        ap length w.samples-is ∙ length-set l.samples (l.s / stride) l.sum ∙ l.invariant.2,
         more,
-        subst (λ (z : List ℕ). (i : ℕ) → i * stride < l.s + 1 → word z i ≡ first_transition ss (i * stride))
-            (sym w.samples-is) (sample_more ss l.samples l.s l.sum
+        subst P (sym w.samples-is) (sample_more ss l.samples l.s l.sum
             (omega (
               arith,
-              l.invariant.2,
-              l.invariant.0,
-              l.invariant.1,
+              l.auto.samples,
+              c.at-states.ensures.0,
               c.requires.system.1.states,
               c.requires.sample_count_in_bounds,
-            )) w.if-s-eq0.true l.invariant.3 l.invariant.4),
+            )) w.if-s-eq0.true l.invariant.0 l.invariant.1),
       )
       | else-s-eq0 w ↦ (
-        omega arith,
-        l.invariant.1,
-        ap length w.samples-is ∙ l.invariant.2,
         more,
-        subst (λ (z : List ℕ). (i : ℕ) → i * stride < l.s + 1 → word z i ≡ first_transition ss (i * stride))
-            (sym w.samples-is) (sample_between ss l.samples l.s w.if-s-eq0.false l.invariant.4),
+        subst P (sym w.samples-is) (sample_between ss l.samples l.s w.if-s-eq0.false l.invariant.1),
       )
     ]
 
@@ -75,7 +58,6 @@ pub returns : goal.returns
 returns c =
     let l = c.loop-s in
     record {
-      room = omega (arith, l.invariant.2, c.requires.system.1.states, c.requires.sample_count_in_bounds);
-      entry =
-          λ i h. l.invariant.4 i (omega (arith, l.invariant.1, c.loop-s-test.false));
+      room = omega (arith, l.auto.samples, c.requires.system.1.states, c.requires.sample_count_in_bounds);
+      entry = λ i h. l.invariant.1 i (omega (arith, c.at-states.ensures.0, c.loop-s-test.false));
     }

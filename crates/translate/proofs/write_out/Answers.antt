@@ -5,11 +5,11 @@ use Rattle.translate.proofs.write_out.Goals as goal
 
 pub write_game-requires : goal.write_game-requires
 write_game-requires c =
-    subst (Writable _ _ _) c.in-Fits.is c.requires
+    subst (Writable _ _ _) c.in-Ok.is c.requires
 
 pub returns-then-counters-eq0 : goal.returns-then-counters-eq0
 returns-then-counters-eq0 c =
-    subst (WroteOut _ _ _ _ _ _ _ _) (sym c.in-Fits.is) (record {
+    subst (WroteOut _ _ _ _ _ _ _ _) (sym c.in-Ok.is) (record {
       done = λ _. refl;
       cut = λ some. absurd (some c.if-counters-eq0.true);
       written = c.write_game.ensures;
@@ -18,13 +18,13 @@ returns-then-counters-eq0 c =
 
 pub returns-else-counters-eq0 : goal.returns-else-counters-eq0
 returns-else-counters-eq0 c =
-    subst (WroteOut _ _ _ _ _ _ _ _) (sym c.in-Fits.is) (record {
+    subst (WroteOut _ _ _ _ _ _ _ _) (sym c.in-Ok.is) (record {
       done = λ none. absurd (c.if-counters-eq0.false none);
       cut = λ _. refl;
       written = c.write_game.ensures;
       cleared = c.clear.ensures;
     })
 
-pub returns-in-Full : goal.returns-in-Full
-returns-in-Full c =
-    subst (WroteOut _ _ _ _ _ _ _ _) (sym c.in-Full.is) (refl, c.clear-in-Full.ensures, c.clear-in-Full-2.ensures)
+pub returns-in-Err : goal.returns-in-Err
+returns-in-Err c =
+    subst (WroteOut _ _ _ _ _ _ _ _) (sym c.in-Err.is) (refl, c.clear-in-Err.ensures, c.clear-in-Err-2.ensures)

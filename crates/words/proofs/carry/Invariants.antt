@@ -1,5 +1,5 @@
 use Rattle.words.proofs.Stretches.{Writing}
-use Prim.Native.Nat.{◌+◌, ◌≤◌, ◌-◌}
+use Prim.Native.Nat.{◌+◌}
 use mathlib.Core.List.{map}
 use lib.ListN.{take}
 use lib.Seq.{slice}
@@ -7,9 +7,6 @@ use Rattle.rules.specs.Lists.{word}
 use Rattle.words.proofs.carry.Given as goal
 
 abbrev pub invariant-loop-i : goal.invariant-loop-i
-invariant-loop-i l = (l.i ≤ l.count) × Writing l.place
-    (map (λ v. word l.src (l.base + v)) (slice l.i l.count l.numbers)) l.out l.start
+invariant-loop-i l =
+    Writing (l.start + l.i) (map (λ v. word l.src (l.base + v)) (slice l.i l.count l.numbers)) l.out l.start
     (map (λ v. word l.src (l.base + v)) (take l.count l.numbers)) l.initial.out
-
-abbrev pub decreases-loop-i : goal.decreases-loop-i
-decreases-loop-i l = l.count - l.i

@@ -1,5 +1,6 @@
-use Rattle.words.proofs.Stretches.{fill_zeros}
+use Rattle.rules.specs.Lists.{zeros}
 use Rattle.words.proofs.clear.Goals as goal
 
 pub returns : goal.returns
-returns c = fill_zeros _ _ c.fill.ensures
+unfolding zeros
+returns c = c.fill.ensures.after (λ y e. e)

@@ -1,5 +1,5 @@
--- `word_at` meets its contract: the sum of four bytes is below 2^32. Assumes nothing.
-use native.Mathlib.Omega.{arith}
+-- `word_at` meets its contract: the sum of four bytes. Assumes nothing.
+use Rattle.std.proofs.Common.{arith}
 use Rattle.rules.specs.Program.{word_of}
 use Rattle.words.specs.Bytes.{word_at}
 use Rattle.words.proofs.word_at.Goals as goal

@@ -1,0 +1,7 @@
+-- The nodes before this one have their item numbers. Assumes nothing.
+use Rattle.lent_input.specs.Inputs.{input_in}
+use Rattle.item_table.proofs.Numbers.{Numbering}
+use Rattle.item_table.proofs.Source.number_items.Given as goal
+
+abbrev pub invariant-loop-node : goal.invariant-loop-node
+invariant-loop-node l = Numbering (input_in l.self.input) l.nodes l.node l.next l.numbers

@@ -1,8 +1,0 @@
--- `alternation_depth` meets its contract: it is the reading of the equation for itself. Assumes nothing.
-use Rattle.rules.specs.Depth.{depth}
-use Rattle.modal_equation_system.proofs.alternation_depth.Goals as goal
-
-pub returns : goal.returns
-unfolding depth
-returns c =
-    c.read_equation.ensures c.args.formula.now c.requires.listed c.requires.equation_bound

@@ -1,0 +1,37 @@
+-- The words that stand for the kinds of nodes (document 01, "Words handed over"). Assumes nothing: these are
+-- definitions.
+use Rattle.std.specs.Prelude.{◌≡◌, ℕ, ◌<◌, Result, MatchResult}
+use Rattle.node_kinds.specs.declared.ActionKind.{ActionKind}
+use Rattle.node_kinds.specs.declared.ActionKind.TheVariants.{True, False, MultiAction, Union, Intersection, Negation}
+use Rattle.node_kinds.specs.declared.FormulaKind.{FormulaKind}
+use Rattle.node_kinds.specs.declared.FormulaKind.TheVariants as formula
+use Rattle.node_kinds.specs.declared.UnknownKind.{UnknownKind}
+
+-- "0 true, 1 false, 2 multi-action, 3 union, 4 intersection, 5 negation"
+abbrev pub action_code : ActionKind → ℕ
+action_code True = 0
+action_code False = 1
+action_code MultiAction = 2
+action_code Union = 3
+action_code Intersection = 4
+action_code Negation = 5
+
+-- "0 true, 1 false, 2 and, 3 or, 4 box, 5 diamond, 6 least, 7 greatest, 8 reference"
+abbrev pub formula_code : FormulaKind → ℕ
+formula_code formula.True = 0
+formula_code formula.False = 1
+formula_code formula.And = 2
+formula_code formula.Or = 3
+formula_code formula.Box = 4
+formula_code formula.Diamond = 5
+formula_code formula.Least = 6
+formula_code formula.Greatest = 7
+formula_code formula.Reference = 8
+
+-- the kind of an action formula's node with this word, or an error with a word that none has
+abbrev pub ReadsAction : ℕ → Result ActionKind UnknownKind → Type 0
+ReadsAction word r = MatchResult r (λ kind. action_code kind ≡ word) (λ e. (e.0 ≡ word) × (5 < word))
+
+-- the kind of a formula's node with this word, or an error with a word that none has
+abbrev pub ReadsFormula : ℕ → Result FormulaKind UnknownKind → Type 0
+ReadsFormula word r = MatchResult r (λ kind. formula_code kind ≡ word) (λ e. (e.0 ≡ word) × (8 < word))
