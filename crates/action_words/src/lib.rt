@@ -7,19 +7,20 @@ ghost use Rattle.rules.specs.Table.{size};
 ghost use Rattle.rules.specs.Refusal.{fault_from, bad_action_operand, refusal31, refusal32, refusal33, refusal34};
 ghost use Rattle.table_words.specs.Tables.{Sized};
 
+use faults::fault_if;
 use node_kinds::ActionKind;
 use rules::Fault;
 use table_words::{Row, Trees};
 use words::NODES;
 
 // The operand of a node is wrong. As a name, that of a multi-action, it is a label below L.
+// Kept (no plainer): each check here asks that the labels have a first word: a struct for it would hold one slice.
 #[tactic(auto, unfolding(rules::specs::Refusal::bad_action_operand))]
 fn bad_operand(labels: &[u32], trees: &Trees<'_, '_, ActionKind>, node: usize) -> bool
     requires { (0 < length labels.now) × (node < size trees.now.words.now) }
     ensures { result ≡ bad_action_operand labels.now trees.now.words.now node }
 {
-    let unnamed = words::at(labels, 0) <= words::operand_at(trees.words, node);
-    trees.bad_operand(node, unnamed)
+    trees.bad_operand(node, |label| words::at(labels, 0) <= label)
 }
 
 // 34: an operand.
@@ -32,7 +33,7 @@ fn check_operands(labels: &[u32], trees: &Trees<'_, '_, ActionKind>) -> Result<(
 }
 
 // 34: an operand, or an unfinished tree.
-#[tactic(auto, using(tables::proofs::Pools::refusal34_scan), unfolding(rules::specs::Answers::and_then, rules::specs::Answers::fault_if))]
+#[tactic(auto, using(tables::proofs::Pools::refusal34_scan), unfolding(rules::specs::Answers::and_then))]
 fn check_trees(
     labels: &[u32],
     trees: &Trees<'_, '_, ActionKind>,
@@ -42,13 +43,7 @@ fn check_trees(
     ensures { result ≡ refusal34 labels.now trees.now.words.now }
 {
     check_operands(labels, trees)?;
-    if !row.is_finished() {
-        return Err(Fault {
-            number: 34,
-            place: trees.size() as u32,
-        });
-    }
-    Ok(())
+    fault_if(34, trees.size() as u32, !row.is_finished())
 }
 
 // 34, for which the ends of the trees and the row are kept here.
@@ -64,7 +59,7 @@ fn check_row(labels: &[u32], actions: &[u32]) -> Result<(), Fault>
 }
 
 // 31 to 34: the action formulas.
-#[tactic(auto, unfolding(rules::specs::Answers::first_fault, rules::specs::Answers::and_then, rules::specs::Answers::fault_if, rules::specs::Refusal::outside, rules::specs::Refusal::refusal31, rules::specs::Refusal::refusal32, rules::specs::Refusal::refusal33))]
+#[tactic(auto, unfolding(rules::specs::Answers::first_fault, rules::specs::Answers::and_then, rules::specs::Refusal::outside, rules::specs::Refusal::refusal31, rules::specs::Refusal::refusal32, rules::specs::Refusal::refusal33))]
 pub fn check_actions(labels: &[u32], actions: &[u32]) -> Result<(), Fault>
     requires { 0 < length labels.now }
     ensures { result ≡ first_fault (refusal31 actions.now ∷ refusal32 actions.now

@@ -12,7 +12,9 @@ use Rattle.rules.specs.Formula.{Formula, formula_tree, equation_number}
 use Rattle.tables.specs.Good.{GoodInput}
 use Rattle.trees.proofs.Fixpoints.{fixpoint_kind}
 use Rattle.trees.proofs.FormulaTrees.{truth_tree, falsity_tree, conjunction_tree, disjunction_tree, box_tree, diamond_tree, fixpoint_tree, reference_tree}
-use Rattle.alike_nodes.specs.Nodes.{Last, Numbered, Later, EquationNumbers, FormulaShown}
+use Rattle.lent_input.specs.Inputs.{input_in}
+use Rattle.alike_nodes.specs.declared.FormulaNodes.{FormulaNodes}
+use Rattle.alike_nodes.specs.Nodes.{Last, Numbered, Later, ActionNumbers, EquationNumbers, FormulaShown, NodeShown}
 
 module _ (x : Input) (good : GoodInput x) (numbers : List ℕ) (v : ℕ) (h : v < size x.formula) where
   abbrev OfAction : Action → ℕ → Type 0
@@ -105,3 +107,28 @@ module _ (x : Input) (good : GoodInput x) (numbers : List ℕ) (v : ℕ) (h : v 
         go (no d) =
             let z : k ≡ 5 = omega arith in
             to _ k (word numbers (v + 1)) (word acts o) (diamond_tree (size x.actions) x good.formula v h (sym e ∙ z)) (z, next k e (omega arith) q, action k o e p q i)
+
+-- ---- the same, as the code finds them
+
+module _ (n : FormulaNodes) (numbers : List ℕ) (v : ℕ) (h : v < size n.input.formula.now) where
+  abbrev InBody : (k l r : ℕ) → Type 0
+  InBody k l r = NodeShown (input_in n.input) numbers v (record { kind = k; left = l; right = r })
+
+  pub body_leaf : (k : ℕ) → k ≡ kind n.input.formula.now v → k ≤ 1 → InBody k 0 0
+  body_leaf = shape_leaf (input_in n.input) n.input.good numbers v h
+
+  pub body_two : (k o : ℕ) → k ≡ kind n.input.formula.now v → 2 ≤ k → k ≤ 3 → o ≡ operand n.input.formula.now v
+      → InBody k (word numbers (v + 1)) (word numbers o)
+  body_two = shape_two (input_in n.input) n.input.good numbers v h
+
+  pub body_modal : ActionNumbers (input_in n.input) n.acts.now → (k o : ℕ) → k ≡ kind n.input.formula.now v → 4 ≤ k → k ≤ 5
+      → o ≡ operand n.input.formula.now v → InBody k (word numbers (v + 1)) (word n.acts.now o)
+  body_modal known = shape_modal (input_in n.input) n.input.good numbers v h n.acts.now known
+
+  pub body_fixpoint : EquationNumbers n.input.formula.now n.equations.now → (k : ℕ) → k ≡ kind n.input.formula.now v → 6 ≤ k → k ≤ 7
+      → InBody 8 (word n.equations.now v) 0
+  body_fixpoint listed = shape_fixpoint (input_in n.input) n.input.good numbers v h n.equations.now listed
+
+  pub body_reference : EquationNumbers n.input.formula.now n.equations.now → (k o : ℕ) → k ≡ kind n.input.formula.now v → 7 < k
+      → o ≡ operand n.input.formula.now v → InBody 8 (word n.equations.now o) 0
+  body_reference listed = shape_reference (input_in n.input) n.input.good numbers v h n.equations.now listed

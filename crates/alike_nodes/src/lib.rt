@@ -49,8 +49,8 @@ impl Shape {
 // The shapes of the nodes of a table.
 pub type Shapes = [Shape; NODES];
 
-// The kind of a reference, which an inner fixpoint is too.
-const REFERENCE: u32 = 8;
+// The word of the kind of a reference, as which an inner fixpoint is shown too.
+const REFERENCE: u32 = FormulaKind::Reference as u32;
 
 // Nodes of a table of trees. Two nodes have one tree exactly where the shapes that show them are equal: a shape has the
 // numbers of later nodes.
@@ -109,8 +109,9 @@ impl<'a, 'c> Nodes for ActionNodes<'a, 'c> {
         at(self.actions, 0)
     }
 
+    #[tactic(auto, using(crate::proofs::ActionShapes::shape_leaf, crate::proofs::ActionShapes::shape_multi, crate::proofs::ActionShapes::shape_one, crate::proofs::ActionShapes::shape_two))]
     fn shape(&self, numbers: &[u32], node: usize) -> Shape {
-        let kind = kind_at(self.actions, node) as u32;
+        let kind = kind_at(self.actions, node);
         let named = operand_at(self.actions, node);
         match ActionKind::of(kind) {
             ActionKind::True | ActionKind::False => Shape::new(kind, 0, 0),
@@ -140,6 +141,7 @@ pub struct FormulaNodes<'a, 'n> {
 impl<'a, 'n> FormulaNodes<'a, 'n> {
     // The shape of a node as it stands in a body. Its operands are shown by their numbers, its action formula by the
     // number in `acts`.
+    #[tactic(auto, using(crate::proofs::FormulaShapes::body_leaf, crate::proofs::FormulaShapes::body_fixpoint, crate::proofs::FormulaShapes::body_reference, crate::proofs::FormulaShapes::body_two, crate::proofs::FormulaShapes::body_modal))]
     pub fn shape_in_body(&self, numbers: &[u32], node: usize) -> Shape
         requires inside { let x = input_in self.now.input in
             (node < size x.formula) × (size x.formula ≤ length numbers.now) }
@@ -148,7 +150,7 @@ impl<'a, 'n> FormulaNodes<'a, 'n> {
         ensures { NodeShown (input_in self.now.input) numbers.now node result }
     {
         let formula = self.input.formula;
-        let kind = kind_at(formula, node) as u32;
+        let kind = kind_at(formula, node);
         let operand = operand_at(formula, node);
         match FormulaKind::of(kind) {
             FormulaKind::True | FormulaKind::False => Shape::new(kind, 0, 0),
@@ -163,7 +165,7 @@ impl<'a, 'n> FormulaNodes<'a, 'n> {
             FormulaKind::Least | FormulaKind::Greatest => {
                 Shape::new(REFERENCE, self.equations[node], 0)
             }
-            FormulaKind::Reference => Shape::new(kind, self.equations[operand], 0),
+            FormulaKind::Reference => Shape::new(REFERENCE, self.equations[operand], 0),
         }
     }
 }

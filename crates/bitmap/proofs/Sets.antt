@@ -3,11 +3,13 @@ use mathlib.Core.Path.{◌≡◌, refl, sym, ap, ◌∙◌, subst}
 use mathlib.Core.Bool.{Bool, true, false, cond, ◌||◌, false≢true}
 use mathlib.Core.List.{List, [], ◌∷◌, ◌++◌}
 use mathlib.Core.Logic.{inl, inr}
-use Prim.Native.Nat.{ℕ, ◌/◌}
-use lib.ListN.{replicate, length-replicate}
+use Prim.Native.Nat.{ℕ, ◌/◌, ◌+◌, ◌≤◌, ◌<◌}
+use native.Mathlib.Numerals.{add-one}
+use lib.ListN.{length, drop, replicate, length-replicate, drop_of_length-le}
+use lib.Seq.{drop-cons}
 use lib.Dec.{eqb}
 use borrow.Author.Tests.{eqb-true, eqb-false}
-use Rattle.rules.specs.Lists.{In, has, insert, once}
+use Rattle.rules.specs.Lists.{word, In, has, insert, once}
 use Rattle.lists.proofs.Members.{has_in, in_has}
 use Rattle.lists.proofs.Inserts.{insert_cases, once_in}
 use Rattle.lists.proofs.Equalities.{number_equality}
@@ -81,3 +83,14 @@ only_none {bits} o = record { long = o.long; marks = λ u. go u (marked bits u) 
     go : (u : ℕ) (b : Bool) → marked bits u ≡ b → marked bits u ≡ false
     go u true e = absurd (o.inside u e)
     go u false e = e
+
+-- ---- in a loop over the list
+
+pub only_more : (ts : List ℕ) (i : ℕ) {bits bits' : List ℕ} → i < length ts → Wiped bits bits' (word ts i)
+    → Only bits (drop i ts) → Only bits' (drop (i + 1) ts)
+only_more ts i {bits} h w o =
+    let m : drop i ts ≡ word ts i ∷ drop (i + 1) ts = rw (add-one i) (drop-cons ts i 0 h) in
+    only_wiped (subst (Only bits) m o) w
+
+pub only_done : (ts : List ℕ) (i : ℕ) {bits : List ℕ} → length ts ≤ i → Only bits (drop i ts) → Holds bits []
+only_done ts i {bits} h o = only_none (subst (Only bits) (drop_of_length-le ts h) o)

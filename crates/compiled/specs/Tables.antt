@@ -3,15 +3,15 @@ use Rattle.std.specs.Prelude.{◌≡◌, ℕ, List, map, replicate}
 use Rattle.node_kinds.specs.Codes.{formula_code}
 use Rattle.compiled.specs.declared.Compiled.{Compiled}
 
--- the items: a word for each in four columns, of which the first has the words that stand for their kinds
+-- the items, column by column: the words that stand for their kinds, their operands, their priorities
 abbrev pub kinds_in : Compiled → List ℕ
-kinds_in c = map formula_code c.kinds
+kinds_in c = map (λ i. formula_code i.kind) c.items
 
 abbrev pub lefts_in : Compiled → List ℕ
-lefts_in c = c.lefts
+lefts_in c = map (λ i. i.left) c.items
 
 abbrev pub rights_in : Compiled → List ℕ
-rights_in c = c.rights
+rights_in c = map (λ i. i.right) c.items
 
 abbrev pub priorities_in : Compiled → List ℕ
 priorities_in c = c.priorities

@@ -1,5 +1,5 @@
-// What a run compiles before it walks: the table of the items, with an array for each column, the labels' multisets,
-// the first transitions and the byte multiples.
+// What a run compiles before it walks: the items and their priorities, the labels' multisets, the first transitions and
+// the byte multiples.
 #![tactic(auto)]
 
 ghost use Rattle.std.specs.Prelude.{◌≡◌, ◌<◌};
@@ -18,17 +18,34 @@ pub const ITEMS: usize = 2048;
 pub const LABELS: usize = 4096;
 
 // As many first transitions as are noted: that of every sixteenth state.
-pub const SAMPLES: usize = 4096;
+const SAMPLES: usize = 4096;
 
 // As many values as a byte has.
-pub const BYTES: usize = 256;
+const BYTES: usize = 256;
+
+// What an item is: its kind, and its operands by their numbers.
+#[derive(Clone, Copy)]
+pub struct Item {
+    pub kind: FormulaKind,
+    pub left: u32,
+    pub right: u32,
+}
+
+impl Item {
+    // What stands where no item is compiled yet.
+    const BLANK: Item = Item {
+        kind: FormulaKind::True,
+        left: 0,
+        right: 0,
+    };
+}
 
 #[derive(Drop)]
 pub struct Compiled {
-    // The items: an entry for each in four columns.
-    pub kinds: [FormulaKind; ITEMS],
-    pub lefts: [u32; ITEMS],
-    pub rights: [u32; ITEMS],
+    // The items.
+    pub items: [Item; ITEMS],
+    // The priority of each item.
+    // Kept (no plainer): a column of their own, for `list_priorities` fills a slice of words.
     pub priorities: [u32; ITEMS],
     // The multiset of each label.
     pub classes: [u32; LABELS],
@@ -44,9 +61,7 @@ impl Compiled {
         ensures { Blank result }
     {
         Compiled {
-            kinds: [FormulaKind::True; ITEMS],
-            lefts: [0; ITEMS],
-            rights: [0; ITEMS],
+            items: [Item::BLANK; ITEMS],
             priorities: [0; ITEMS],
             classes: [0; LABELS],
             samples: [0; SAMPLES],
@@ -55,11 +70,13 @@ impl Compiled {
     }
 
     // The kind of an item.
+    // Kept (no plainer): the item is an index here and below: a struct of the lent tables and the item would be made
+    // and taken apart at each call.
     pub fn kind_of(&self, item: u32) -> FormulaKind
         requires { item < 2048 }
         ensures { formula_code result ≡ word (kinds_in self.now) item }
     {
-        self.kinds[item as usize]
+        self.items[item as usize].kind
     }
 
     // The left operand of an item.
@@ -67,7 +84,7 @@ impl Compiled {
         requires { item < 2048 }
         ensures { result ≡ word (lefts_in self.now) item }
     {
-        self.lefts[item as usize]
+        self.items[item as usize].left
     }
 
     // Its right operand.
@@ -75,7 +92,7 @@ impl Compiled {
         requires { item < 2048 }
         ensures { result ≡ word (rights_in self.now) item }
     {
-        self.rights[item as usize]
+        self.items[item as usize].right
     }
 
     // Its priority.

@@ -1,10 +1,23 @@
-// The search for the first place that is refused: all checks that go over words or nodes look for it here.
+// What all checks answer by: a fault at a place that is known, and the search for the first place that is refused.
 #![tactic(auto)]
 
 ghost use Rattle.std.specs.Prelude.{◌≡◌, Bool, ℕ, ◌<◌, ◌≤◌, length};
+ghost use Rattle.rules.specs.Answers.{fault_if};
 ghost use Rattle.rules.specs.Refusal.{too_large, fault_from};
 
 use rules::Fault;
+
+// Fault `number` at a place if what is checked is bad.
+#[tactic(auto, unfolding(rules::specs::Answers::fault_if))]
+pub fn fault_if(number: u32, place: u32, bad: bool) -> Result<(), Fault>
+    ensures { result ≡ fault_if number place bad }
+{
+    if bad {
+        Err(Fault { number, place })
+    } else {
+        Ok(())
+    }
+}
 
 // Fault `number` at the first of the places from `first` up to `end` that is bad.
 pub fn first_fault<F: Fn(usize) -> bool>(

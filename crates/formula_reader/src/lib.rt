@@ -29,7 +29,7 @@ impl<'a> FormulaReader<'a> {
     }
 
     // The kind of the node at which the reader stands.
-    pub fn kind(self) -> usize
+    pub fn kind(self) -> u32
         requires { has_kind self.words.now self.node }
         ensures { result ≡ kind self.entry.words.now self.entry.node }
     {

@@ -1,39 +1,58 @@
 -- Fixpoints, references and enclosing nodes, as the code reads them. Assumes nothing.
-use Prim.Native.Nat.{ℕ, ◌<◌, ◌≤◌}
+use Prim.Native.Nat.{ℕ, ◌/◌, ◌<◌, ◌≤◌, min}
 use native.Mathlib.Omega.{arith}
-use native.Mathlib.Decide.{ℕ_discrete}
+use native.Mathlib.Decide.{ℕ_discrete, dec_lt}
 use mathlib.Core.Path.{◌≡◌, refl, sym, ap, ◌∙◌}
 use mathlib.Core.Bool.{Bool, true, false, not, ◌&&◌, true≢false}
 use mathlib.Core.List.{List}
 use mathlib.Core.Option.{Option, none, some}
-use lib.Dec.{ltb}
-use borrow.Author.Tests.{lt-ltb, le-ltb, ltb-true}
+use lib.Dec.{ltb, eqb}
+use denote.Enum.Bare.{sameb}
+use borrow.Author.Tests.{lt-ltb, le-ltb, ltb-true, eq-eqb, ne_eqb}
 use Rattle.lists.proofs.Tests.{and-true, and-false}
-use Rattle.rules.specs.Table.{size, kind, operand, formula_node, decode_formula, formula_children, fixpoint_of, reference_of, is_some}
+use Rattle.rules.specs.Table.{size, kind, operand, formula_node, formula_children, reference_of, is_some}
 use Rattle.rules.specs.Formula.{is_fixpoint}
 use Rattle.rules.specs.Refusal.{encloses, wrong_reference}
 use Rattle.tables.specs.Ends.{end_of}
-use Rattle.tables.proofs.Decode.{formula_of_kind, reference_none}
+use Rattle.tables.proofs.Decode.{fixpoint_low, fixpoint_yes, fixpoint_high, reference_at, reference_none}
+use Rattle.node_kinds.specs.contracts.FormulaKind.{the_type}
 use Rattle.tables.proofs.Operands.{reference_test}
 use Rattle.tables.proofs.Ends.{before_end_finished, before_end_unfinished}
 use Rattle.node_kinds.specs.declared.FormulaKind.{FormulaKind}
 use Rattle.node_kinds.specs.declared.FormulaKind.TheVariants.{True, False, And, Or, Box, Diamond, Least, Greatest, Reference}
-use Rattle.node_kinds.specs.Codes.{formula_code}
+use Rattle.node_kinds.specs.declared.UnknownKind.{UnknownKind}
+use Rattle.node_kinds.specs.Codes.{formula_code, ReadsFormula}
+use Rattle.std.specs.Prelude.{MatchResult}
+use Rattle.std.proofs.Common.{Result, Ok, Err}
 
--- whatever operand a node has, its kind says whether it is a fixpoint, and whether it is a reference
-any_operand : (k : FormulaKind) (o : ℕ)
-    → (is_fixpoint (decode_formula (formula_code k) 0) ≡ is_fixpoint (decode_formula (formula_code k) o))
-    × (is_some (reference_of (decode_formula (formula_code k) 0)) ≡ is_some (reference_of (decode_formula (formula_code k) o)))
-unfolding decode_formula is_fixpoint fixpoint_of reference_of
-any_operand True o = (refl, refl)
-any_operand False o = (refl, refl)
-any_operand And o = (refl, refl)
-any_operand Or o = (refl, refl)
-any_operand Box o = (refl, refl)
-any_operand Diamond o = (refl, refl)
-any_operand Least o = (refl, refl)
-any_operand Greatest o = (refl, refl)
-any_operand Reference o = (refl, refl)
+-- a kind is that of a reference exactly if its node is one
+reference_named : (f : List ℕ) (v : ℕ) → v < size f → (k : FormulaKind) → formula_code k ≡ kind f v
+    → sameb the_type k Reference ≡ is_some (reference_of (formula_node f v))
+reference_named f v h True e = sym (ap is_some (reference_none f v h (λ i. omega arith)))
+reference_named f v h False e = sym (ap is_some (reference_none f v h (λ i. omega arith)))
+reference_named f v h And e = sym (ap is_some (reference_none f v h (λ i. omega arith)))
+reference_named f v h Or e = sym (ap is_some (reference_none f v h (λ i. omega arith)))
+reference_named f v h Box e = sym (ap is_some (reference_none f v h (λ i. omega arith)))
+reference_named f v h Diamond e = sym (ap is_some (reference_none f v h (λ i. omega arith)))
+reference_named f v h Least e = sym (ap is_some (reference_none f v h (λ i. omega arith)))
+reference_named f v h Greatest e = sym (ap is_some (reference_none f v h (λ i. omega arith)))
+reference_named f v h Reference e = sym (ap is_some (reference_at f v h (sym e)))
+
+-- as a word that is read says, where one that stands for no kind is no reference
+pub reference_read : (f : List ℕ) (v : ℕ) → v < size f → (w : ℕ) → w ≡ kind f v → (read : Result FormulaKind UnknownKind)
+    → ReadsFormula w read → (r : Bool) → MatchResult read (λ k. r ≡ sameb the_type k Reference) (λ e. r ≡ false)
+    → r ≡ is_some (reference_of (formula_node f v))
+reference_read f v h w e (Ok k) a r b = b ∙ reference_named f v h k (a ∙ e)
+reference_read f v h w e (Err x) a r b = b ∙ sym (ap is_some (reference_none f v h (λ i. omega (arith, a.1))))
+
+-- and, read as the last kind where its word stands for none, that of a fixpoint
+pub fixpoint_named : (f : List ℕ) (v : ℕ) → v < size f → (c : ℕ) → c ≡ min (kind f v) 8 → eqb (c / 2) 3 ≡ is_fixpoint (formula_node f v)
+fixpoint_named f v h c e = go (dec_lt (kind f v) 6) (dec_lt (kind f v) 8)
+  where
+    go : Dec (kind f v < 6) → Dec (kind f v < 8) → eqb (c / 2) 3 ≡ is_fixpoint (formula_node f v)
+    go (yes l) m = ne_eqb (c / 2) 3 (λ i. omega arith) ∙ sym (fixpoint_low f v h l)
+    go (no l) (yes m) = eq-eqb (c / 2) 3 (omega arith) ∙ sym (fixpoint_yes f v h (omega arith) (omega arith))
+    go (no l) (no m) = ne_eqb (c / 2) 3 (λ i. omega arith) ∙ sym (fixpoint_high f v h (omega arith))
 
 none_wrong : (f : List ℕ) (v : ℕ) (r : Option ℕ) → is_some r ≡ false → false ≡ wrong_reference f v r
 unfolding wrong_reference
@@ -45,15 +64,6 @@ both true b e = sym e
 both false b e = refl
 
 module _ (f : List ℕ) (v : ℕ) (h : v < size f) where
-  pub fixpoint_by_kind : (k : FormulaKind) → formula_code k ≡ kind f v
-      → is_fixpoint (decode_formula (formula_code k) 0) ≡ is_fixpoint (formula_node f v)
-  fixpoint_by_kind k e = (any_operand k (operand f v)).0 ∙ ap is_fixpoint (sym (formula_of_kind f v h (formula_code k) (sym e)))
-
-  pub reference_by_kind : (k : FormulaKind) → formula_code k ≡ kind f v
-      → is_some (reference_of (decode_formula (formula_code k) 0)) ≡ is_some (reference_of (formula_node f v))
-  reference_by_kind k e =
-      (any_operand k (operand f v)).1 ∙ ap (λ n. is_some (reference_of n)) (sym (formula_of_kind f v h (formula_code k) (sym e)))
-
   pub no_reference : is_some (reference_of (formula_node f v)) ≡ false → false ≡ wrong_reference f v (reference_of (formula_node f v))
   no_reference = none_wrong f v (reference_of (formula_node f v))
 

@@ -5,12 +5,12 @@ ghost use Rattle.std.specs.Prelude.{◌≡◌, ◌||◌, [], ◌∷◌, ◌<◌,
 ghost use Rattle.tables.specs.Ends.{end_of};
 ghost use Rattle.rules.specs.Answers.{first_fault};
 ghost use Rattle.rules.specs.Formula.{is_fixpoint};
-ghost use Rattle.rules.specs.Table.{size, formula_children, formula_node, decode_formula, reference_of, is_some};
+ghost use Rattle.rules.specs.Table.{size, formula_children, formula_node, reference_of, is_some};
 ghost use Rattle.rules.specs.Refusal.{fault_from, names_no_tree, bad_formula_operand, wrong_reference, encloses};
 ghost use Rattle.rules.specs.Refusal.{refusal41, refusal42, refusal43, refusal44, refusal45};
 ghost use Rattle.table_words.specs.Tables.{Sized};
-ghost use Rattle.node_kinds.specs.Codes.{formula_code};
 
+use faults::fault_if;
 use node_kinds::{ActionKind, FormulaKind};
 use rules::Fault;
 use table_words::{Row, Trees};
@@ -34,8 +34,7 @@ fn bad_operand(
     requires { node < size trees.now.words.now }
     ensures { result ≡ bad_formula_operand (names_no_tree row.now.words.now) trees.now.words.now node }
 {
-    let unnamed = names_no_tree(row, words::operand_at(trees.words, node));
-    trees.bad_operand(node, unnamed)
+    trees.bad_operand(node, |named| names_no_tree(row, named))
 }
 
 // 44: an operand, or nodes left over, of which the one at which the formula's tree ends is the first.
@@ -54,7 +53,7 @@ fn check_operands(
 }
 
 // 44: an operand, nodes left over, or an unfinished tree.
-#[tactic(auto, using(tables::proofs::Pools::refusal44_scan), unfolding(rules::specs::Answers::and_then, rules::specs::Answers::fault_if))]
+#[tactic(auto, using(tables::proofs::Pools::refusal44_scan), unfolding(rules::specs::Answers::and_then))]
 fn check_tree(
     row: &Row<'_, '_, ActionKind>,
     trees: &Trees<'_, '_, FormulaKind>,
@@ -63,51 +62,26 @@ fn check_tree(
 {
     check_operands(row, trees)?;
     let count = trees.size();
-    if count < trees.end(0) {
-        return Err(Fault {
-            number: 44,
-            place: count as u32,
-        });
-    }
-    Ok(())
-}
-
-// A kind is that of fixpoints.
-#[tactic(auto, unfolding(rules::specs::Table::decode_formula, rules::specs::Formula::is_fixpoint, rules::specs::Table::fixpoint_of))]
-fn is_fixpoint_kind(kind: FormulaKind) -> bool
-    ensures { result ≡ is_fixpoint (decode_formula (formula_code kind) 0) }
-{
-    matches!(kind, FormulaKind::Least | FormulaKind::Greatest)
+    fault_if(44, count as u32, count < trees.end(0))
 }
 
 // A node is a fixpoint.
-fn is_fixpoint(formula: &[u32], node: usize) -> bool
-    requires { Sized formula.now × (node < size formula.now) }
-    ensures { result ≡ is_fixpoint (formula_node formula.now node) }
+// Kept (no plainer): crate modal_equation_system asks the same of a formula that has passed all checks; what the two
+// share are the calls of `kind_at` and `of`.
+fn is_fixpoint(trees: &Trees<'_, '_, FormulaKind>, node: usize) -> bool
+    requires { node < size trees.now.words.now }
+    ensures { result ≡ is_fixpoint (formula_node trees.now.words.now node) }
 {
-    match FormulaKind::try_from(formula[1 + node]) {
-        Ok(kind) => is_fixpoint_kind(kind),
-        Err(_) => false,
-    }
-}
-
-// A kind is that of references.
-#[tactic(auto, unfolding(rules::specs::Table::decode_formula, rules::specs::Table::reference_of))]
-fn is_reference_kind(kind: FormulaKind) -> bool
-    ensures { result ≡ is_some (reference_of (decode_formula (formula_code kind) 0)) }
-{
-    matches!(kind, FormulaKind::Reference)
+    FormulaKind::of(words::kind_at(trees.words, node)).is_fixpoint()
 }
 
 // A node is a reference.
-fn is_reference(formula: &[u32], node: usize) -> bool
-    requires { Sized formula.now × (node < size formula.now) }
-    ensures { result ≡ is_some (reference_of (formula_node formula.now node)) }
+fn is_reference(trees: &Trees<'_, '_, FormulaKind>, node: usize) -> bool
+    requires { node < size trees.now.words.now }
+    ensures { result ≡ is_some (reference_of (formula_node trees.now.words.now node)) }
 {
-    match FormulaKind::try_from(formula[1 + node]) {
-        Ok(kind) => is_reference_kind(kind),
-        Err(_) => false,
-    }
+    FormulaKind::try_from(words::kind_at(trees.words, node)).is_ok_and(|kind| kind
+        == FormulaKind::Reference)
 }
 
 // A node stands in the tree of another one, `outer`, below it.
@@ -128,14 +102,14 @@ fn bad_reference(trees: &Trees<'_, '_, FormulaKind>, node: usize) -> bool
     ensures { result ≡ wrong_reference trees.now.words.now node
         (reference_of (formula_node trees.now.words.now node)) }
 {
-    if !is_reference(trees.words, node) {
+    if !is_reference(trees, node) {
         return false;
     }
     let named = words::operand_at(trees.words, node);
     if !encloses(trees, named, node) {
         return true;
     }
-    !is_fixpoint(trees.words, named)
+    !is_fixpoint(trees, named)
 }
 
 // 45: a reference.
@@ -162,7 +136,7 @@ fn check_trees(actions: &[u32], formula: &[u32]) -> Result<(), Fault>
 }
 
 // 41 to 45: the formula, where the action formulas are those of a table.
-#[tactic(auto, unfolding(rules::specs::Answers::first_fault, rules::specs::Answers::and_then, rules::specs::Answers::fault_if, rules::specs::Refusal::outside, rules::specs::Refusal::refusal41, rules::specs::Refusal::refusal42, rules::specs::Refusal::refusal43))]
+#[tactic(auto, unfolding(rules::specs::Answers::first_fault, rules::specs::Answers::and_then, rules::specs::Refusal::outside, rules::specs::Refusal::refusal41, rules::specs::Refusal::refusal42, rules::specs::Refusal::refusal43))]
 pub fn check_formula(actions: &[u32], formula: &[u32]) -> Result<(), Fault>
     requires { Sized actions.now }
     ensures { result ≡ first_fault (refusal41 formula.now ∷ refusal42 formula.now

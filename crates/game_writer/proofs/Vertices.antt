@@ -6,6 +6,7 @@ use mathlib.Core.List.{List, [], ◌∷◌, map, append-nil}
 use Prim.Native.Nat.{ℕ, zero, suc, ◌+◌, ◌*◌, ◌-◌, ◌≤◌, ◌<◌}
 use native.Mathlib.Omega.{arith}
 use lib.ListN.{length, take, drop, length-map}
+use Rattle.std.proofs.Common.{reverse}
 use lib.Dec.{eqb}
 use borrow.Author.Tests.{lt-ltb, le-ltb}
 use Rattle.std.specs.Prelude.{is_some, unwrap_or, Option, Some, None}
@@ -17,11 +18,12 @@ use Rattle.rules.specs.Game.{Edge, edge_columns, stuck_priority, waiting_vertex}
 use Rattle.lists.proofs.Ranges.{from-length}
 use Rattle.games.specs.Columns.{edge_column}
 use Rattle.games.proofs.Columns.{each_edge_column}
-use Rattle.words.specs.Regions.{region}
+use Rattle.work_slice.specs.Regions.{region}
 use Rattle.words.specs.Stretches.{Wrote}
 use Rattle.item_table.specs.Entries.{kind_owner}
 use Rattle.settling.specs.Stand.{edges_of, counts_of, settled_in, start_in, degree_in}
 use Rattle.settling.proofs.Buffer.{settled-in, unsettled_in, count_unsettled}
+use Rattle.game_writer.proofs.Rows.{down_below}
 use Rattle.game_writer.specs.Shown.{item_in, loops_in, shown_player, shown_owner, shown_priority}
 use Rattle.game_writer.specs.Shown.{buffer_end, shown_edge, shown_edges, shown_vertex}
 
@@ -175,13 +177,13 @@ module _ (w : List ℕ) (v e u : ℕ) where
 
   -- as code copies them
   pub wrote_some : (c past count : ℕ) {start r : ℕ} {out out' : List ℕ} → c < length edge_columns
-      → past ≡ buffer_end v e c - start_in w v u → count ≡ degree_in w v u
-      → Wrote start (map (λ i. word w (past - suc i)) (from 0 count)) out out' r
+      → past ≡ buffer_end v e c - start_in w v u → count ≡ degree_in w v u → count ≤ past → past ≤ length w
+      → Wrote start (reverse (take (past - (past - count)) (drop (past - count) w))) out out' r
       → Wrote start (map (edge_column c) (shown_edges w v e u)) out out' r
-  wrote_some c past count {start} {r} {out} {out'} h p q wrote =
+  wrote_some c past count {start} {r} {out} {out'} h p q below within wrote =
       let read : map (λ i. word w (past - suc i)) (from 0 count) ≡ map (edge_column c) (shown_edges w v e u)
       = rw (p, q) (sym (edges_words c h)) in
-      subst (λ (l : List ℕ). Wrote start l out out' r) read wrote
+      subst (λ (l : List ℕ). Wrote start l out out' r) (down_below w past count below within ∙ read) wrote
 
   pub wrote_none : (c start : ℕ) (out : List ℕ) → settled_in w v u ≡ false
       → Wrote start (map (edge_column c) (shown_edges w v e u)) out out start

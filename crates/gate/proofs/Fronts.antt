@@ -1,9 +1,8 @@
--- What a call on the buffer's front leaves, for every input that begins so. Assumes nothing.
+-- What a call on an input's front leaves, for every input that begins so. Assumes nothing.
 use mathlib.Core.Path.{◌≡◌, ◌∙◌}
 use mathlib.Core.List.{List}
 use Prim.Native.Nat.{ℕ, ◌≤◌}
-use native.Mathlib.Omega.{arith}
-use lib.ListN.{length, take, length-take}
+use lib.ListN.{length, take}
 use lib.Seq.{take_all}
 use Rattle.rules.specs.declared.Answer.{Answer}
 use Rattle.rules.specs.declared.Answer.TheVariants.{Done, Cut, Refused}
@@ -12,16 +11,13 @@ use Rattle.rules.specs.Program.{printed, gate_text_length, program_text}
 use Rattle.text_writer.proofs.Endings.{text_front, text_done, text_not_cut, text_not_refused}
 use Rattle.gate_text.proofs.Programs.{front-printed}
 
-module _ (buffer slice text : List ℕ) (count : ℕ) (a : Answer) (few : count ≤ 8_193)
+module _ (front slice text : List ℕ) (a : Answer) (few : length front ≤ 8_193)
     (long : gate_text_length ≤ length slice)
-    (same : (input : List ℕ) → take 8_193 input ≡ take count buffer
+    (same : (input : List ℕ) → take 8_193 input ≡ front
     → ◌≡◌ {A = Written} (record { answer = a; text = text }) (program_text input slice)) where
-  abbrev front : List ℕ
-  front = take count buffer
-
   -- the front itself is such an input
   written : ◌≡◌ {A = Written} (record { answer = a; text = text }) (program_text front slice)
-  written = same front (take_all 8_193 front (omega (arith, length-take count buffer)))
+  written = same front (take_all 8_193 front few)
 
   pub front-done : (n v e : ℕ) → a ≡ Done n v e → (size : ℕ) → size ≡ n
       → ((input : List ℕ) → take 8_193 input ≡ front → take size text ≡ printed input) × (size ≤ length text)

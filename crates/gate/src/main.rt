@@ -1,46 +1,26 @@
 // The thin program: reads little-endian words from standard input and prints the game of the run that they describe.
 #![tactic(auto)]
 
-ghost use Rattle.std.specs.Prelude.{ℕ, ◌≤◌, ◌<◌, ◌≡◌, List, length, take, IfOk, OnOk, IfSome};
-ghost use Rattle.std.specs.Io.{ReadsAtMost};
-ghost use Rattle.std.specs.Io.KnownBytes.{Appends, Consumes, IsAtEnd};
+ghost use Rattle.std.specs.Prelude.{ℕ, ◌≤◌, ◌≡◌, List, length, take, OnOk, IfSome};
+ghost use Rattle.std.specs.Io.KnownBytes.{Appends};
 ghost use Rattle.rules.specs.Program.{printed, gate_text_length};
 
-use gate_text::{Buffer, READ};
+use gate_text::READ;
+use reading::read_full;
 use rules::Answer;
 use std::io;
 use std::io::{Read, Write};
 
-// Reads until the buffer is full or the input ends. Answers how many bytes it then holds of the input, at its front.
-// Kept (rule): read_exact refuses an input that ends earlier, and take(n).read_to_end(v) puts the bytes on the heap.
-fn read_full<R: Read>(input: &mut R, buffer: &mut [u8]) -> io::Result<usize>
-    ensures bound { ReadsAtMost result buffer.new }
-    ensures bytes { IfOk result
-        (λ n. Consumes (R.remaining input.old) (R.remaining input.new) (take n buffer.new)) }
-    ensures end { IfOk result (λ n. n < length buffer.new → IsAtEnd (R.remaining input.new)) }
-{
-    let mut count = 0;
-    while count < buffer.len() {
-        let more = input.read(&mut buffer[count..])?;
-        if more == 0 {
-            return Ok(count);
-        }
-        count += more;
-    }
-    Ok(count)
-}
-
-// What is printed of an input, of which the buffer holds as much as `gate_buffer` asks for, at the front of a slice
-// that every text fits in, which is never refused. Answers how many bytes.
-fn put_text(buffer: &Buffer, count: usize, text: &mut [u8]) -> usize
-    requires { (count ≤ 8193) × (gate_text_length ≤ length text.old) }
-    ensures { ((input : List ℕ) → take 8193 input ≡ take count buffer.now
+// What is printed of an input, of which these bytes are as much as `gate_buffer` asks for, at the front of a slice that
+// every text fits in, which is never refused. Answers how many bytes.
+fn put_text(bytes: &[u8], text: &mut [u8]) -> usize
+    requires { (length bytes.now ≤ 8193) × (gate_text_length ≤ length text.old) }
+    ensures { ((input : List ℕ) → take 8193 input ≡ bytes.now
         → take result text.new ≡ printed input) × (result ≤ length text.new) }
 {
-    match gate_text::gate_buffer(buffer, count, text) {
-        Answer::Done(bytes, _, _) => bytes as usize,
-        Answer::Cut(_, _, _) => 0,
-        Answer::Refused(_, _) => 0,
+    match gate_text::gate_buffer(bytes, text) {
+        Answer::Done(size, _, _) => size as usize,
+        Answer::Cut(_, _, _) | Answer::Refused(_, _) => 0,
     }
 }
 
@@ -52,7 +32,7 @@ fn run<R: Read, W: Write>(input: &mut R, output: &mut W) -> io::Result<()>
     let mut bytes = [0u8; READ];
     let count = read_full(input, &mut bytes)?;
     let mut text = [0u8; 16384];
-    let size = put_text(&bytes, count, &mut text);
+    let size = put_text(&bytes[..count], &mut text);
     output.write_all(&text[..size])
 }
 

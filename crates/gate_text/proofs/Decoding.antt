@@ -4,18 +4,17 @@ use mathlib.Core.Path.{◌≡◌, refl, sym, ap, ◌∙◌}
 use mathlib.Core.Bool.{Bool, true, false, cond}
 use mathlib.Core.List.{List, [], ◌∷◌, ◌++◌, append-nil}
 use mathlib.Core.Option.{Option, none, some}
-use Prim.Native.Nat.{ℕ, suc, ◌+◌, ◌*◌, ◌%◌, ◌≤◌, ◌<◌}
-use native.Mathlib.Numerals.{add-one}
+use Prim.Native.Nat.{ℕ, zero, suc, ◌+◌, ◌*◌, ◌%◌, ◌≤◌, ◌<◌}
 use native.Mathlib.Omega.{arith}
-use lib.ListN.{length, take, drop, set, drop_of_length-le}
-use lib.Seq.{drop-cons, append_snoc, take-suc-set, take-take, length-take-le}
+use lib.ListN.{length, take, drop, drop_of_length-le}
+use lib.Seq.{drop-cons, append_snoc}
 use lib.Dec.{eqb}
 use borrow.Author.Tests.{lt-ltb, le-ltb}
 use Rattle.rules.specs.Lists.{word, sum}
 use Rattle.rules.specs.Refusal.{differ}
 use Rattle.rules.specs.Program.{word_of, joined, words_of, gate_words, disagree}
 use Rattle.gate_text.specs.Reading.{agreeing, accepted}
-use Rattle.words.specs.Bytes.{word_at}
+use Rattle.words.specs.Bytes.{word_at, words_at}
 
 -- ---- one word after the other
 
@@ -45,32 +44,29 @@ four bytes p h =
     ∙ ap (λ (l : List ℕ). word bytes p ∷ word bytes (p + 1) ∷ l) c
     ∙ ap (λ (l : List ℕ). word bytes p ∷ word bytes (p + 1) ∷ word bytes (p + 2) ∷ l) d)
 
-pub read_start : (bytes ws : List ℕ) → words_of bytes ≡ followed (take 0 ws) (words_of (drop (4 * 0) bytes))
+followed_none : (o : Option (List ℕ)) → o ≡ followed [] o
 unfolding followed
-read_start bytes ws = go (words_of bytes)
-  where
-    go : (o : Option (List ℕ)) → o ≡ followed [] o
-    go none = refl
-    go (some vs) = refl
+followed_none none = refl
+followed_none (some vs) = refl
 
-pub read_more : (bytes ws : List ℕ) (i x : ℕ) (o : Option (List ℕ)) → x ≡ word_at bytes (4 * i) → i < length ws → 4 * i + 4 ≤ length bytes
-    → o ≡ followed (take i ws) (words_of (drop (4 * i) bytes)) → o ≡ followed (take (i + 1) (set ws i x)) (words_of (drop (4 * (i + 1)) bytes))
-read_more bytes ws i x o w h k e =
-    let n : 4 * i + 4 ≡ 4 * (i + 1) = omega arith in
-    rw w
-    (e
-    ∙ ap (followed (take i ws)) (four bytes (4 * i) k)
-    ∙ followed_joined (take i ws) (word_at bytes (4 * i)) (words_of (drop (4 * i + 4) bytes))
-    ∙ ap (λ (m : ℕ). followed (take i ws ++ (word_at bytes (4 * i) ∷ [])) (words_of (drop m bytes))) n
-    ∙ ap (λ (l : List ℕ). followed l (words_of (drop (4 * (i + 1)) bytes)))
-    (sym (take-suc-set ws i (word_at bytes (4 * i)) h) ∙ ap (λ (m : ℕ). take m (set ws i (word_at bytes (4 * i)))) (sym (add-one i))))
+-- n words are read, and those of the bytes behind them are left
+read_front : (bytes : List ℕ) (n : ℕ) → 4 * n ≤ length bytes
+    → words_of bytes ≡ followed (words_at n bytes) (words_of (drop (4 * n) bytes))
+unfolding words_at
+read_front bytes zero h = followed_none (words_of bytes)
+read_front bytes (suc n) h =
+    let e : 4 * n + 4 ≡ 4 * suc n = omega arith in
+    read_front bytes n (omega arith)
+    ∙ ap (followed (words_at n bytes)) (four bytes (4 * n) (omega arith))
+    ∙ followed_joined (words_at n bytes) (word_at bytes (4 * n)) (words_of (drop (4 * n + 4) bytes))
+    ∙ ap (λ (m : ℕ). followed (words_at n bytes ++ (word_at bytes (4 * n) ∷ [])) (words_of (drop m bytes))) e
 
-pub read_done : (bytes ws : List ℕ) (i : ℕ) (o : Option (List ℕ)) → length bytes ≤ 4 * i → o ≡ followed (take i ws) (words_of (drop (4 * i) bytes)) → o ≡ some (take i ws)
+pub read_whole : (bytes : List ℕ) (n : ℕ) → 4 * n ≡ length bytes → words_of bytes ≡ some (words_at n bytes)
 unfolding followed words_of
-read_done bytes ws i o h e =
-    e
-    ∙ ap (λ (l : List ℕ). followed (take i ws) (words_of l)) (drop_of_length-le bytes h)
-    ∙ ap some (append-nil (take i ws))
+read_whole bytes n h =
+    read_front bytes n (omega arith)
+    ∙ ap (λ (l : List ℕ). followed (words_at n bytes) (words_of l)) (drop_of_length-le bytes (omega arith))
+    ∙ ap some (append-nil (words_at n bytes))
 
 -- ---- how many words there are
 
@@ -121,14 +117,13 @@ module _ (bytes : List ℕ) where
   accepted_words ws e k l true f = rw (e, le-ltb 2_048 (length ws) k, le-ltb (length ws) 4 l, f) refl
   accepted_words ws e k l false f = rw (e, le-ltb 2_048 (length ws) k, le-ltb (length ws) 4 l, f) refl
 
-  module _ (ws : List ℕ) (n : ℕ) (whole : 4 * n ≡ length bytes) (few : length bytes ≤ 8_192) (some_words : 16 ≤ length bytes) (fit : 2_048 ≤ length ws) where
-    -- they are taken where the four lengths agree with them
-    pub agreed : words_of bytes ≡ some (take n ws) → (t : Bool) → t ≡ eqb n (4 + sum (take 4 ws)) → (u : Bool) → t ≡ u
-        → accepted bytes ≡ cond u (some (take n ws)) none
-    agreed e t f u h =
-        let m : length (take n ws) ≡ n = length-take-le n ws (omega arith) in
-        let q : take 4 (take n ws) ≡ take 4 ws = take-take 4 n ws (omega arith) in
-        accepted_words (take n ws) e (omega arith) (omega arith) u (rw (m, q) (sym f ∙ h))
+  -- they are taken where the four lengths agree with them
+  pub agreed : (ws : List ℕ) → 4 * length ws ≡ length bytes → length bytes ≤ 8_192 → 16 ≤ length bytes
+      → ws ≡ words_at (length ws) bytes → (t : Bool) → t ≡ eqb (length ws) (4 + sum (take 4 ws)) → (u : Bool)
+      → t ≡ u → accepted bytes ≡ cond u (some ws) none
+  agreed ws whole few some_words read t f u h =
+      let e : words_of bytes ≡ some ws = read_whole bytes (length ws) whole ∙ ap some (sym read) in
+      accepted_words ws e (omega arith) (omega arith) u (sym f ∙ h)
 
 -- ---- the four lengths
 

@@ -1,19 +1,15 @@
 -- The parts of a vertex's line, and of the lines of all vertices. Assumes nothing.
-use mathlib.Core.Path.{◌≡◌, refl, sym, ap, ◌∙◌}
+use mathlib.Core.Path.{◌≡◌, sym, ap, ◌∙◌}
 use mathlib.Core.List.{List, [], ◌∷◌, ◌++◌, append_assoc}
 use Prim.Native.Nat.{ℕ, suc, ◌+◌, ◌-◌, ◌≤◌, ◌<◌}
 use native.Mathlib.Numerals.{add-one}
 use native.Mathlib.Omega.{arith}
-use lib.ListN.{take, drop}
-use lib.Seq.{slice}
-use Rattle.std.proofs.Common.{rules}
-use Rattle.std.proofs.lemmas.Slice.{between_is}
-use Rattle.rules.specs.Game.{owner_in, priority_in, edges_from}
+use Rattle.rules.specs.Game.{owner_in, priority_in, targets_in}
 use Rattle.rules.specs.Texts.{decimal, spaced, line}
 use Rattle.rules.specs.Program.{vertex_line, vertex_lines}
 
 -- the parts of a line behind a number: two numbers, then others
-pub words_parts : (name ns : List ℕ) (m n : ℕ)
+words_parts : (name ns : List ℕ) (m n : ℕ)
     → line name (m ∷ n ∷ ns) ≡ name ++ ((32 ∷ decimal m) ++ ((32 ∷ decimal n) ++ (spaced ns ++ (10 ∷ []))))
 unfolding line spaced
 words_parts name ns m n =
@@ -21,16 +17,12 @@ words_parts name ns m n =
     (append_assoc (decimal m) (32 ∷ (decimal n ++ spaced ns)) (10 ∷ [])
     ∙ ap (λ (l : List ℕ). decimal m ++ (32 ∷ l)) (append_assoc (decimal n) (spaced ns) (10 ∷ [])))
 
-between : (ws : List ℕ) (i j : ℕ) → take (j - i) (drop i ws) ≡ slice i j ws
-between ws i j = search (rules, between_is)
-
 -- a vertex's line is of what the code has read of the vertex
-pub vertex_words : (g : List ℕ) (v : ℕ) {owner priority first last : ℕ}
-    → owner ≡ owner_in g v → priority ≡ priority_in g v
-    → first ≡ edges_from g 0 v → last ≡ edges_from g 0 (v + 1)
-    → line (decimal v) (owner ∷ priority ∷ take (last - first) (drop first g)) ≡ vertex_line g v
+pub vertex_parts : (g : List ℕ) (v : ℕ) {owner priority : ℕ} {targets : List ℕ}
+    → owner ≡ owner_in g v → priority ≡ priority_in g v → targets ≡ targets_in g v
+    → decimal v ++ ((32 ∷ decimal owner) ++ ((32 ∷ decimal priority) ++ (spaced targets ++ (10 ∷ [])))) ≡ vertex_line g v
 unfolding vertex_line
-vertex_words g v {first = first} {last = last} o p f l = rw (between g first last, o, p, f, l, add-one v) refl
+vertex_parts g v o p t = rw (o, p, t) (sym (words_parts (decimal v) (targets_in g v) (owner_in g v) (priority_in g v)))
 
 -- the lines of n vertices: the first one's, and those of the others
 pub lines_more : (g : List ℕ) (v n : ℕ) → v < n

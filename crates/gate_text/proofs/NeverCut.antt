@@ -16,7 +16,6 @@ use Rattle.rules.specs.declared.Answer.{Answer}
 use Rattle.rules.specs.declared.Answer.TheVariants.{Done, Cut, Refused}
 use Rattle.rules.specs.Answers.{Check}
 use Rattle.std.specs.declared.result.Result.TheVariants.{Ok, Err}
-use Rattle.rules.specs.Answers.{fault}
 use Rattle.rules.specs.Lists.{In}
 use Rattle.rules.specs.declared.Room.{Room}
 use Rattle.rules.specs.Words.{Input, game_length, work_length}

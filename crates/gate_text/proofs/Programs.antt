@@ -43,34 +43,20 @@ module _ (ws : List ℕ) (agrees : disagree ws ≡ false) where
   pub all_words : length ws ≡ 4 + word ws 0 + word ws 1 + word ws 2 + word ws 3
   all_words = omega (arith, lengths.2, sum_four ws lengths.1)
 
-part_behind : (ws : List ℕ) (p q m n : ℕ) → p ≡ 4 + q → m ≡ n → take m (drop p ws) ≡ take n (drop q (drop 4 ws))
-part_behind ws p q m n e f =
-    ap (λ (k : ℕ). take k (drop p ws)) f ∙ ap (take n) (ap (λ (k : ℕ). drop k ws) e ∙ sym (drop-drop q 4 ws))
+all_behind : (ws : List ℕ) → take (length ws - 4) (drop 4 ws) ≡ drop 4 ws
+all_behind ws = take_all (length ws - 4) (drop 4 ws) (omega (arith, length-drop 4 ws))
 
--- the parts of the words are the four slices
-module _ (ws : List ℕ) (l s a : ℕ) (labels : l ≡ word ws 0) (system : s ≡ word ws 1) (actions : a ≡ word ws 2) where
-  abbrev rest : List ℕ
-  rest = drop 4 ws
-
-  formula_part : take (length ws - (4 + l + s + a)) (drop (4 + l + s + a) ws) ≡ drop (l + s + a) rest
-  formula_part =
-      let e : 4 + l + s + a ≡ 4 + (l + s + a) = omega arith in
-      take_all (length ws - (4 + l + s + a)) (drop (4 + l + s + a) ws) (omega (arith, length-drop (4 + l + s + a) ws))
-      ∙ ap (λ (k : ℕ). drop k ws) e
-      ∙ sym (drop-drop (l + s + a) 4 ws)
-
-  pub parts_are :
-      input_of (take (4 + l - 4) (drop 4 ws)) (take (4 + l + s - (4 + l)) (drop (4 + l) ws)) (take (4 + l + s + a - (4 + l + s)) (drop (4 + l + s) ws))
-      (take (length ws - (4 + l + s + a)) (drop (4 + l + s + a) ws))
-      ≡ slices_of ws
-  unfolding slices_of
-  parts_are =
-      let first : 4 + l - 4 ≡ l = omega arith in
-      let second : take (4 + l + s - (4 + l)) (drop (4 + l) ws) ≡ take s (drop l rest) = part_behind ws (4 + l) l (4 + l + s - (4 + l)) s refl (omega arith) in
-      let third : take (4 + l + s + a - (4 + l + s)) (drop (4 + l + s) ws) ≡ take a (drop (l + s) rest) =
-      part_behind ws (4 + l + s) (l + s) (4 + l + s + a - (4 + l + s)) a (omega arith) (omega arith)
-      in
-      rw (first, second, third, formula_part, labels, system, actions) refl
+-- the parts that the words are split into are the four slices
+pub parts_are : (ws : List ℕ) (l s a : ℕ) {labels system actions formula behind last : List ℕ} → l ≡ word ws 0
+    → s ≡ word ws 1 → a ≡ word ws 2
+    → (labels ≡ take l (take (length ws - 4) (drop 4 ws))) × (behind ≡ drop l (take (length ws - 4) (drop 4 ws)))
+    → (system ≡ take s behind) × (last ≡ drop s behind) → (actions ≡ take a last) × (formula ≡ drop a last)
+    → input_of labels system actions formula ≡ slices_of ws
+unfolding slices_of
+parts_are ws l s a e f g labels system actions =
+    let rest = drop 4 ws in
+    rw (labels.0, system.0, actions.0, actions.1, system.1, labels.1, all_behind ws)
+    (rw (drop-drop s l rest, drop-drop a (l + s) rest, e, f, g) refl)
 
 -- ---- what is printed
 

@@ -3,15 +3,14 @@
 use mathlib.Core.Path.{◌≡◌, ap, ◌∙◌}
 use mathlib.Core.List.{List, [], ◌∷◌, ◌++◌}
 use Prim.Native.Nat.{ℕ, zero, suc, ◌+◌, ◌*◌, ◌≤◌, ◌<◌}
-use native.Mathlib.Numerals.{add-one}
 use native.Mathlib.Omega.{arith}
 use lib.ListN.{length, length-append}
-use Rattle.rules.specs.Game.{vertex_count, edges_in, owner_in, priority_in, offset_in, edges_from, targets_in}
+use Rattle.rules.specs.Game.{vertex_count, edges_in, owner_in, priority_in, offset_in, targets_in}
 use Rattle.rules.specs.Texts.{decimal, spaced, line}
 use Rattle.rules.specs.Program.{vertex_line, vertex_lines}
 use Rattle.game_texts.proofs.Decimals.{tens, decimal-length, decimal-word, spaced-length}
 use Rattle.gate_text.specs.Shown.{Shown}
-use Rattle.games.proofs.Offsets.{offset_within}
+use Rattle.parity_game.specs.Readable.{Readable}
 
 decimal-one : (n : ℕ) → n < 10 → length (decimal n) ≤ 1
 unfolding tens
@@ -54,14 +53,13 @@ module _ (g : List ℕ) (shown : Shown g) where
   pub game-length : length (vertex_lines g 0 (vertex_count g)) ≤ 12_800
   game-length = omega (arith, lines_length (vertex_count g) 0 (omega arith), shown.few, shown.few_edges)
 
-  -- a vertex's targets begin no later than they end, and end in the game
-  module _ (v first last : ℕ) (below : v < vertex_count g) (begins : first ≡ edges_from g 0 v)
-      (ends : last ≡ edges_from g 0 (v + 1)) where
-    pub targets_rise : first ≤ last
-    targets_rise =
-        let e : offset_in g (v + 1) ≡ offset_in g (suc v) = ap (offset_in g) (add-one v) in
-        omega (arith, shown.follows v below)
-
-    pub targets_within : last ≤ length g
-    targets_within =
-        omega (arith, offset_within g (λ u b. omega (arith, shown.follows u b)) shown.ends (v + 1) (omega arith), shown.inside)
+  -- its words can be read
+  pub shown_readable : Readable g
+  shown_readable =
+      record {
+        few = omega (arith, shown.few);
+        few_edges = omega (arith, shown.few_edges);
+        inside = shown.inside;
+        rises = λ v h. omega (arith, shown.follows v h);
+        ends = shown.ends;
+      }

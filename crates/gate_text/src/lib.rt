@@ -1,69 +1,51 @@
 // The thin program's text: the words that its input holds, and the lines that it prints.
 #![tactic(auto)]
 
-ghost use Rattle.std.specs.Prelude.{◌≡◌, List, ◌∷◌, ◌++◌, false, ℕ, ◌+◌, ◌*◌, ◌%◌, ◌≤◌, ◌<◌};
+ghost use Rattle.std.specs.Prelude.{◌≡◌, List, ◌++◌, false, ℕ, ◌+◌, ◌≤◌, ◌<◌};
 ghost use Rattle.std.specs.Prelude.{length, take, eqb, MatchOption};
 ghost use Rattle.std.proofs.Math.Option.{none, some};
 ghost use Rattle.rules.specs.Lists.{sum};
 ghost use Rattle.rules.specs.Answers.{Accepted};
 ghost use Rattle.rules.specs.Game.{vertex_count};
-ghost use Rattle.rules.specs.Texts.{decimal, line, Written};
-ghost use Rattle.rules.specs.Program.{words_of, disagree, slices_of, gate_run, vertex_line, vertex_lines, report};
+ghost use Rattle.rules.specs.Texts.{line, Written};
+ghost use Rattle.rules.specs.Program.{disagree, slices_of, gate_run, vertex_line, vertex_lines, report};
 ghost use Rattle.rules.specs.Program.{reported, printed, program_text};
-ghost use Rattle.rules.specs.Words.{Input, input_of};
+ghost use Rattle.rules.specs.Words.{input_of};
 ghost use Rattle.text_writer.specs.Appending.{Room, Appended};
 ghost use Rattle.gate_text.specs.Reading.{accepted};
 ghost use Rattle.gate_text.specs.Shown.{Shown};
 
+use parity_game::{Game, OWNER, PRIORITY, TARGET};
 use rules::Answer;
 use text_writer::Text;
 
 // ---- reading
 
-// The words of the bytes go to the front of `words`. Answers how many.
-fn read_words(bytes: &[u8], words: &mut [u32]) -> usize
-    requires { (length bytes.now % 4 ≡ 0) × (length bytes.now ≤ 4 * length words.old) }
-    ensures { (4 * result ≡ length bytes.now)
-        × (words_of bytes.now ≡ some (take result words.new)) }
-{
-    let count = bytes.len() / 4;
-    for i in 0..count {
-        words[i] = words::word_at(bytes, 4 * i);
-    }
-    count
-}
-
-// Are so many words as many as the first four say? In 64 bits the sum does not wrap.
-fn lengths_agree(words: &[u32], count: usize) -> bool
+// Are there as many words as the first four say? In 64 bits the sum does not wrap.
+fn lengths_agree(words: &[u32]) -> bool
     requires { 4 ≤ length words.now }
-    ensures { result ≡ eqb count (4 + sum (take 4 words.now)) }
+    ensures { result ≡ eqb (length words.now) (4 + sum (take 4 words.now)) }
 {
     let labels = words::at(words, 0);
     let system = words::at(words, 1);
     let actions = words::at(words, 2);
     let formula = words::at(words, 3);
-    count == 4 + labels + system + actions + formula
+    words.len() == 4 + labels + system + actions + formula
 }
 
-// The words of the bytes go to the front of `words`: so many, or none where the program refuses the bytes.
-fn decode(bytes: &[u8], words: &mut [u32]) -> Option<usize>
-    requires { 2048 ≤ length words.old }
-    ensures { MatchOption result (accepted bytes.now ≡ none)
-        (λ count. (accepted bytes.now ≡ some (take count words.new)) × (count ≤ 2048)) }
+// The words of the bytes, in the room lent for them, or None where the program refuses the bytes.
+fn decode<'a>(bytes: &[u8], room: &'a mut [u32]) -> Option<&'a [u32]>
+    requires { 2048 ≤ length room.old }
+    ensures { MatchOption result (accepted bytes.now ≡ none) (λ words. accepted bytes.now ≡ some words.now) }
 {
     let size = bytes.len();
-    if size % 4 != 0 {
+    if size % 4 != 0 || size < 16 || 8192 < size {
         return None;
     }
-    if 8192 < size {
-        return None;
-    }
-    if size < 16 {
-        return None;
-    }
-    let count = read_words(bytes, words);
-    if lengths_agree(words, count) {
-        return Some(count);
+    let words = &mut room[..size / 4];
+    words::read_words(bytes, words);
+    if lengths_agree(words) {
+        return Some(words);
     }
     None
 }
@@ -71,45 +53,31 @@ fn decode(bytes: &[u8], words: &mut [u32]) -> Option<usize>
 // ---- a game's lines: each function appends to the text
 
 // A vertex's line: its number, owner, priority, targets.
-#[tactic(auto, using(text_writer::proofs::Lines::line_length, text_writer::proofs::Lines::spaced_length))]
-fn put_words(text: &mut Text<'_>, vertex: usize, owner: usize, priority: usize, targets: &[u32])
-    requires { Room text.old (line (decimal vertex) (owner ∷ priority ∷ targets.now)) }
-    ensures { Appended (line (decimal vertex) (owner ∷ priority ∷ targets.now)) text.old text.new }
+#[tactic(auto, using(text_writer::proofs::Lines::line_length, text_writer::proofs::Lines::spaced_length), unfolding(rules::specs::Program::vertex_line))]
+fn put_vertex(text: &mut Text<'_>, game: &Game<'_>, vertex: usize)
+    requires vertex_bound { vertex < vertex_count game.now.words.now }
+    requires room { Room text.old (vertex_line game.now.words.now vertex) }
+    ensures { Appended (vertex_line game.now.words.now vertex) text.old text.new }
 {
     text.put_decimal(vertex);
-    text.put_number(owner);
-    text.put_number(priority);
-    text.put_numbers(targets);
+    text.put_number(game.vertex_word(OWNER, vertex));
+    text.put_number(game.vertex_word(PRIORITY, vertex));
+    text.put_numbers(game.edge_words(TARGET, vertex));
     text.put_byte(10);
 }
 
-// The same, of a game.
-fn put_vertex(text: &mut Text<'_>, game: &[u32], vertex: usize)
-    requires shown { Shown game.now }
-    requires vertex_bound { vertex < vertex_count game.now }
-    requires room { Room text.old (vertex_line game.now vertex) }
-    ensures { Appended (vertex_line game.now vertex) text.old text.new }
-{
-    let owner = parity_game::vertex_word(game, 0, vertex);
-    let priority = parity_game::vertex_word(game, 1, vertex);
-    let first = parity_game::edges_from(game, 0, vertex);
-    let end = parity_game::edges_from(game, 0, vertex + 1);
-    put_words(text, vertex, owner, priority, &game[first..end]);
-}
-
 // The lines of all vertices.
-fn put_vertices(text: &mut Text<'_>, game: &[u32])
-    requires shown { Shown game.now }
-    requires room { Room text.old (vertex_lines game.now 0 (vertex_count game.now)) }
-    ensures { Appended (vertex_lines game.now 0 (vertex_count game.now)) text.old text.new }
+fn put_vertices(text: &mut Text<'_>, game: &Game<'_>)
+    requires { let g = game.now.words.now in Room text.old (vertex_lines g 0 (vertex_count g)) }
+    ensures { let g = game.now.words.now in Appended (vertex_lines g 0 (vertex_count g)) text.old text.new }
 {
-    let count = words::at(game, 0);
-    for vertex in 0..count {
+    for vertex in 0..game.vertices() {
         put_vertex(text, game, vertex);
     }
 }
 
 // A first line and the game's lines.
+#[tactic(auto, using(crate::proofs::Sizes::shown_readable))]
 fn put_game(text: &mut Text<'_>, name: &[u8], numbers: &[u32], game: &[u32])
     requires shown { Shown game.now }
     requires room { Room text.old (line name.now numbers.now ++ vertex_lines game.now 0 (vertex_count game.now)) }
@@ -117,10 +85,12 @@ fn put_game(text: &mut Text<'_>, name: &[u8], numbers: &[u32], game: &[u32])
         text.old text.new }
 {
     text.put_line(name, numbers);
-    put_vertices(text, game);
+    put_vertices(text, &Game { words: game });
 }
 
 // What is printed of a run: its answer, and the game that it left.
+// Kept (no plainer): crate `stored_runs` prints answers in the same form by `Display`, and promises nothing of what is
+// written; here it is promised.
 fn print(answer: Answer, game: &[u32], text: &mut Text<'_>)
     requires room { Room text.old (report answer game.now) }
     requires shown { Accepted answer → Shown game.now }
@@ -156,21 +126,15 @@ fn run_input(labels: &[u32], system: &[u32], actions: &[u32], formula: &[u32], t
 
 // The run of the words: four lengths, then the four slices, one after the other.
 #[tactic(auto, using(crate::proofs::Programs::four_words, crate::proofs::Programs::all_words))]
-fn run_words(ws: &[u32], text: &mut Text<'_>)
-    requires agree { disagree ws.now ≡ false }
-    requires room { Room text.old (reported (gate_run (slices_of ws.now))) }
-    ensures { Appended (reported (gate_run (slices_of ws.now))) text.old text.new }
+fn run_words(words: &[u32], text: &mut Text<'_>)
+    requires agree { disagree words.now ≡ false }
+    requires room { Room text.old (reported (gate_run (slices_of words.now))) }
+    ensures { Appended (reported (gate_run (slices_of words.now))) text.old text.new }
 {
-    let labels_end = 4 + words::at(ws, 0);
-    let system_end = labels_end + words::at(ws, 1);
-    let actions_end = system_end + words::at(ws, 2);
-    run_input(
-        &ws[4..labels_end],
-        &ws[labels_end..system_end],
-        &ws[system_end..actions_end],
-        &ws[actions_end..],
-        text,
-    );
+    let (labels, rest) = words[4..].split_at(words::at(words, 0));
+    let (system, rest) = rest.split_at(words::at(words, 1));
+    let (actions, formula) = rest.split_at(words::at(words, 2));
+    run_input(labels, system, actions, formula, text);
 }
 
 // What the program writes, of what it reads.
@@ -178,9 +142,9 @@ fn put_program(bytes: &[u8], text: &mut Text<'_>)
     requires { Room text.old (printed bytes.now) }
     ensures { Appended (printed bytes.now) text.old text.new }
 {
-    let mut ws = [0u32; 2048];
-    match decode(bytes, &mut ws) {
-        Some(count) => run_words(&ws[..count], text),
+    let mut room = [0u32; 2048];
+    match decode(bytes, &mut room) {
+        Some(words) => run_words(words, text),
         None => text.put_line(b"refused", &[2, 0]),
     }
 }
@@ -203,15 +167,12 @@ pub fn gate(bytes: &[u8], text: &mut [u8]) -> Answer
 // noticed.
 pub const READ: usize = 8193;
 
-pub type Buffer = [u8; READ];
-
-// As `gate`, of any input whose first 8,193 bytes (all, where it has fewer) are the first `count` bytes of the buffer.
-pub fn gate_buffer(buffer: &Buffer, count: usize, text: &mut [u8]) -> Answer
-    requires { count ≤ 8193 }
-    ensures { (input : List ℕ) → take 8193 input ≡ take count buffer.now
+// As `gate`, of any input whose first 8,193 bytes (all, where it has fewer) are these.
+// Kept (no plainer): it does what `gate` does; its promise is of its own, as it speaks of inputs that are longer.
+pub fn gate_buffer(bytes: &[u8], text: &mut [u8]) -> Answer
+    ensures { (input : List ℕ) → take 8193 input ≡ bytes.now
         → ◌≡◌ {A = Written} (record { answer = result; text = text.new })
         (program_text input text.old) }
 {
-    let all = &buffer[..];
-    gate(&all[..count], text)
+    gate(bytes, text)
 }

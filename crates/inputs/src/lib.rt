@@ -9,26 +9,21 @@ ghost use Rattle.rules.specs.Refusal.{refusal1, refusal2, input_refusal, refusal
 ghost use Rattle.inputs.specs.Groups.{formula_checks};
 ghost use Rattle.inputs.specs.Accepting.{checked};
 
+use faults::fault_if;
 use lent_input::Input;
 use rules::{Fault, Room};
 
 // 1: the room is out of range. 2: the game slice or the work slice, of these lengths, is not as long as the room asks.
-#[tactic(auto, unfolding(rules::specs::Answers::and_then, rules::specs::Answers::fault_if, rules::specs::Refusal::differ, rules::specs::Refusal::refusal2, rules::specs::Words::game_length, rules::specs::Words::work_length))]
+#[tactic(auto, unfolding(rules::specs::Answers::and_then, rules::specs::Refusal::differ, rules::specs::Refusal::refusal2, rules::specs::Words::game_length, rules::specs::Words::work_length))]
 fn check_room(room: Room, game_len: usize, work_len: usize) -> Result<(), Fault>
     ensures { result ≡ and_then (refusal1 room) (refusal2 room game_len work_len) }
 {
     parity_game::check_room(room)?;
     let vertices = room.vertices as usize;
     let edges = room.edges as usize;
-    if game_len != parity_game::game_words(vertices, edges)
-        || work_len != 8 * vertices + 2 * edges
-    {
-        return Err(Fault {
-            number: 2,
-            place: 0,
-        });
-    }
-    Ok(())
+    let wrong_length = game_len != parity_game::game_words(vertices, edges)
+        || work_len != 8 * vertices + 2 * edges;
+    fault_if(2, 0, wrong_length)
 }
 
 // 31 to 45: the action formulas, then the formula.

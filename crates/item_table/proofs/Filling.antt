@@ -2,12 +2,13 @@
 use mathlib.Core.Path.{◌≡◌, refl, sym, ap, subst, ◌∙◌}
 use mathlib.Core.Logic.{◌⊎◌, inl, inr}
 use mathlib.Core.Bool.{true, false}
-use mathlib.Core.List.{List}
+use mathlib.Core.List.{List, map}
 use Prim.Native.Nat.{ℕ, suc, ◌+◌, ◌-◌, ◌≤◌, ◌<◌}
 use native.Mathlib.Decide.{dec_lt, ℕ_discrete}
 use native.Mathlib.Omega.{arith}
 use lib.ListN.{length, set}
 use lib.Seq.{get_or-set_same, get_or-set_other}
+use Rattle.std.proofs.lemmas.List.{length-map}
 use Rattle.rules.specs.Lists.{word, zeros}
 use Rattle.rules.specs.Words.{Input}
 use Rattle.rules.specs.Table.{size, formula_node}
@@ -18,6 +19,8 @@ use Rattle.rules.specs.Items.{Item, items, item_number}
 use Rattle.rules.specs.Pairs.{item_at, priority}
 use Rattle.tables.specs.Good.{GoodInput}
 use Rattle.trees.proofs.Equations.{equation_node, body_below, fixpoint_body}
+use Rattle.node_kinds.specs.Codes.{formula_code}
+use Rattle.compiled.specs.declared.Item as compiled
 use Rattle.compiled.specs.declared.Compiled.{Compiled}
 use Rattle.compiled.specs.Tables.{kinds_in, lefts_in, rights_in}
 use Rattle.arena.specs.Arena.{BodyNode}
@@ -204,13 +207,14 @@ pub table_kept : (x : Input) (good : GoodInput x) (t u : Compiled)
     → PrioritiesOnly t u
     → ItemTable x (kinds_in u) (lefts_in u) (rights_in u)
 table_kept x good t u k s p =
-    let r = p.rooms in
-    rw (p.kinds, p.lefts, p.rights)
-    (table_made x good (kinds_in t) (lefts_in t) (rights_in t)
+    let long : length t.items ≡ 2_048 = sym (length-map t.items (λ i. formula_code i.kind)) ∙ k in
+    let made = table_made x good (kinds_in t) (lefts_in t) (rights_in t)
     (omega (arith, k))
-    (omega (arith, r.lefts, ap length p.lefts))
-    (omega (arith, r.rights, ap length p.rights))
-    s)
+    (omega (arith, long, length-map t.items (λ i. i.left)))
+    (omega (arith, long, length-map t.items (λ i. i.right)))
+    s in
+    subst (λ (es : List compiled.Item). ItemTable x (map (λ i. formula_code i.kind) es) (map (λ i. i.left) es) (map (λ i. i.right) es))
+    (sym p.items) made
 
 -- ---- what was written
 

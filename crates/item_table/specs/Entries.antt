@@ -12,10 +12,10 @@ use Rattle.rules.specs.Depth.{Ranking}
 use Rattle.rules.specs.Items.{Item, equation, subformula, items, item_number}
 use Rattle.rules.specs.Pairs.{item_at, priority}
 use Rattle.node_kinds.specs.Codes.{formula_code}
+use Rattle.compiled.specs.declared.Item as compiled
 use Rattle.compiled.specs.declared.Compiled.{Compiled}
 use Rattle.compiled.specs.Tables.{kinds_in, lefts_in, rights_in, priorities_in, classes_in, samples_in, multiples_in}
 use Rattle.alike_nodes.specs.Nodes.{FormulaShown}
-use Rattle.item_table.specs.declared.ItemWords.{ItemWords}
 
 -- "6 least, 7 greatest"
 abbrev pub operator_kind : Operator → ℕ
@@ -92,14 +92,13 @@ pub record ItemsOnly (before after : Compiled) : Type 0 where
 abbrev pub KindsRoom : Compiled → Type 0
 KindsRoom c = length (kinds_in c) ≡ 2_048
 
--- and a word in each other table
+-- and two operands
 pub record Rooms (c : Compiled) : Type 0 where
   pub lefts : length (lefts_in c) ≡ 2_048
   pub rights : length (rights_in c) ≡ 2_048
-  pub priorities : length (priorities_in c) ≡ 2_048
 
 -- the words that show item q were put
-pub record EntryPut (before after : Compiled) (q : ℕ) (w : ItemWords) : Type 0 where
+pub record EntryPut (before after : Compiled) (q : ℕ) (w : compiled.Item) : Type 0 where
   pub kinds : kinds_in after ≡ set (kinds_in before) q (formula_code w.kind)
   pub lefts : lefts_in after ≡ set (lefts_in before) q w.left
   pub rights : rights_in after ≡ set (rights_in before) q w.right
@@ -109,8 +108,6 @@ pub record EntryPut (before after : Compiled) (q : ℕ) (w : ItemWords) : Type 0
 
 -- only the priorities were written
 pub record PrioritiesOnly (before after : Compiled) : Type 0 where
-  pub kinds : kinds_in after ≡ kinds_in before
-  pub lefts : lefts_in after ≡ lefts_in before
-  pub rights : rights_in after ≡ rights_in before
-  pub rooms : Rooms after
+  pub items : after.items ≡ before.items
+  pub room : length (priorities_in after) ≡ 2_048
   pub only : ItemsOnly before after

@@ -13,7 +13,7 @@
 //     reference    Odd     (s, its equation)
 #![tactic(auto)]
 
-ghost use Rattle.std.specs.Prelude.{◌≡◌, ◌/◌, ◌≤◌, ◌<◌, eqb};
+ghost use Rattle.std.specs.Prelude.{◌≡◌, ◌≤◌, ◌<◌};
 ghost use Rattle.node_kinds.specs.Codes.{formula_code};
 ghost use Rattle.item_table.specs.Entries.{kind_owner};
 
@@ -37,14 +37,8 @@ pub fn owner_of(kind: FormulaKind) -> Player
     }
 }
 
-// Do the edges go by the transitions of the state?
-pub fn is_modality(kind: FormulaKind) -> bool
-    ensures { result ≡ eqb (formula_code kind / 2) 2 }
-{
-    matches!(kind, FormulaKind::Box | FormulaKind::Diamond)
-}
-
 // How many edges stay at the state, where the kind is no constant and no modality.
+// Kept (rule): 2 for a constant too, as was promised of every kind; callers ask `is_constant` of it first.
 pub fn operand_count(kind: FormulaKind) -> usize
     ensures { (formula_code kind < 4 → result ≡ 2) × (4 ≤ formula_code kind → result ≡ 1) }
 {

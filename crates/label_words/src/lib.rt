@@ -7,6 +7,7 @@ ghost use Rattle.rules.specs.Answers.{first_fault};
 ghost use Rattle.rules.specs.Labels.{action_count};
 ghost use Rattle.rules.specs.Refusal.{bad_label, refusal11, refusal12, refusal13};
 
+use faults::fault_if;
 use rules::Fault;
 
 // The label number at word `place` is L or more, or less than the one before it.
@@ -34,22 +35,14 @@ const MOST_LABELS: usize = 4_096;
 const MOST_ACTIONS: usize = 16_384;
 
 // 11, 12, 13: the label words.
-#[tactic(auto, unfolding(rules::specs::Answers::first_fault, rules::specs::Answers::and_then, rules::specs::Answers::fault_if, rules::specs::Refusal::differ, rules::specs::Refusal::refusal11, rules::specs::Refusal::refusal12))]
+#[tactic(auto, using(tables::proofs::Faults::if_passed), unfolding(rules::specs::Answers::first_fault, rules::specs::Answers::and_then, rules::specs::Refusal::differ, rules::specs::Refusal::refusal11, rules::specs::Refusal::refusal12))]
 pub fn check_labels(labels: &[u32]) -> Result<(), Fault>
     ensures { result ≡ first_fault (refusal11 labels.now ∷ refusal12 labels.now
         ∷ refusal13 labels.now ∷ []) }
 {
-    if labels.len() < 2 || labels.len() != 2 + 2 * words::at(labels, 1) {
-        return Err(Fault {
-            number: 11,
-            place: 0,
-        });
-    }
-    if MOST_LABELS < words::at(labels, 0) || MOST_ACTIONS < words::at(labels, 1) {
-        return Err(Fault {
-            number: 12,
-            place: 0,
-        });
-    }
+    let wrong_length = labels.len() < 2 || labels.len() != 2 + 2 * words::at(labels, 1);
+    fault_if(11, 0, wrong_length)?;
+    let too_many = MOST_LABELS < words::at(labels, 0) || MOST_ACTIONS < words::at(labels, 1);
+    fault_if(12, 0, too_many)?;
     check_numbers(labels)
 }

@@ -5,6 +5,10 @@ use mathlib.Core.Bool.{Bool, true, false}
 use Prim.Native.Nat.{ℕ, zero, suc, ◌+◌, ◌-◌, ◌≤◌, ◌<◌}
 use native.Mathlib.Omega.{arith}
 use native.Mathlib.Nat.{add-suc, add_assoc, add-zero, eq-or-lt_of_le}
+use lib.ListN.{length, get_or}
+use Rattle.std.specs.Bool.{MatchBool}
+use Rattle.std.specs.List.{AllWithin, HoldsAt, range_with_len}
+use Rattle.std.proofs.lemmas.List.FromFn.{length-range_with_len, get_or-range_with_len}
 use Rattle.rules.specs.Lists.{one, tally, every}
 use Rattle.lists.proofs.Tallies.{tally-zero, every-at, every-all}
 
@@ -23,13 +27,11 @@ module _ (f : ℕ → Bool) where
       ∙ ap₂ ◌+◌ (tally-append p n m) (ap (λ (k : ℕ). one (f k)) (sym (add_assoc p n m)))
       ∙ add_assoc (tally f p n) (tally f (p + n) m) (one (f (p + n + m)))
 
-  pub tally_start : (p : ℕ) → 0 ≡ tally f p (p - p)
+  -- the places from p on, counted from 0
+  pub tally_shift : (p n : ℕ) → tally (λ i. f (p + i)) 0 n ≡ tally f p n
   unfolding tally
-  tally_start p = let e : 0 ≡ p - p = omega arith in ap (tally f p) e
-
-  pub every_start : (p : ℕ) → true ≡ every f p (p - p)
-  unfolding every
-  every_start p = let e : 0 ≡ p - p = omega arith in ap (every f p) e
+  tally_shift p zero = refl
+  tally_shift p (suc n) = ap₂ ◌+◌ (tally_shift p n) (let e : p + (0 + n) ≡ p + n = omega arith in ap (λ (k : ℕ). one (f k)) e)
 
   -- one place more
   pub tally_more : (p i : ℕ) → p ≤ i → tally f p (i + 1 - p) ≡ tally f p (i - p) + one (f i)
@@ -82,16 +84,22 @@ module _ (f : ℕ → Bool) where
       last true e = absurd (omega (arith, h, ap one e))
       last false e = e
 
-  pub every_more : (p i : ℕ) → p ≤ i → every f p (i - p) ≡ true → f i ≡ true → every f p (i + 1 - p) ≡ true
-  every_more p i h k e =
-      every-all f p (i + 1 - p) (λ q a b. ⊎_elim (λ z. ap f z ∙ e) (λ u. every-at f p (i - p) k q a (omega arith)) (eq-or-lt_of_le (le_of q b)))
-    where
-      le_of : (q : ℕ) → q < p + (i + 1 - p) → q ≤ i
-      le_of q b = omega arith
-
   pub every_not : (p n q : ℕ) → p ≤ q → q < p + n → f q ≡ false → every f p n ≡ false
   every_not p n q a b e = go (every f p n) refl
     where
       go : (t : Bool) → every f p n ≡ t → t ≡ false
       go true h = sym (every-at f p n h q a b) ∙ e
       go false h = refl
+
+  -- whether it holds at each of n places from p on, as a search among them says
+  pub every_searched : (p n : ℕ) (r : Bool)
+      → MatchBool r (AllWithin (λ i. f i ≡ true) (range_with_len p n) 0 (length (range_with_len p n)))
+      ((k : ℕ) × (k < length (range_with_len p n)) × HoldsAt (λ i. f i ≡ false) (range_with_len p n) k)
+      → r ≡ every f p n
+  every_searched p n true all =
+      sym (every-all f p n
+      (λ q a b. let e : get_or (range_with_len p n) (q - p) 0 ≡ q = get_or-range_with_len p n (q - p) 0 (omega arith) ∙ omega arith in
+      ap f (sym e) ∙ all (q - p) 0 (omega arith) (omega (arith, length-range_with_len p n))))
+  every_searched p n false (k, l, none) =
+      let e : get_or (range_with_len p n) k 0 ≡ p + k = get_or-range_with_len p n k 0 (omega (arith, length-range_with_len p n)) in
+      sym (every_not p n (p + k) (omega arith) (omega (arith, length-range_with_len p n)) (ap f (sym e) ∙ none 0))

@@ -15,7 +15,7 @@ use Rattle.rules.specs.Labels.{action_at, same_label}
 use Rattle.lists.proofs.Products.{wide, scaled_fits}
 use Rattle.lists.proofs.Tallies.{tally_cong}
 use Rattle.labels.specs.Stretches.{times_in}
-use Rattle.labels.specs.Marks.{stirred, weight, sum_over, weight_in, MarkOf, Marked}
+use Rattle.labels.specs.Marks.{stirred, weight, sum_over, weight_in, MarkOf, Marked, StartsKnown, MarksTell}
 use Rattle.labels.proofs.Counts.{tally_next, tally_none}
 use Rattle.labels.proofs.Listed.{positions_sums}
 use Rattle.labels.proofs.Stretched.{same_in}
@@ -81,6 +81,16 @@ module _ (ls starts marks : List ℕ) where
   -- the labels before l keep their marks where l's entry is written
   pub marked_before : (l k : ℕ) → Marked ls starts marks (l + 1) → Marked ls starts (set marks l k) l
   marked_before l k h z u = rw (get_or-set_other {A = ℕ} marks l z k 0 (omega arith)) (h z (omega arith))
+
+  -- what is known of a label below n and those before it
+  module _ (l n : ℕ) (k : l < n) (h : Marked ls starts marks n) where
+    pub starts_known : StartsKnown ls starts l
+    starts_known z u = let m = h z (omega arith) in m.stretch.starts
+
+    pub marks_tell : MarksTell ls marks l
+    marks_tell z u d =
+        other_multiset ls z (word starts z) (word marks z) l (word starts l) (word marks l) (h z (omega arith))
+        (h l (omega arith)) d
 
 -- ---- how many of the first marks are m
 

@@ -3,15 +3,23 @@
 use mathlib.Core.Path.{◌≡◌, sym, ap, ◌∙◌}
 use mathlib.Core.Bool.{Bool, true, false, ◌&&◌, false≢true}
 use mathlib.Core.List.{List}
-use Prim.Native.Nat.{ℕ, ◌+◌, ◌-◌, ◌≤◌, ◌<◌}
+use Prim.Native.Nat.{ℕ, ◌+◌, ◌-◌, ◌*◌, ◌≤◌, ◌<◌}
 use native.Mathlib.Omega.{arith}
 use lib.Dec.{eqb}
+use lib.ListN.{length, take, drop, length-take, length-drop}
+use lib.Seq.{get_or-take, get_or-drop}
 use borrow.Author.Tests.{eq-eqb, ne_eqb, eqb-true}
-use Rattle.rules.specs.Lists.{one}
+use Rattle.rules.specs.Lists.{word, tally}
 use Rattle.rules.specs.Labels.{label_at, action_at, action_count, times, same_label}
+use Rattle.std.specs.Bool.{MatchBool}
+use Rattle.std.specs.Option.{MatchOption, unwrap_or}
+use Rattle.std.specs.List.{AllWithin, HoldsAt, range_with_len}
+use Rattle.std.proofs.Common.{Option, None, Some}
+use native.Mathlib.Decide.{dec_lt}
+use Rattle.tables.specs.Good.{GoodLabels}
 use Rattle.labels.specs.Stretches.{times_in, covered, Starts, Stretch}
 use Rattle.lists.proofs.Tallies.{tally_cong}
-use Rattle.labels.proofs.Counts.{flags, tally_start, tally_more, tally_middle, every_start, every_more, every_not}
+use Rattle.labels.proofs.Counts.{flags, tally_shift, tally_middle, every_searched}
 use Rattle.lists.proofs.Tallies.{every-at, every-all}
 use Rattle.labels.proofs.Alike.{same_times, times_same}
 use Rattle.labels.proofs.Listed.{positions_number, positions-all}
@@ -21,40 +29,70 @@ pub starts_first : (ls : List ℕ) → Starts ls 0 0
 starts_first ls = record { within = omega arith; before = λ p h. absurd (omega arith); after = λ p h u. omega arith }
 
 module _ (ls : List ℕ) where
-  -- counting: at the first place, and one place more
-  pub times_none : (p a : ℕ) → 0 ≡ times_in ls p p a
-  unfolding times_in
-  times_none p a = tally_start (λ i. eqb (action_at ls i) a) p
+  -- counting among the words that are lent for a stretch
+  module _ (p q a m : ℕ) (e : m ≡ action_count ls) (h : p ≤ q) (l : q ≤ action_count ls) (s : length ls ≡ 2 + 2 * action_count ls) where
+    abbrev lent : List ℕ
+    lent = take (2 + m + q - (2 + m + p)) (drop (2 + m + p) ls)
 
-  pub times_hit : (p i a n : ℕ) → p ≤ i → n ≡ times_in ls p i a → action_at ls i ≡ a → n + 1 ≡ times_in ls p (i + 1) a
-  unfolding times_in
-  times_hit p i a n h e y = omega (arith, tally_more (λ j. eqb (action_at ls j) a) p i h, ap one (eq-eqb (action_at ls i) a y))
+    lent_word : (i : ℕ) → i < q - p → word lent i ≡ action_at ls (p + i)
+    lent_word i u =
+        let k : 2 + m + p + i ≡ 2 + action_count ls + (p + i) = omega arith in
+        get_or-take (2 + m + q - (2 + m + p)) (drop (2 + m + p) ls) i 0 (omega arith)
+        ∙ get_or-drop (2 + m + p) ls i 0 ∙ ap (word ls) k
 
-  pub times_miss : (p i a n : ℕ) → p ≤ i → n ≡ times_in ls p i a → (¬ (action_at ls i ≡ a)) → n ≡ times_in ls p (i + 1) a
-  unfolding times_in
-  times_miss p i a n h e y = omega (arith, tally_more (λ j. eqb (action_at ls j) a) p i h, ap one (ne_eqb (action_at ls i) a y))
+    pub times_lent : tally (λ i. eqb (word lent i) a) 0 (length lent) ≡ times_in ls p q a
+    unfolding times_in
+    times_lent =
+        let n : length lent ≡ q - p = simp (length-take, length-drop) (omega arith) in
+        ap (tally (λ i. eqb (word lent i) a) 0) n
+        ∙ tally_cong _ _ 0 (q - p) (λ i u v. ap (λ z. eqb z a) (lent_word i (omega arith)))
+        ∙ tally_shift (λ i. eqb (action_at ls i) a) p (q - p)
 
-  -- comparing the counts in two stretches
-  module _ (a e b f p : ℕ) where
-    Equal : ℕ → Bool
-    Equal i = eqb (times_in ls a e (action_at ls i)) (times_in ls b f (action_at ls i))
+  -- comparing the counts in two stretches, as a search for a place where they differ says
+  abbrev pub EqualAt : (a e b f i : ℕ) → Bool
+  EqualAt a e b f i = eqb (times_in ls a e (action_at ls i)) (times_in ls b f (action_at ls i))
 
-    pub covered_none : covered ls p p a e b f ≡ true
-    unfolding covered Equal
-    covered_none = sym (every_start Equal p)
+  pub covered_searched : (p q a e b f : ℕ) (r : Bool)
+      → MatchBool r (AllWithin (λ i. EqualAt a e b f i ≡ true) (range_with_len p (q - p)) 0 (length (range_with_len p (q - p))))
+      ((k : ℕ) × (k < length (range_with_len p (q - p))) × HoldsAt (λ i. EqualAt a e b f i ≡ false) (range_with_len p (q - p)) k)
+      → r ≡ covered ls p q a e b f
+  unfolding covered
+  covered_searched p q a e b f = every_searched (EqualAt a e b f) p (q - p)
 
-    -- the action at place i occurs m times in the one and n times in the other
-    module _ (i x m n : ℕ) (h : p ≤ i) (at : x ≡ action_at ls i) (one-count : m ≡ times_in ls a e x) (other_count : n ≡ times_in ls b f x) where
-      counted : (m ≡ times_in ls a e (action_at ls i)) × (n ≡ times_in ls b f (action_at ls i))
-      counted = (one-count ∙ ap (times_in ls a e) at, other_count ∙ ap (times_in ls b f) at)
+  -- label l ends at the first place of another one
+  pub stretch_searched : (l from count : ℕ) (found : Option ℕ) → GoodLabels ls → Starts ls l from → count ≡ action_count ls
+      → MatchOption found ((k : ℕ) → from ≤ k → k < count → label_at ls k ≡ l)
+      (λ e. (from ≤ e) × (e < count) × (¬ (label_at ls e ≡ l)) × ((k : ℕ) → from ≤ k → k < e → label_at ls k ≡ l))
+      → Stretch ls l from (unwrap_or found count)
+  stretch_searched l from count found good s c = go found
+    where
+      before : (e : ℕ) → ((k : ℕ) → from ≤ k → k < e → label_at ls k ≡ l) → (p : ℕ) → p < e → label_at ls p < l + 1
+      before e same p h = at (dec_lt p from)
+        where
+          at : Dec (p < from) → label_at ls p < l + 1
+          at (yes u) = omega (arith, s.before p u)
+          at (no u) = omega (arith, same p (omega arith) h)
 
-      pub covered_more : covered ls p i a e b f ≡ true → m ≡ n → covered ls p (i + 1) a e b f ≡ true
-      unfolding covered Equal
-      covered_more k y = every_more Equal p i h k (eq-eqb _ _ (sym counted.0 ∙ y ∙ counted.1))
-
-      pub covered_not : (q : ℕ) → i < q → (¬ (m ≡ n)) → false ≡ covered ls p q a e b f
-      unfolding covered Equal
-      covered_not q u y = sym (every_not Equal p (q - p) i h (omega arith) (ne_eqb _ _ (λ z. y (counted.0 ∙ z ∙ sym counted.1))))
+      go : (found : Option ℕ)
+          → MatchOption found ((k : ℕ) → from ≤ k → k < count → label_at ls k ≡ l)
+          (λ e. (from ≤ e) × (e < count) × (¬ (label_at ls e ≡ l)) × ((k : ℕ) → from ≤ k → k < e → label_at ls k ≡ l))
+          → Stretch ls l from (unwrap_or found count)
+      go None all =
+          record {
+            forward = omega (arith, s.within, c);
+            starts = s;
+            ends = record { within = omega arith; before = before count all; after = λ p h u. absurd (omega arith) };
+          }
+      go (Some e) (lo, hi, other, all) =
+          record {
+            forward = lo;
+            starts = s;
+            ends = record {
+              within = omega arith;
+              before = before e all;
+              after = λ p h u. let first = s.after e lo (omega arith) in omega (arith, good.order e p h u, other);
+            };
+          }
 
   -- the actions of a label are those of its stretch
   pub times-stretch : (l s e a : ℕ) → Stretch ls l s e → times ls l a ≡ times_in ls s e a

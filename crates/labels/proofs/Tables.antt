@@ -8,11 +8,13 @@ use native.Mathlib.Omega.{arith}
 use lib.Dec.{eqb}
 use lib.ListN.{length, set}
 use lib.Seq.{get_or-set_same, get_or-set_other}
+use Rattle.std.specs.Option.{MatchOption, unwrap_or}
+use Rattle.std.proofs.Common.{Option, None, Some}
 use Rattle.rules.specs.Lists.{word, tally}
 use Rattle.rules.specs.Labels.{same_label, multiset}
 use Rattle.lists.proofs.Places.{seek_at, seek-nowhere}
-use Rattle.labels.specs.Marks.{Marked}
-use Rattle.labels.proofs.Marks.{other_multiset, none_marked}
+use Rattle.labels.specs.Marks.{MarksTell}
+use Rattle.labels.proofs.Marks.{none_marked}
 
 -- one entry more, before the others
 pub entry_more : (ls classes : List ℕ) (n l k : ℕ) → l < length classes → k ≡ multiset ls l → ((z : ℕ) → l < z → z < n → word classes z ≡ multiset ls z)
@@ -32,8 +34,16 @@ pub lowest_itself : (ls : List ℕ) (l k : ℕ) → k ≡ l → ((z : ℕ) → z
 unfolding multiset
 lowest_itself ls l k e none = e ∙ sym (seek-nowhere (λ j. same_label ls j l) 0 l (λ i a b. none i (omega arith)) ∙ omega arith)
 
+-- as a search among the labels before l says
+pub lowest_searched : (ls : List ℕ) (l : ℕ) (found : Option ℕ)
+    → MatchOption found ((k : ℕ) → 0 ≤ k → k < l → same_label ls k l ≡ false)
+    (λ i. (0 ≤ i) × (i < l) × (same_label ls i l ≡ true) × ((k : ℕ) → 0 ≤ k → k < i → same_label ls k l ≡ false))
+    → unwrap_or found l ≡ multiset ls l
+lowest_searched ls l None none = lowest_itself ls l l refl (λ z u. none z (omega arith) u)
+lowest_searched ls l (Some k) (a, b, same, none) = lowest_found ls l k b (λ z u. none z (omega arith) u) same
+
 -- l itself if no label before it has its mark
-pub mark_alone : (ls starts marks : List ℕ) (l times : ℕ) → Marked ls starts marks (l + 1) → times ≡ tally (λ i. eqb (word marks i) (word marks l)) 0 l → times ≡ 0 → l ≡ multiset ls l
-mark_alone ls starts marks l times h e none =
-    lowest_itself ls l l refl
-    (λ z u. other_multiset ls z (word starts z) (word marks z) l (word starts l) (word marks l) (h z (omega arith)) (h l (omega arith)) (none_marked marks (word marks l) l (sym e ∙ none) z u))
+pub mark_alone : (ls marks : List ℕ) (l times : ℕ) → MarksTell ls marks l
+    → times ≡ tally (λ i. eqb (word marks i) (word marks l)) 0 l → times ≡ 0 → l ≡ multiset ls l
+mark_alone ls marks l times h e none =
+    lowest_itself ls l l refl (λ z u. h z u (none_marked marks (word marks l) l (sym e ∙ none) z u))

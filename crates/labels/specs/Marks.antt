@@ -1,10 +1,9 @@
 -- Marks of labels: labels of one multiset have one mark, so that only labels with equal marks need to be compared.
 -- Assumes nothing: these are definitions.
-use Rattle.std.specs.Prelude.{◌≡◌, List, ℕ, zero, suc, ◌+◌, ◌-◌, ◌*◌, ◌/◌, ◌%◌, ◌^◌, ◌<◌, length}
+use Rattle.std.specs.Prelude.{◌≡◌, false, List, ℕ, zero, suc, ◌+◌, ◌-◌, ◌*◌, ◌/◌, ◌%◌, ◌^◌, ◌≤◌, ◌<◌}
 use Rattle.rules.specs.Lists.{word}
-use Rattle.rules.specs.Labels.{label_count, action_at}
-use Rattle.tables.specs.Good.{GoodLabels}
-use Rattle.labels.specs.Stretches.{Stretch}
+use Rattle.rules.specs.Labels.{action_at, same_label}
+use Rattle.labels.specs.Stretches.{Starts, Stretch}
 
 -- an action's number, stirred: a number below 2^32
 unfoldable pub stirred : ℕ → ℕ
@@ -33,6 +32,10 @@ pub record MarkOf (ls : List ℕ) (l s m : ℕ) : Type 0 where
 abbrev pub Marked : (ls starts marks : List ℕ) (n : ℕ) → Type 0
 Marked ls starts marks n = (l : ℕ) → l < n → MarkOf ls l (word starts l) (word marks l)
 
--- label l is one of good labels, and has its entry, as those before it have
-abbrev pub MarkedUpTo : (ls starts marks : List ℕ) (l : ℕ) → Type 0
-MarkedUpTo ls starts marks l = GoodLabels ls × (l < label_count ls) × (l < length marks) × Marked ls starts marks (l + 1)
+-- it is known where each label up to l starts
+abbrev pub StartsKnown : (ls starts : List ℕ) (l : ℕ) → Type 0
+StartsKnown ls starts l = (z : ℕ) → z ≤ l → Starts ls z (word starts z)
+
+-- a label before l that has another mark is another multiset
+abbrev pub MarksTell : (ls marks : List ℕ) (l : ℕ) → Type 0
+MarksTell ls marks l = (z : ℕ) → z < l → ¬ (word marks z ≡ word marks l) → same_label ls z l ≡ false

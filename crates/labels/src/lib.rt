@@ -2,20 +2,37 @@
 // which labels of one multiset share: only where marks are equal the actions are counted.
 #![tactic(auto)]
 
-ghost use Rattle.std.specs.Prelude.{◌≡◌, ◌%◌, ◌^◌, ◌≤◌, ◌<◌, eqb, length};
+ghost use Rattle.std.specs.Prelude.{◌≡◌, ℕ, ◌%◌, ◌^◌, ◌≤◌, ◌<◌, eqb, length};
 ghost use Rattle.rules.specs.Lists.{word, tally};
 ghost use Rattle.rules.specs.Labels.{label_count, action_count, label_at, action_at, same_label, multiset};
 ghost use Rattle.tables.specs.Good.{GoodLabels};
 ghost use Rattle.labels.specs.Classes.{Classes};
 ghost use Rattle.labels.specs.Stretches.{times_in, covered_in, Within, Starts, Stretch, StretchOf};
-ghost use Rattle.labels.specs.Marks.{weight, weight_in, MarkOf, Marked, MarkedUpTo};
+ghost use Rattle.labels.specs.Marks.{weight, weight_in, Marked, StartsKnown, MarksTell};
 
 // How many labels there are at most.
-pub const LABELS: usize = 4096;
+const LABELS: usize = 4096;
 
 type LabelStarts = [u32; LABELS];
 
+// How often a word is among these. The loop never ends early and counts in 32 bits, the size of a word, so that the
+// compiler can compare several at once.
+// Kept (speed): `filter(..).count()` counts in 64 bits, so fewer words are compared at once.
+fn times_among(words: &[u32], one: u32) -> u32
+    requires { length words.now ≤ 16_384 }
+    ensures { result ≡ tally (λ i. eqb (word words.now i) one) 0 (length words.now) }
+{
+    let mut times: u32 = 0;
+    for other in words {
+        if *other == one {
+            times += 1;
+        }
+    }
+    times
+}
+
 // The places from `from` up to `to` in the list of the labels' actions.
+// Kept (no plainer): where places lie is said of the labels, which a `Places` does not hold.
 #[derive(Clone, Copy)]
 struct Places {
     from: usize,
@@ -60,19 +77,13 @@ impl<'a> Labels<'a> {
         self.words[2 + self.action_count() + place]
     }
 
-    // How often `action` occurs at the places. The loop never ends early and counts in 32 bits, the size of an action,
-    // so that the compiler can compare several actions at once.
+    // How often `action` occurs at the places.
     fn times_in(self, places: Places, action: u32) -> u32
         requires { Within self.words.now places }
         ensures { result ≡ times_in self.entry.words.now places.from places.to action }
     {
-        let mut times: u32 = 0;
-        for place in places.from..places.to {
-            if self.action_at(place) == action {
-                times += 1;
-            }
-        }
-        times
+        let first = 2 + self.action_count();
+        times_among(&self.words[first + places.from..first + places.to], action)
     }
 
     // Does each action at the places `own` occur there as often as at the places `other`?
@@ -80,15 +91,10 @@ impl<'a> Labels<'a> {
         requires { Within self.words.now own × Within self.words.now other }
         ensures { result ≡ covered_in self.entry.words.now own other }
     {
-        for place in own.from..own.to {
+        (own.from..own.to).all(|place| {
             let action = self.action_at(place);
-            let here = self.times_in(own, action);
-            let there = self.times_in(other, action);
-            if here != there {
-                return false;
-            }
-        }
-        true
+            self.times_in(own, action) == self.times_in(other, action)
+        })
     }
 
     // The place past the actions of a label, which begin at `from`.
@@ -97,19 +103,17 @@ impl<'a> Labels<'a> {
         ensures { Stretch self.entry.words.now label from result }
     {
         let count = self.action_count();
-        for place in from..count {
-            if self.label_at(place) != label {
-                return place;
-            }
-        }
-        count
+        (from..count)
+            .find(|place| self.label_at(*place) != label)
+            .unwrap_or(count)
     }
 
     // Are two labels, whose places are given, the same multiset? If both have equally many actions, it is enough to
     // count those of the first.
-    fn same_label(self, label: u32, own: Places, another: u32, other: Places) -> bool
-        requires { StretchOf self.words.now label own × StretchOf self.words.now another other }
-        ensures { result ≡ same_label self.entry.words.now label another }
+    fn same_label(self, own: Places, other: Places) -> bool
+        requires { Within self.words.now own × Within self.words.now other }
+        ensures { (l m : ℕ) → StretchOf self.entry.words.now l own → StretchOf self.entry.words.now m other
+            → result ≡ same_label self.entry.words.now l m }
     {
         own.to - own.from == other.to - other.from && self.covers(own, other)
     }
@@ -138,8 +142,8 @@ fn weight_of(action: u32) -> u64
 }
 
 // Writes where each label starts, and its mark.
-// Kept (rule): two arrays side by side. The marks stand in the lent table that becomes that of the multisets, so that a
-// run needs no memory for them.
+// Kept (rule): two arrays side by side. The marks stand in the table that becomes that of the multisets: memory is
+// fixed, and an array of both would be 16 KB more of the stack.
 fn mark_labels(labels: Labels<'_>, starts: &mut LabelStarts, marks: &mut [u32])
     requires { label_count labels.words.now ≤ length marks.old }
     ensures { Marked labels.entry.words.now starts.new marks.new (label_count labels.entry.words.now) }
@@ -154,79 +158,60 @@ fn mark_labels(labels: Labels<'_>, starts: &mut LabelStarts, marks: &mut [u32])
     }
 }
 
-// How often a mark is among the marks. The loop never ends early, as in `times_in`.
-fn times_marked(marks: &[u32], mark: u32) -> u32
-    requires { length marks.now ≤ 4_096 }
-    ensures { result ≡ tally (λ i. eqb (word marks.now i) mark) 0 (length marks.now) }
-{
-    let mut times: u32 = 0;
-    for other in marks {
-        if *other == mark {
-            times += 1;
-        }
-    }
-    times
-}
-
 // ---- classes
 
-// The labels, with where each starts and its mark.
+// The labels up to `label`, with where each starts and its mark.
 #[derive(Clone, Copy)]
 struct MarkedLabels<'a> {
     labels: Labels<'a>,
     starts: &'a LabelStarts,
     marks: &'a [u32],
+    label: u32,
+    ghost in_bounds: { (label < label_count labels.words.now) × (label < length marks.now) },
+    ghost starts_known: { StartsKnown labels.words.now starts.now label },
+    ghost marks_tell: { MarksTell labels.words.now marks.now label },
 }
 
 impl<'a> MarkedLabels<'a> {
-    // The places of a label.
-    fn places_of(self, label: u32) -> Places
-        requires { MarkedUpTo self.labels.words.now self.starts.now self.marks.now label }
-        ensures { StretchOf self.entry.labels.words.now label result
-            × (result.from ≡ word self.entry.starts.now label) }
+    // The places of the label or of a lower one.
+    fn places_of(self, lower: u32) -> Places
+        requires { lower ≤ self.label }
+        ensures { StretchOf self.entry.labels.words.now lower result }
     {
-        let from = self.starts[label as usize] as usize;
-        let to = self.labels.stretch_end(from, label);
+        let from = self.starts[lower as usize] as usize;
+        let to = self.labels.stretch_end(from, lower);
         Places { from, to }
     }
 
-    // Is a lower label the same multiset as `label`, whose places are given?
-    fn same_as(self, lower: u32, label: u32, places: Places) -> bool
-        requires lower_label { lower < label }
-        requires marked { MarkedUpTo self.labels.words.now self.starts.now self.marks.now label }
-        requires stretch { StretchOf self.labels.words.now label places }
-        ensures { result ≡ same_label self.entry.labels.words.now lower label }
+    // Is a lower label the same multiset as the label, whose places are given?
+    fn same_as(self, lower: u32, places: Places) -> bool
+        requires lower_label { lower < self.label }
+        requires stretch { StretchOf self.labels.words.now self.label places }
+        ensures { result ≡ same_label self.entry.labels.words.now lower self.entry.label }
     {
-        self.marks[lower as usize] == self.marks[label as usize]
-            && self
-                .labels
-                .same_label(lower, self.places_of(lower), label, places)
+        self.marks[lower as usize] == self.marks[self.label as usize]
+            && self.labels.same_label(self.places_of(lower), places)
     }
 
-    // The lowest label with the multiset of `label`.
-    fn lowest_same(self, label: u32) -> u32
-        requires { MarkedUpTo self.labels.words.now self.starts.now self.marks.now label }
-        ensures { result ≡ multiset self.entry.labels.words.now label }
+    // The lowest label with the label's multiset.
+    fn lowest_same(self) -> u32
+        ensures { result ≡ multiset self.entry.labels.words.now self.entry.label }
     {
-        let places = self.places_of(label);
-        for lower in 0..label {
-            if self.same_as(lower, label, places) {
-                return lower;
-            }
-        }
-        label
+        let places = self.places_of(self.label);
+        (0..self.label)
+            .find(|lower| self.same_as(*lower, places))
+            .unwrap_or(self.label)
     }
 
-    // The multiset of a label: the label itself if none before it has its mark.
-    fn class_of(self, label: u32) -> u32
-        requires { MarkedUpTo self.labels.words.now self.starts.now self.marks.now label }
-        ensures { result ≡ multiset self.entry.labels.words.now label }
+    // The label's multiset: the label itself if none before it has its mark.
+    fn class(self) -> u32
+        ensures { result ≡ multiset self.entry.labels.words.now self.entry.label }
     {
-        let at = label as usize;
-        if times_marked(&self.marks[..at], self.marks[at]) == 0 {
-            return label;
+        let at = self.label as usize;
+        if times_among(&self.marks[..at], self.marks[at]) == 0 {
+            return self.label;
         }
-        self.lowest_same(label)
+        self.lowest_same()
     }
 }
 
@@ -242,8 +227,9 @@ fn classes_of_marks(labels: Labels<'_>, starts: &LabelStarts, classes: &mut [u32
             labels,
             starts,
             marks: classes,
+            label,
         };
-        let class = marked.class_of(label);
+        let class = marked.class();
         classes[label as usize] = class;
     }
 }

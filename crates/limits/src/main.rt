@@ -8,13 +8,12 @@ use std::io;
 use stored_runs::Groups;
 
 // One label of one action, one state without transitions, the action formula `true`, the formula `true`.
-const LABELS: [u32; 4] = [1, 1, 0, 7];
-
-const SYSTEM: [u32; 4] = [1, 0, 0, 0];
-
-const ACTIONS: [u32; 3] = [1, 2, 0];
-
-const FORMULA: [u32; 3] = [1, 0, 0];
+const SMALLEST: Groups<'static> = Groups {
+    labels: &[1, 1, 0, 7],
+    system: &[1, 0, 0, 0],
+    actions: &[1, 2, 0],
+    formula: &[1, 0, 0],
+};
 
 // The run with this room, lent the slices of room for 6 vertices and 8 edges.
 fn run_in(rt: &impl Print, input: Groups<'_>, room: Room) -> io::Result<()> {
@@ -34,27 +33,12 @@ fn run_in(rt: &impl Print, input: Groups<'_>, room: Room) -> io::Result<()> {
     stored_runs::answer_line(rt, answer)
 }
 
-fn attempt(
-    rt: &impl Print,
-    labels: &[u32],
-    system: &[u32],
-    actions: &[u32],
-    formula: &[u32],
-) -> io::Result<()> {
-    let input = Groups {
-        labels,
-        system,
-        actions,
-        formula,
+fn attempt(rt: &impl Print, input: Groups<'_>) -> io::Result<()> {
+    let room = Room {
+        vertices: 6,
+        edges: 8,
     };
-    run_in(
-        rt,
-        input,
-        Room {
-            vertices: 6,
-            edges: 8,
-        },
-    )
+    run_in(rt, input, room)
 }
 
 // So many states without transitions.
@@ -63,7 +47,8 @@ fn states(rt: &impl Print, count: usize) -> io::Result<()>
 {
     let mut system = stored_runs::filled::<u32, 65539>(0);
     system[0] = count as u32;
-    attempt(rt, &LABELS, &system[..3 + count], &ACTIONS, &FORMULA)
+    let system = &system[..3 + count];
+    attempt(rt, Groups { system, ..SMALLEST })
 }
 
 // A formula of so many nodes: boxes around true.
@@ -73,7 +58,14 @@ fn nodes(rt: &impl Print, count: usize) -> io::Result<()>
     let mut formula = stored_runs::filled::<u32, 2051>(0);
     formula[..count].fill(4);
     formula[0] = count as u32;
-    attempt(rt, &LABELS, &SYSTEM, &ACTIONS, &formula[..1 + 2 * count])
+    let formula = &formula[..1 + 2 * count];
+    attempt(
+        rt,
+        Groups {
+            formula,
+            ..SMALLEST
+        },
+    )
 }
 
 // A row of so many action formulas `true`.
@@ -82,7 +74,28 @@ fn row(rt: &impl Print, count: usize) -> io::Result<()>
 {
     let mut actions = stored_runs::filled::<u32, 2051>(0);
     actions[0] = count as u32;
-    attempt(rt, &LABELS, &SYSTEM, &actions[..1 + 2 * count], &FORMULA)
+    let actions = &actions[..1 + 2 * count];
+    attempt(
+        rt,
+        Groups {
+            actions,
+            ..SMALLEST
+        },
+    )
+}
+
+// So many labels without actions; the action formula is the multi-action of label 4,095.
+fn labels(rt: &impl Print, count: u32) -> io::Result<()> {
+    let labels = &[count, 0];
+    let actions = &[1, 2, 4095];
+    attempt(
+        rt,
+        Groups {
+            labels,
+            actions,
+            ..SMALLEST
+        },
+    )
 }
 
 // One label of so many actions 0.
@@ -92,7 +105,8 @@ fn actions(rt: &impl Print, count: usize) -> io::Result<()>
     let mut labels = stored_runs::filled::<u32, 32772>(0);
     labels[0] = 1;
     labels[1] = count as u32;
-    attempt(rt, &labels[..2 + 2 * count], &SYSTEM, &ACTIONS, &FORMULA)
+    let labels = &labels[..2 + 2 * count];
+    attempt(rt, Groups { labels, ..SMALLEST })
 }
 
 // One state with so many loops on label 0; the formula is a diamond.
@@ -103,24 +117,21 @@ fn transitions(rt: &impl Print, count: usize) -> io::Result<()>
     system[0] = 1;
     system[1] = count as u32;
     system[3] = count as u32;
+    let system = &system[..4 + 2 * count];
+    let formula = &[2, 5, 0, 0, 0];
     attempt(
         rt,
-        &LABELS,
-        &system[..4 + 2 * count],
-        &ACTIONS,
-        &[2, 5, 0, 0, 0],
+        Groups {
+            system,
+            formula,
+            ..SMALLEST
+        },
     )
 }
 
 // Room in range is refused here for the slices' lengths, by 2; room out of range by 1.
 fn room(rt: &impl Print, vertices: u32, edges: u32) -> io::Result<()> {
-    let input = Groups {
-        labels: &LABELS,
-        system: &SYSTEM,
-        actions: &ACTIONS,
-        formula: &FORMULA,
-    };
-    run_in(rt, input, Room { vertices, edges })
+    run_in(rt, SMALLEST, Room { vertices, edges })
 }
 
 // 51: so many vertices and edges of a game that is handed over. (The game itself would have 12 MB or more, which
@@ -143,8 +154,9 @@ fn main(rt: HostRuntime) -> io::Result<()> {
     for count in [1024, 0, 1025] {
         row(&rt, count)?;
     }
-    attempt(&rt, &[4096, 0], &SYSTEM, &[1, 2, 4095], &FORMULA)?;
-    attempt(&rt, &[4097, 0], &SYSTEM, &[1, 2, 4095], &FORMULA)?;
+    for count in [4096, 4097] {
+        labels(&rt, count)?;
+    }
     for count in [16384, 16385] {
         actions(&rt, count)?;
     }

@@ -1,108 +1,108 @@
--- The table of matching labels: a byte tells an answer, a row is filled from the front, and a row more leaves the
--- others as they were. Assumes nothing.
-use mathlib.Core.Path.{◌≡◌, refl, sym, ap, ◌∙◌}
-use mathlib.Core.Bool.{Bool, true, false}
-use mathlib.Core.List.{List}
-use Prim.Native.Nat.{ℕ, ◌+◌, ◌-◌, ◌*◌, ◌≤◌, ◌<◌}
-use native.Mathlib.Nat.{mul-le-mul_right}
+-- The table of matching labels: a row more leaves the others as they were. Assumes nothing.
+use Rattle.std.proofs.Common.{◌≡◌, ◌++◌, Bool, false, Option, None, Some, ℕ, ◌+◌, ◌-◌, ◌*◌, ◌≤◌, ◌<◌, List, length, get_or, take, drop, set, sym, ap, ◌∙◌, arith}
+use mathlib.Core.Path.{subst}
+use native.Mathlib.Nat.{mul-le-mul_right, suc-mul}
 use native.Mathlib.Decide.{ℕ_discrete}
-use native.Mathlib.Omega.{arith}
-use lib.ListN.{length, set}
-use lib.Seq.{get_or-set_same, get_or-set_other}
-use Rattle.rules.specs.Lists.{word, one}
-use Rattle.rules.specs.Labels.{label_count, multiset}
+use lib.ListN.{get_or-append}
+use lib.Seq.{length-take-le, get_or-take, get_or-set_same, get_or-set_other}
+use borrow.Rule.Slice.PartMut.{put_mid}
+use Rattle.std.proofs.lemmas.List.{get_or-append_right}
+use Rattle.std.proofs.lemmas.Option.{none-some}
+use Rattle.rules.specs.Labels.{label_count}
 use Rattle.rules.specs.Table.{size}
-use Rattle.rules.specs.Actions.{Action, action_tree, matches}
-use Rattle.labels.specs.Classes.{Classes}
-use Rattle.words.proofs.Regions.{rise}
-use Rattle.match_table.specs.declared.MatchBytes.{MatchBytes}
-use Rattle.match_table.specs.Rows.{row_start, RowAt, NoRows, FirstRows, SameBefore}
+use Rattle.match_table.specs.declared.MatchRows.{MatchRows}
+use Rattle.match_table.specs.Rows.{row_start, RowAt, Row, NoRows, FirstRows}
 
--- ---- a byte and the answer that it tells
+-- ---- numbers that some have
 
-pub told_true : (r : Bool) (byte : ℕ) → r ≡ true → byte ≡ 1 → byte ≡ one r
-told_true r byte y e = e ∙ ap one (sym y)
+number_in : Option ℕ → ℕ
+number_in None = 0
+number_in (Some r) = r
 
-pub told_false : (r : Bool) (byte : ℕ) → r ≡ false → byte ≡ 0 → byte ≡ one r
-told_false r byte y e = e ∙ ap one (sym y)
-
--- the multiset that the table of the labels' multisets has for a label
-pub class_matches : (ls classes : List ℕ) → Classes ls classes → (l m : ℕ) → l < label_count ls → m ≡ word classes l → (a : Action) (r : Bool) → r ≡ matches m a → r ≡ matches (multiset ls l) a
-class_matches ls classes table l m h e a r q = q ∙ ap (λ (n : ℕ). matches n a) (e ∙ table.entry l h)
-
--- ---- a row
-
--- the answers for the first l labels stand, and nothing before the row has changed
-pub record Filling (ls acts matched₀ matched : List ℕ) (a start l : ℕ) : Type 0 where
-  pub until : l ≤ label_count ls
-  pub answer : (i : ℕ) → i < l → word matched (start + i) ≡ one (matches (multiset ls i) (action_tree ls acts a))
-  pub before : SameBefore matched₀ matched start
-
-module _ (ls acts matched₀ : List ℕ) (a start : ℕ) where
-  pub filling_start : Filling ls acts matched₀ matched₀ a start 0
-  filling_start = record { until = omega arith; answer = λ i h. absurd (omega arith); before = record { sized = refl; same = λ i h. refl } }
-
--- ---- the rows
-
--- the rows before the next one are not many bytes, whether they are within the table or not
-pub rows_small : (rows n : ℕ) → rows ≤ 255 → n ≤ 4_096 → rows * n ≤ 1_044_480
-rows_small rows n h k = omega (arith, mul-le-mul_right n h)
-
--- a row whose bytes stayed
-row_kept : (ls acts before after : List ℕ) (a start : ℕ) → RowAt ls acts before a start → ((i : ℕ) → start ≤ i → i < start + label_count ls → word after i ≡ word before i) → RowAt ls acts after a start
-row_kept ls acts before after a start r same = record { within = r.within; answer = λ l h. same (start + l) (omega arith) (omega arith) ∙ r.answer l h }
+one_number : (q r : ℕ) → Some q ≡ Some r → q ≡ r
+unfolding number_in
+one_number q r e = ap number_in e
 
 -- before the first row is given
-pub rows_none : (ls acts : List ℕ) (m : MatchBytes) → NoRows m → size acts ≤ 1_024 → FirstRows ls acts m 0
+pub rows_none : (ls acts : List ℕ) (m : MatchRows) → NoRows m → size acts ≤ 1_024 → FirstRows ls acts m
 rows_none ls acts m none few =
     record {
-      table = record { row = λ a h p. absurd (omega (arith, none a (omega arith))) };
-      few = omega arith;
-      given = λ a h. omega (arith, none a (omega arith));
+      table = record { row = λ a r h p. absurd (never a r h p) };
+      given = λ a r h p. absurd (never a r h p);
     }
+  where
+    never : (a r : ℕ) → a < size acts → get_or m.numbers a None ≡ Some r → ⊥
+    never a r h p = none-some r (sym (none a (omega arith)) ∙ p)
 
--- a node gets the next row, after it was filled
-module _ (ls acts : List ℕ) (before : MatchBytes) (filled : List ℕ) (rows node : ℕ) (f : FirstRows ls acts before rows) (few : size acts ≤ 1_024) (h : node < size acts)
-    (sized : length before.numbers ≡ 1_024) (new : RowAt ls acts filled node (rows * label_count ls)) (same : SameBefore before.rows filled (rows * label_count ls)) where
-  own_byte : word (set before.numbers node (rows + 1)) node ≡ rows + 1
-  own_byte = get_or-set_same {A = ℕ} before.numbers node (rows + 1) 0 (omega arith)
+-- ---- a part of the rows, lent and come back
 
-  other_byte : (a : ℕ) → (¬ (a ≡ node)) → word (set before.numbers node (rows + 1)) a ≡ word before.numbers a
-  other_byte a z = get_or-set_other {A = ℕ} before.numbers node a (rows + 1) 0 z
+module _ (rows row : List Bool) (start n k : ℕ) (room : start + n ≤ length rows) (sized : length row ≡ n) where
+  front : length (take start rows) ≡ start
+  front = length-take-le start rows (omega arith)
+
+  pub lent_before : (i : ℕ) → i < start → get_or (put_mid start k rows row) i false ≡ get_or rows i false
+  lent_before i h =
+      get_or-append (take start rows) (row ++ drop k (drop start rows)) false i (omega (arith, front))
+      ∙ get_or-take start rows i false h
+
+  pub lent_inside : (l : ℕ) → l < n → get_or (put_mid start k rows row) (start + l) false ≡ get_or row l false
+  lent_inside l h =
+      let e : start + l - start ≡ l = omega arith in
+      get_or-append_right (take start rows) (row ++ drop k (drop start rows)) start (start + l) false front (omega arith)
+      ∙ ap (λ i. get_or (row ++ drop k (drop start rows)) i false) e
+      ∙ get_or-append row (drop k (drop start rows)) false l (omega (arith, sized))
+
+-- ---- a node gets the next row
+
+before_next : (r s n : ℕ) → r < s → r * n + n ≤ s * n
+before_next r s n h = subst (λ (x : ℕ). x ≤ s * n) (suc-mul r n) (mul-le-mul_right n h)
+
+module _ (ls acts : List ℕ) (before : MatchRows) (filled : List Bool) (node : ℕ) (f : FirstRows ls acts before) (h : node < size acts)
+    (sized : node < length before.numbers) (new : RowAt ls acts filled node (row_start ls before.given))
+    (same : (i : ℕ) → i < row_start ls before.given → get_or filled i false ≡ get_or before.rows i false) where
+  own_number : get_or (set before.numbers node (Some before.given)) node None ≡ Some before.given
+  own_number = get_or-set_same before.numbers node (Some before.given) None sized
+
+  other_number : (a : ℕ) → (¬ (a ≡ node)) → get_or (set before.numbers node (Some before.given)) a None ≡ get_or before.numbers a None
+  other_number a z = get_or-set_other before.numbers node a (Some before.given) None z
 
   -- the rows given before end where the new one begins
-  old_row : (a r : ℕ) → 0 < r → r ≤ rows → RowAt ls acts before.rows a (row_start ls r) → RowAt ls acts filled a (row_start ls r)
-  old_row a r p q old =
-      row_kept ls acts before.rows filled a (row_start ls r) old
-      (λ i u z. same.same i (omega (arith, rise (r - 1) rows (label_count ls) (omega arith))))
-
-  new_row : RowAt ls acts filled node (row_start ls (rows + 1))
-  new_row = let e : rows + 1 - 1 ≡ rows = omega arith in rw e new
-
-  abbrev after : MatchBytes
-  after = record { numbers = set before.numbers node (rows + 1); rows = filled }
-
-  pub rows_more : rows < 255 → FirstRows ls acts after (rows + 1)
-  rows_more few-rows =
+  old_row : (a r : ℕ) → r < before.given → RowAt ls acts before.rows a (row_start ls r) → RowAt ls acts filled a (row_start ls r)
+  old_row a r p old =
       record {
-        table = record { row = λ a u p. row_of a u p (ℕ_discrete a node) };
-        few = omega arith;
-        given = λ a u. given_of a u (ℕ_discrete a node);
+        within = old.within;
+        answer = λ l q. same (row_start ls r + l) (omega (arith, before_next r before.given (label_count ls) p)) ∙ old.answer l q;
+      }
+
+  pub rows_more : FirstRows ls acts (record { numbers = set before.numbers node (Some before.given); given = before.given + 1; rows = filled })
+  rows_more =
+      record {
+        table = record { row = λ a r u p. row_of a r u p (ℕ_discrete a node) };
+        given = λ a r u p. given_of a r u p (ℕ_discrete a node);
       }
     where
-      given_of : (a : ℕ) → a < size acts → Dec (a ≡ node) → word (set before.numbers node (rows + 1)) a ≤ rows + 1
-      given_of a u (yes z) = rw z (omega (arith, own_byte))
-      given_of a u (no z) = omega (arith, other_byte a z, f.given a u)
+      given_of : (a r : ℕ) → a < size acts → get_or (set before.numbers node (Some before.given)) a None ≡ Some r → Dec (a ≡ node) → r < before.given + 1
+      given_of a r u p (yes z) = omega (arith, one_number before.given r (sym own_number ∙ rw z at p))
+      given_of a r u p (no z) = omega (arith, f.given a r u (sym (other_number a z) ∙ p))
 
-      row_of : (a : ℕ) → a < size acts → 0 < word (set before.numbers node (rows + 1)) a → Dec (a ≡ node) → RowAt ls acts filled a (row_start ls (word (set before.numbers node (rows + 1)) a))
-      row_of a u p (yes z) = rw (z, own_byte) new_row
-      row_of a u p (no z) =
-          let e = other_byte a z in
-          rw e (old_row a (word before.numbers a) (omega arith) (f.given a u) (f.table.row a u (omega arith)))
+      row_of : (a r : ℕ) → a < size acts → get_or (set before.numbers node (Some before.given)) a None ≡ Some r → Dec (a ≡ node) → RowAt ls acts filled a (row_start ls r)
+      row_of a r u p (yes z) = rw (z, sym (one_number before.given r (sym own_number ∙ rw z at p))) new
+      row_of a r u p (no z) =
+          let q = sym (other_number a z) ∙ p in
+          old_row a r (f.given a r u q) (f.table.row a r u q)
 
--- the same, where the label count n was read
-pub rows_given : (ls acts : List ℕ) (before : MatchBytes) (filled : List ℕ) (rows node n : ℕ) → n ≡ label_count ls → FirstRows ls acts before rows → size acts ≤ 1_024 → node < size acts
-    → length before.numbers ≡ 1_024 → RowAt ls acts filled node (rows * n) → SameBefore before.rows filled (rows * n) → rows < 255
-    → FirstRows ls acts (record { numbers = set before.numbers node (rows + 1); rows = filled }) (rows + 1)
-rows_given ls acts before filled rows node n e f few h sized new same =
-    rows_more ls acts before filled rows node f few h sized (rw e at new) (rw e at same)
+-- the same, where the row was filled in a part of the rows that was lent
+pub row_given : (ls acts : List ℕ) (before : MatchRows) (row : List Bool) (node start n k : ℕ)
+    → FirstRows ls acts before → node < size acts → node < length before.numbers → start ≡ before.given * n → n ≡ label_count ls
+    → start + n ≤ 16_384 → length before.rows ≡ 16_384 → Row ls acts node row
+    → FirstRows ls acts (record { numbers = set before.numbers node (Some before.given); given = before.given + 1; rows = put_mid start k before.rows row })
+row_given ls acts before row node start n k f h sized s e room long new =
+    let begins : start ≡ row_start ls before.given = s ∙ ap (λ m. before.given * m) e in
+    let filled : RowAt ls acts (put_mid start k before.rows row) node start =
+    record {
+      within = omega (arith, e);
+      answer = λ l q. lent_inside before.rows row start (label_count ls) k (omega (arith, e)) new.sized l q ∙ new.answer l q;
+    } in
+    rows_more ls acts before (put_mid start k before.rows row) node f h sized
+    (subst (RowAt ls acts (put_mid start k before.rows row) node) begins filled)
+    (λ i q. lent_before before.rows row start n k (omega arith) (new.sized ∙ sym e) i (omega (arith, begins)))

@@ -2,7 +2,7 @@
 use mathlib.Core.Path.{◌≡◌, refl, sym, ap, ◌∙◌}
 use mathlib.Core.Bool.{Bool, true, false, cond, not}
 use mathlib.Core.List.{List, [], ◌∷◌, ◌++◌, map}
-use Prim.Native.Nat.{ℕ, zero, suc, ◌+◌, ◌-◌, ◌≤◌, ◌<◌}
+use Prim.Native.Nat.{ℕ, zero, suc, ◌+◌, ◌-◌, ◌/◌, ◌≤◌, ◌<◌, min}
 use native.Mathlib.Decide.{dec_lt, ℕ_discrete}
 use native.Mathlib.Omega.{arith}
 use native.Mathlib.Numerals.{add-one}
@@ -23,9 +23,10 @@ use Rattle.node_kinds.specs.declared.FormulaKind.{FormulaKind}
 use Rattle.node_kinds.specs.declared.FormulaKind.TheVariants.{True, False, And, Or, Box, Diamond, Least, Greatest, Reference}
 use Rattle.trees.proofs.Fixpoints.{fixpoint_kind, fixpoint_at, no_fixpoint_below, no_fixpoint_above}
 use Rattle.trees.proofs.Equations.{number_start, number_start_placeholder, number_more, number_same, equations_least, equations_greatest, equations_below, equations_above, number_monotone, count_number, count_limit}
+use Rattle.modal_equation_system.specs.declared.EquationEntry.{EquationEntry}
 use Rattle.modal_equation_system.specs.declared.EquationTable.{EquationTable}
-use Rattle.modal_equation_system.specs.System.{named, Good, link_in, kind_in, body_in, least_in, Link, Linked, Listed}
-use Rattle.modal_equation_system.specs.Listing.{names_fixpoint, missing, Shows, Listing, Linkable, LinkBy}
+use Rattle.modal_equation_system.specs.System.{named, Good, placeholder_entry, link_in, kind_in, body_in, least_in, Link, Linked, Listed}
+use Rattle.modal_equation_system.specs.Listing.{missing, Shows, Listing, Linkable, LinkBy}
 
 -- ---- how many equations come before a node
 
@@ -93,7 +94,7 @@ shows_first field f shown e = go (is_fixpoint (formula_node f 0))
 
 -- a node of a kind that names a fixpoint is one
 pub fixpoint_named : (f : List ℕ) (v : ℕ) → v < size f → (k : FormulaKind) → formula_code k ≡ kind f v
-    → names_fixpoint k ≡ is_fixpoint (formula_node f v)
+    → eqb (formula_code k / 2) 3 ≡ is_fixpoint (formula_node f v)
 fixpoint_named f v h True e = sym (no_fixpoint_below f v h (omega arith))
 fixpoint_named f v h False e = sym (no_fixpoint_below f v h (omega arith))
 fixpoint_named f v h And e = sym (no_fixpoint_below f v h (omega arith))
@@ -152,6 +153,13 @@ at_set ws i x h = get_or-set_same {A = ℕ} ws i x 0 h
 past_set : (ws : List ℕ) (i x u : ℕ) → (u ≡ i → ⊥) → word (set ws i x) u ≡ word ws u
 past_set ws i x u d = get_or-set_other {A = ℕ} ws i u x 0 d
 
+-- a field of entries of which one is written
+field_set : {A : Type 0} (field : A → ℕ) (es : List A) (i : ℕ) (e : A) → i < length es → word (map field (set es i e)) i ≡ field e
+field_set field es i e h = rw (map-set field es i e) (at_set (map field es) i (field e) (omega (arith, length-map es field)))
+
+field_kept : {A : Type 0} (field : A → ℕ) (es : List A) (i : ℕ) (e : A) (u : ℕ) → (u ≡ i → ⊥) → word (map field (set es i e)) u ≡ word (map field es) u
+field_kept field es i e u d = rw (map-set field es i e) (past_set (map field es) i (field e) u d)
+
 -- ---- the listing: it begins, goes on by a node, and ends
 
 not_byte : (b : Bool) → bool_byte (not b) ≡ 1 - one b
@@ -159,17 +167,18 @@ not_byte true = refl
 not_byte false = refl
 
 pub listing_first : (f : List ℕ) (i : ℕ) (t : EquationTable) (b : Bool) → i ≡ bool_byte (not b) → b ≡ is_fixpoint (formula_node f 0)
-    → length t.bodies ≡ 1_025 → length t.least ≡ 1_025
-    → Listing f 0 i (record { links = t.links; kinds = t.kinds; bodies = set t.bodies 0 0; least = set t.least 0 true })
+    → length t.equations ≡ 1_025
+    → Listing f 0 i (record { links = t.links; kinds = t.kinds; equations = set t.equations 0 placeholder_entry })
 unfolding least_bit
-listing_first f i t first e g bodies_long least_long =
+listing_first f i t first e g long =
     record {
       count = e ∙ not_byte first ∙ ap (λ (a : Bool). 1 - one a) g ∙ sym (number_first f);
       link = λ u h. absurd (omega arith);
       kinds = λ u h. absurd (omega arith);
-      body = shows_first (λ e. e.body) f (λ j. word (set t.bodies 0 0) j) (at_set t.bodies 0 0 (omega arith));
-      operator = shows_first (λ e. least_bit e.operator) f (λ j. word (map one (set t.least 0 true)) j)
-          (rw (map-set one t.least 0 true) (at_set (map one t.least) 0 1 (omega (arith, length-map t.least one))));
+      body = shows_first (λ e. e.body) f (λ j. word (map (λ e. e.body) (set t.equations 0 placeholder_entry)) j)
+          (field_set (λ e. e.body) t.equations 0 placeholder_entry (omega arith));
+      operator = shows_first (λ e. least_bit e.operator) f (λ j. word (map (λ e. one e.is_least) (set t.equations 0 placeholder_entry)) j)
+          (field_set (λ e. one e.is_least) t.equations 0 placeholder_entry (omega arith));
     }
 
 -- ---- a node is listed
@@ -189,14 +198,28 @@ least_bit_of Least b e = ap one e
 least_bit_of Greatest b e = ap one e
 least_bit_of Reference b e = ap one e
 
+-- the kind that a word is read as is that of the node
+pub kind_read : (f : List ℕ) → Good f → (v : ℕ) → v < size f → (w k : ℕ) → w ≡ kind f v → k ≡ min w 8 → k ≡ kind f v
+kind_read f good v h w k e g = omega (arith, (good.formula.nodes v h).known)
+
+pub fixpoint_read : (f : List ℕ) → Good f → (v : ℕ) → v < size f → (k : FormulaKind) → formula_code k ≡ min (kind f v) 8
+    → eqb (formula_code k / 2) 3 ≡ is_fixpoint (formula_node f v)
+fixpoint_read f good v h k e = fixpoint_named f v h k (kind_read f good v h (kind f v) (formula_code k) refl e)
+
 -- the words of node v and of equation i are written
 module _ (f : List ℕ) (good : Good f) (v : ℕ) (h : v < size f) (i : ℕ) (t : EquationTable) (s : Listing f v i t)
     (k : FormulaKind) (e : formula_code k ≡ kind f v) (link : ℕ) (bit : Bool)
     (links_long : length t.links ≡ 1_024) (kinds_long : length t.kinds ≡ 1_024)
-    (bodies_long : length t.bodies ≡ 1_025) (least_long : length t.least ≡ 1_025)
+    (equations_long : length t.equations ≡ 1_025)
   where
+    abbrev entry : EquationEntry
+    entry = record { body = suc v; is_least = bit }
+
     abbrev listed : EquationTable
-    listed = record { links = set t.links v link; kinds = set t.kinds v k; bodies = set t.bodies i (suc v); least = set t.least i bit }
+    listed = record { links = set t.links v link; kinds = set t.kinds v k; equations = set t.equations i entry }
+
+    few : i < length t.equations
+    few = omega (arith, number_few f good v h i t s)
 
     links_next : Link f v link → Linked f (suc v) listed
     links_next l u b = go (ℕ_discrete u v)
@@ -206,30 +229,26 @@ module _ (f : List ℕ) (good : Good f) (v : ℕ) (h : v < size f) (i : ℕ) (t 
         go (no d) = rw (past_set t.links v link u d) (s.link u (omega arith))
 
     kinds_next : (u : ℕ) → u < suc v → kind_in listed u ≡ kind f u
-    kinds_next u b = rw (map-set formula_code t.kinds v k) (go (ℕ_discrete u v))
+    kinds_next u b = go (ℕ_discrete u v)
       where
-        go : Dec (u ≡ v) → word (set (map formula_code t.kinds) v (formula_code k)) u ≡ kind f u
-        go (yes q) = rw q (at_set (map formula_code t.kinds) v (formula_code k) (omega (arith, good.formula.few, length-map t.kinds formula_code)) ∙ e)
-        go (no d) = past_set (map formula_code t.kinds) v (formula_code k) u d ∙ s.kinds u (omega arith)
+        go : Dec (u ≡ v) → kind_in listed u ≡ kind f u
+        go (yes q) = rw q (field_set formula_code t.kinds v k (omega (arith, good.formula.few)) ∙ e)
+        go (no d) = field_kept formula_code t.kinds v k u d ∙ s.kinds u (omega arith)
 
     bodies_kept : Stays (equation_number f v) (body_in t) (body_in listed)
-    bodies_kept j b = past_set t.bodies i (suc v) j (λ (q : j ≡ i). omega (arith, s.count))
+    bodies_kept j b = field_kept (λ e. e.body) t.equations i entry j (λ (q : j ≡ i). omega (arith, s.count))
 
     body_written : body_in listed (equation_number f v) ≡ suc v
-    body_written =
-        let few : i < length t.bodies = omega (arith, number_few f good v h i t s) in
-        ap (body_in listed) (sym s.count) ∙ at_set t.bodies i (suc v) few
+    body_written = ap (body_in listed) (sym s.count) ∙ field_set (λ e. e.body) t.equations i entry few
 
     operators_kept : Stays (equation_number f v) (least_in t) (least_in listed)
-    operators_kept j b = rw (map-set one t.least i bit) (past_set (map one t.least) i (one bit) j (λ (q : j ≡ i). omega (arith, s.count)))
+    operators_kept j b = field_kept (λ e. one e.is_least) t.equations i entry j (λ (q : j ≡ i). omega (arith, s.count))
 
     operator_written : least_in listed (equation_number f v) ≡ one bit
-    operator_written =
-        let few : i < length (map one t.least) = omega (arith, number_few f good v h i t s, length-map t.least one) in
-        ap (least_in listed) (sym s.count) ∙ rw (map-set one t.least i bit) (at_set (map one t.least) i (one bit) few)
+    operator_written = ap (least_in listed) (sym s.count) ∙ field_set (λ e. one e.is_least) t.equations i entry few
 
     listing_suc : (o more : ℕ) → o ≡ operand f v → LinkBy t (formula_code k) o i link → bit ≡ sameb the_type k Least
-        → more ≡ one (names_fixpoint k)
+        → more ≡ one (eqb (formula_code k / 2) 3)
         → Listing f (suc v) (i + more) listed
     unfolding least_bit
     listing_suc o more g l b m =
@@ -246,9 +265,9 @@ module _ (f : List ℕ) (good : Good f) (v : ℕ) (h : v < size f) (i : ℕ) (t 
         }
 
     pub listing_next : (o more : ℕ) → o ≡ operand f v → LinkBy t (formula_code k) o i link → bit ≡ sameb the_type k Least
-        → more ≡ one (names_fixpoint k)
+        → more ≡ one (eqb (formula_code k / 2) 3)
         → Listing f (v + 1) (i + more)
-        (record { links = set t.links v link; kinds = set t.kinds v k; bodies = set t.bodies i (v + 1); least = set t.least i bit })
+        (record { links = set t.links v link; kinds = set t.kinds v k; equations = set t.equations i (record { body = v + 1; is_least = bit }) })
     listing_next o more g l b m = rw add-one (listing_suc o more g l b m)
 
 pub listing_last : (f : List ℕ) (i : ℕ) (table : EquationTable) → Good f → Listing f (size f) i table

@@ -20,7 +20,7 @@ use Rattle.trees.proofs.References.{leaf_largest, one-largest, two_largest}
 use Rattle.trees.proofs.Readings.{contribution_target, contribution_later, contribution_other, reading_equation}
 use Rattle.node_kinds.specs.Codes.{formula_code}
 use Rattle.node_kinds.specs.declared.FormulaKind.{FormulaKind}
-use Rattle.node_kinds.specs.declared.FormulaKind.TheVariants.{True, False, And, Or, Box, Diamond, Least, Greatest, Reference}
+use Rattle.node_kinds.specs.declared.FormulaKind.TheVariants.{Least, Greatest, Reference}
 use Rattle.modal_equation_system.specs.declared.EquationTable.{EquationTable}
 use Rattle.modal_equation_system.specs.declared.Equations.{Equations}
 use Rattle.modal_equation_system.specs.System.{formula_only, named, link_in, kind_in, body_in, least_in, Listed, counted, body_reading}
@@ -50,20 +50,7 @@ pub byte_few : (b : Bool) → bool_byte b ≤ 1
 byte_few true = omega arith
 byte_few false = omega arith
 
--- ---- the kinds that an arm of the code names, by their codes
-
-pub leaf_code : (k : FormulaKind) → (k ≡ True) ⊎ (k ≡ False) → formula_code k ≤ 1
-leaf_code k (inl e) = rw e (omega arith)
-leaf_code k (inr e) = rw e (omega arith)
-
-pub two_code : (k : FormulaKind) → (k ≡ And) ⊎ (k ≡ Or) → (2 ≤ formula_code k) × (formula_code k ≤ 3)
-two_code k (inl e) = rw e (omega arith, omega arith)
-two_code k (inr e) = rw e (omega arith, omega arith)
-
-pub modal_code : (k : FormulaKind) → (k ≡ Box) ⊎ (k ≡ Diamond) → (4 ≤ formula_code k) × (formula_code k ≤ 5)
-modal_code k (inl e) = rw e (omega arith, omega arith)
-modal_code k (inr e) = rw e (omega arith, omega arith)
-
+-- the kinds that an arm of the code names, by their codes
 pub reference_code : (k : FormulaKind) → (k ≡ Least) ⊎ ((k ≡ Greatest) ⊎ (k ≡ Reference)) → 6 ≤ formula_code k
 reference_code k (inl e) = rw e (omega arith)
 reference_code k (inr (inl e)) = rw e (omega arith)
@@ -87,89 +74,88 @@ module _ (it : Equations) where
   table = it.table.now
 
   s : Listed f table
-  s = it.listed.0
+  s = it.listed
 
   -- ---- a body, by the kind that the table has for its node
 
-  module _ (v : ℕ) (h : v < size f) (k : ℕ) (e : k ≡ kind_in table v) where
-    kind-is : k ≡ kind f v
-    kind-is = e ∙ s.kinds v h
+  module _ (t i v : ℕ) (h : v < size it.formula.now) where
+    kind-is : kind_in table v ≡ kind f v
+    kind-is = s.kinds v h
 
-    pub next_inside : 2 ≤ k → k ≤ 5 → v + 1 < size f
-    next_inside p q = omega (arith, kind-is, (s.good.formula.nodes v h).next (omega (arith, kind-is)) (omega (arith, kind-is)))
-
-    pub body_leaf : (t i : ℕ) → k ≤ 1 → 0 ≡ body_reading f t i v
+    pub at_leaf : kind_in it.table.now v ≤ 1 → body_reading it.formula.now t i v ≡ 0
     unfolding body_reading
-    body_leaf t i p = sym (leaf_largest (named f) (formula_only f) s.good.formula (counted f t i) v h (omega (arith, kind-is)))
+    at_leaf p = leaf_largest (named f) (formula_only f) s.good.formula (counted f t i) v h (omega (arith, kind-is))
 
-    pub body_one : (t i : ℕ) → 4 ≤ k → k ≤ 5 → body_reading f t i (v + 1) ≡ body_reading f t i v
+    pub at_modal : 4 ≤ kind_in it.table.now v → kind_in it.table.now v ≤ 5 → body_reading it.formula.now t i v ≡ body_reading it.formula.now t i (v + 1)
     unfolding body_reading
-    body_one t i p q = rw add-one (sym (one-largest (named f) (formula_only f) s.good.formula (counted f t i) v h (omega (arith, kind-is)) (omega (arith, kind-is))))
+    at_modal p q = rw add-one (one-largest (named f) (formula_only f) s.good.formula (counted f t i) v h (omega (arith, kind-is)) (omega (arith, kind-is)))
 
     -- the link of an and or an or is its right operand
-    module _ (o : ℕ) (g : o ≡ link_in table v) (p : 2 ≤ k) (q : k ≤ 3) where
-      operand_is : o ≡ operand f v
-      operand_is = g ∙ (s.link v h).right (omega (arith, kind-is)) (omega (arith, kind-is))
-
-      pub right_inside : (v < o) × (o < size f)
-      right_inside = let (a, b) = (s.good.formula.nodes v h).right (omega (arith, kind-is)) (omega (arith, kind-is)) in (omega (arith, operand_is), omega (arith, operand_is))
-
-      pub body_two : (t i : ℕ) → max (body_reading f t i (v + 1)) (body_reading f t i o) ≡ body_reading f t i v
-      unfolding body_reading
-      body_two t i = rw (operand_is, add-one) (sym (two_largest (named f) (formula_only f) s.good.formula (counted f t i) v h (omega (arith, kind-is)) (omega (arith, kind-is))))
+    pub at_two : 2 ≤ kind_in it.table.now v → kind_in it.table.now v ≤ 3
+        → body_reading it.formula.now t i v ≡ max (body_reading it.formula.now t i (v + 1)) (body_reading it.formula.now t i (link_in it.table.now v))
+    unfolding body_reading
+    at_two p q =
+        let o : link_in table v ≡ operand f v = (s.link v h).right (omega (arith, kind-is)) (omega (arith, kind-is)) in
+        rw (o, add-one) (two_largest (named f) (formula_only f) s.good.formula (counted f t i) v h (omega (arith, kind-is)) (omega (arith, kind-is)))
 
     -- the link of a fixpoint or a reference is its equation, the only reference at its node
-    module _ (j : ℕ) (g : j ≡ link_in table v) (p : 6 ≤ k) where
-      link_reference : references (formula_tree (formula_only f) v) ≡ j ∷ []
+    module _ (p : 6 ≤ kind_in it.table.now v) where
+      link_reference : references (formula_tree (formula_only f) v) ≡ link_in table v ∷ []
       unfolding references
       link_reference = go (dec_lt (kind f v) 8)
         where
-          go : Dec (kind f v < 8) → references (formula_tree (formula_only f) v) ≡ j ∷ []
+          go : Dec (kind f v < 8) → references (formula_tree (formula_only f) v) ≡ link_in table v ∷ []
           go (yes q) =
               ap references (fixpoint_tree (named f) (formula_only f) s.good.formula v h (omega (arith, kind-is)) (omega arith))
-              ∙ ap (λ (m : ℕ). m ∷ []) (sym (g ∙ (s.link v h).own (omega (arith, kind-is)) (omega arith)))
+              ∙ ap (λ (m : ℕ). m ∷ []) (sym ((s.link v h).own (omega (arith, kind-is)) (omega arith)))
           go (no q) =
               ap references (reference_tree (named f) (formula_only f) s.good.formula v h (omega (arith, q, (s.good.formula.nodes v h).known)))
-              ∙ ap (λ (m : ℕ). m ∷ []) (sym (g ∙ (s.link v h).outer (omega arith)))
+              ∙ ap (λ (m : ℕ). m ∷ []) (sym ((s.link v h).outer (omega arith)))
 
-      pub link_below : j < equation_count f
-      link_below = go (dec_lt (kind f v) 8)
-        where
-          go : Dec (kind f v < 8) → j < equation_count f
-          go (yes q) = omega (arith, g, (s.link v h).own (omega (arith, kind-is)) (omega arith), number_below f v (fixpoint_at f v h (omega (arith, kind-is)) (omega arith)))
-          go (no q) = omega (arith, g, (s.link v h).outer (omega arith), referred_below (named f) f s.good.formula v h (omega arith))
+      body_reference : body_reading f t i v ≡ counted f t i (link_in table v)
+      unfolding body_reading largest
+      body_reference =
+          let k : (x : ℕ) → max x 0 ≡ x = λ x. omega arith in
+          ap (λ (js : List ℕ). largest (map (counted f t i) js)) link_reference ∙ k (counted f t i (link_in table v))
 
-      -- by the tests of the code
-      module _ (t i : ℕ) where
-        body_reference : counted f t i j ≡ body_reading f t i v
-        unfolding body_reading largest
-        body_reference =
-            let k : (x : ℕ) → x ≡ max x 0 = λ x. omega arith in
-            k (counted f t i j) ∙ ap (λ (js : List ℕ). largest (map (counted f t i) js)) (sym link_reference)
+      pub at_target : link_in it.table.now v ≡ t → body_reading it.formula.now t i v ≡ 1
+      unfolding counted
+      at_target e = body_reference ∙ contribution_target f t i (link_in table v) (reading (formula_only f) t (link_in table v)) e
 
-        pub body_later : (j ≡ t → ⊥) → i < j → reading (formula_only f) t j + alternates (equation_of f i).operator (equation_of f j).operator ≡ body_reading f t i v
-        unfolding counted
-        body_later d l = sym (contribution_later f t i j (reading (formula_only f) t j) d l) ∙ body_reference
+      pub at_outer : (¬ (link_in it.table.now v ≡ t)) → link_in it.table.now v ≤ i → body_reading it.formula.now t i v ≡ 0
+      unfolding counted
+      at_outer d l = body_reference ∙ contribution_other f t i (link_in table v) (reading (formula_only f) t (link_in table v)) d l
 
-        pub body_target : j ≡ t → 1 ≡ body_reading f t i v
-        unfolding counted
-        body_target e = sym (contribution_target f t i j (reading (formula_only f) t j) e) ∙ body_reference
+      pub at_later : (¬ (link_in it.table.now v ≡ t)) → i < link_in it.table.now v
+          → body_reading it.formula.now t i v
+          ≡ reading (formula_only it.formula.now) t (link_in it.table.now v)
+          + alternates (equation_of it.formula.now i).operator (equation_of it.formula.now (link_in it.table.now v)).operator
+      unfolding counted
+      at_later d l = body_reference ∙ contribution_later f t i (link_in table v) (reading (formula_only f) t (link_in table v)) d l
 
-        pub body_outer : (j ≡ t → ⊥) → j ≤ i → 0 ≡ body_reading f t i v
-        unfolding counted
-        body_outer d l = sym (contribution_other f t i j (reading (formula_only f) t j) d l) ∙ body_reference
+  pub link_few : (v : ℕ) → v < size it.formula.now → 6 ≤ kind_in it.table.now v → link_in it.table.now v < equation_count it.formula.now
+  link_few v h p = go (dec_lt (kind f v) 8)
+    where
+      go : Dec (kind f v < 8) → link_in table v < equation_count f
+      go (yes q) =
+          omega (arith, (s.link v h).own (omega (arith, s.kinds v h)) (omega arith), number_below f v (fixpoint_at f v h (omega (arith, s.kinds v h)) (omega arith)))
+      go (no q) = omega (arith, (s.link v h).outer (omega arith), referred_below (named f) f s.good.formula v h (omega arith))
 
   -- ---- an equation, by the node that the table has for it
 
-  module _ (i : ℕ) (h : i < equation_count f) where
-    pub equation_few : i < 1_024
-    equation_few = omega (arith, count_limit (named f) f s.good.formula)
+  pub body_few : (i : ℕ) → i < equation_count it.formula.now → body_in it.table.now i < size it.formula.now
+  body_few i h = omega (arith, s.body i h, body_below (named f) f s.good.formula i h)
 
-    module _ (v : ℕ) (e : v ≡ body_in table i) where
-      pub body_inside : v < size f
-      body_inside = omega (arith, e, s.body i h, body_below (named f) f s.good.formula i h)
+  -- reading an equation is reading its body
+  pub at_equation : (t i : ℕ) → i < equation_count it.formula.now
+      → reading (formula_only it.formula.now) t i ≡ body_reading it.formula.now t i (body_in it.table.now i)
+  unfolding counted body_reading body_tree
+  at_equation t i h = rw (s.body i h) (reading_equation (named f) (formula_only f) s.good.formula t i h)
 
-      -- reading an equation is reading its body
-      pub reading-body : (t : ℕ) → body_reading f t i v ≡ reading (formula_only f) t i
-      unfolding counted body_reading body_tree
-      reading-body t = rw (e, s.body i h) (sym (reading_equation (named f) (formula_only f) s.good.formula t i h))
+  -- ---- how many there are
+
+  pub count_few : equation_count it.formula.now ≤ 1_024
+  count_few = count_limit (named f) f s.good.formula
+
+  pub formula_few : size it.formula.now ≤ 1_024
+  formula_few = s.good.formula.few

@@ -1,25 +1,11 @@
 -- Listing the equations node by node: what the table shows before a node, and what one step asks and gives. Assumes
 -- nothing: these are definitions.
-use Rattle.std.specs.Prelude.{◌≡◌, Bool, true, false, List, ℕ, ◌≤◌, ◌<◌, length, get_or}
+use Rattle.std.specs.Prelude.{◌≡◌, List, ℕ, ◌≤◌, ◌<◌, length, get_or}
 use Rattle.rules.specs.Table.{kind}
 use Rattle.rules.specs.Formula.{least, Equation, equations_before, equation_number}
 use Rattle.rules.specs.Depth.{least_bit}
-use Rattle.node_kinds.specs.declared.FormulaKind.{FormulaKind}
-use Rattle.node_kinds.specs.declared.FormulaKind.TheVariants.{True, False, And, Or, Box, Diamond, Least, Greatest, Reference}
 use Rattle.modal_equation_system.specs.declared.EquationTable.{EquationTable}
 use Rattle.modal_equation_system.specs.System.{link_in, kind_in, body_in, least_in, Linked}
-
--- does the kind name a fixpoint? A node of such a kind begins an equation
-abbrev pub names_fixpoint : FormulaKind → Bool
-names_fixpoint True = false
-names_fixpoint False = false
-names_fixpoint And = false
-names_fixpoint Or = false
-names_fixpoint Box = false
-names_fixpoint Diamond = false
-names_fixpoint Least = true
-names_fixpoint Greatest = true
-names_fixpoint Reference = false
 
 -- the placeholder, and the entry of an equation that is not there
 abbrev pub missing : Equation

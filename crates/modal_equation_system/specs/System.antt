@@ -1,5 +1,5 @@
 -- The table of the equations of a formula, and what is read off it. Assumes nothing: these are definitions.
-use Rattle.std.specs.Prelude.{◌≡◌, List, [], map, ℕ, suc, ◌≤◌, ◌<◌, length}
+use Rattle.std.specs.Prelude.{◌≡◌, true, List, [], map, ℕ, suc, ◌≤◌, ◌<◌, length}
 use Rattle.rules.specs.Lists.{word, one, largest}
 use Rattle.rules.specs.Words.{Input, input_of}
 use Rattle.rules.specs.Table.{size, kind, operand}
@@ -7,6 +7,7 @@ use Rattle.rules.specs.Formula.{equation_count, equation_of, equation_number, fo
 use Rattle.rules.specs.Depth.{references, contribution, reading, Ranking, least_bit}
 use Rattle.tables.specs.Good.{GoodFormula}
 use Rattle.node_kinds.specs.Codes.{formula_code}
+use Rattle.modal_equation_system.specs.declared.EquationEntry.{EquationEntry}
 use Rattle.modal_equation_system.specs.declared.EquationTable.{EquationTable}
 
 -- an input with this formula: depths and priorities depend on nothing else (law `by_depth_words` of crate trees)
@@ -22,6 +23,10 @@ named f = suc (largest f)
 pub record Good (f : List ℕ) : Type 0 where
   pub formula : GoodFormula (named f) f
 
+-- the entry of the placeholder
+abbrev pub placeholder_entry : EquationEntry
+placeholder_entry = record { body = 0; is_least = true }
+
 -- ---- what the table has: the links of nodes, their kinds, the first body nodes of equations, their operators
 
 abbrev pub link_in : EquationTable → (node : ℕ) → ℕ
@@ -31,11 +36,11 @@ abbrev pub kind_in : EquationTable → (node : ℕ) → ℕ
 kind_in t v = word (map formula_code t.kinds) v
 
 abbrev pub body_in : EquationTable → (equation : ℕ) → ℕ
-body_in t i = word t.bodies i
+body_in t i = word (map (λ e. e.body) t.equations) i
 
 -- 1 for a least equation
 abbrev pub least_in : EquationTable → (equation : ℕ) → ℕ
-least_in t i = word (map one t.least) i
+least_in t i = word (map (λ e. one e.is_least) t.equations) i
 
 -- ---- what they are
 

@@ -1,7 +1,7 @@
 // The equations of a formula, their alternation depth and their priorities (modal_equation_system.rs).
 #![tactic(auto)]
 
-ghost use Rattle.std.specs.Prelude.{◌≡◌, ◌+◌, ◌≤◌, ◌<◌, true, length, replicate};
+ghost use Rattle.std.specs.Prelude.{◌≡◌, ◌+◌, ◌≤◌, ◌<◌, length, replicate};
 ghost use Rattle.rules.specs.Lists.{one};
 ghost use Rattle.rules.specs.Words.{most_nodes};
 ghost use Rattle.rules.specs.Table.{size, kind, formula_node};
@@ -9,38 +9,25 @@ ghost use Rattle.rules.specs.Formula.{is_fixpoint, equation_count};
 ghost use Rattle.rules.specs.Depth.{depth, by_depth, reading};
 ghost use Rattle.node_kinds.specs.Codes.{formula_code};
 ghost use Rattle.modal_equation_system.specs.System.{formula_only, Good};
-ghost use Rattle.modal_equation_system.specs.System.{link_in, kind_in, body_in, least_in};
+ghost use Rattle.modal_equation_system.specs.System.{placeholder_entry, link_in, kind_in, body_in, least_in};
 ghost use Rattle.modal_equation_system.specs.System.{Listed, body_reading, RankedBy};
-ghost use Rattle.modal_equation_system.specs.Listing.{names_fixpoint, Listing, LinkBy, Linkable};
+ghost use Rattle.modal_equation_system.specs.Listing.{Listing, LinkBy, Linkable};
 
 use formula_reader::FormulaReader;
 use node_kinds::FormulaKind;
 use player::Priority;
-use words::{NODES, at};
-
-// Does the kind name a fixpoint?
-fn is_fixpoint(kind: FormulaKind) -> bool
-    ensures { result ≡ names_fixpoint kind }
-{
-    matches!(kind, FormulaKind::Least | FormulaKind::Greatest)
-}
-
-// The kind of the node at which a reader stands.
-fn kind_at<'a>(reader: FormulaReader<'a>) -> FormulaKind
-    requires good { Good reader.words.now }
-    requires node_bound { reader.node < size reader.words.now }
-    ensures { formula_code result ≡ kind reader.entry.words.now reader.entry.node }
-{
-    FormulaKind::of(reader.kind() as u32)
-}
+use words::{NODES, at, kind_at};
 
 // Is a node a fixpoint?
+// Kept (no plainer): each function is lent the formula by itself, and asks that it is in order: a struct for that would
+// hold one slice.
+#[tactic(auto, using(crate::proofs::Listing::fixpoint_read))]
 pub fn is_fixpoint_at(formula: &[u32], node: usize) -> bool
     requires good { Good formula.now }
-    requires node_bound { node < size formula.now }
+    requires inside { node < size formula.now }
     ensures { result ≡ is_fixpoint (formula_node formula.now node) }
 {
-    is_fixpoint(kind_at(FormulaReader::new(formula).moved(node)))
+    FormulaKind::of(kind_at(formula, node)).is_fixpoint()
 }
 
 // ---- the table of the equations
@@ -48,30 +35,44 @@ pub fn is_fixpoint_at(formula: &[u32], node: usize) -> bool
 // The most equations: one for each node, and the placeholder.
 const EQUATIONS: usize = NODES + 1;
 
+// An equation: the first node of its body, and whether it is a least one.
+// Kept (no plainer): of an equation's operator only this is asked, by `!=` and as 0 or 1.
+#[derive(Clone, Copy)]
+struct EquationEntry {
+    body: u32,
+    is_least: bool,
+}
+
+impl EquationEntry {
+    // The placeholder's entry.
+    const PLACEHOLDER: EquationEntry = EquationEntry {
+        body: 0,
+        is_least: true,
+    };
+}
+
 #[derive(Drop)]
 pub struct EquationTable {
     // The link of each node: the right operand of an and or an or, the equation that a fixpoint or a reference stands
     // for.
+    // Kept (no plainer): a column of their own, for `alike_nodes` is lent the links as words.
     pub links: [u32; NODES],
     // The kind of each node.
-    pub kinds: [FormulaKind; NODES],
-    // The first node of each equation's body.
-    pub bodies: [u32; EQUATIONS],
-    // Is the equation a least one?
-    pub least: [bool; EQUATIONS],
+    kinds: [FormulaKind; NODES],
+    // The equations, in their order.
+    equations: [EquationEntry; EQUATIONS],
 }
 
 impl EquationTable {
     // A table to list equations in.
     pub fn blank() -> EquationTable
         ensures nodes { (result.links ≡ replicate 1024 0) × (result.kinds ≡ replicate 1024 FormulaKind.True) }
-        ensures equations { (result.bodies ≡ replicate 1025 0) × (result.least ≡ replicate 1025 true) }
+        ensures equations { result.equations ≡ replicate 1025 placeholder_entry }
     {
         EquationTable {
             links: [0; NODES],
             kinds: [FormulaKind::True; NODES],
-            bodies: [0; EQUATIONS],
-            least: [true; EQUATIONS],
+            equations: [EquationEntry::PLACEHOLDER; EQUATIONS],
         }
     }
 
@@ -96,7 +97,7 @@ impl EquationTable {
         requires { equation < 1025 }
         ensures { result ≡ body_in self.now equation }
     {
-        self.bodies[equation] as usize
+        self.equations[equation].body as usize
     }
 
     // Is an equation a least one?
@@ -104,7 +105,7 @@ impl EquationTable {
         requires { equation < 1025 }
         ensures { one result ≡ least_in self.now equation }
     {
-        self.least[equation]
+        self.equations[equation].is_least
     }
 
     // The link that a node gets once the nodes before it have theirs. `number` equations come before it.
@@ -120,33 +121,34 @@ impl EquationTable {
         }
     }
 
-    // Lists the node at which a reader stands. `number` equations come before it. Returns how many come before the next
-    // node.
+    // Lists the node at which a reader stands, where `number` equations come before it. Returns how many come before
+    // the next node.
     fn list_node<'a>(&mut self, reader: FormulaReader<'a>, number: usize) -> usize
         requires good { Good reader.words.now }
-        requires node_bound { reader.node < size reader.words.now }
+        requires inside { reader.node < size reader.words.now }
         requires listing { Listing reader.words.now reader.node number self.old }
         ensures { Listing reader.entry.words.now (reader.entry.node + 1) result self.new }
     {
         let node = reader.node;
-        let its_kind = kind_at(reader);
-        self.links[node] = self.link_at(its_kind, reader.operand(), number);
-        self.kinds[node] = its_kind;
-        // the equation's entry stays only if the node is a fixpoint: else its number is given to a later node
-        self.bodies[number] = node as u32 + 1;
-        self.least[number] = its_kind == FormulaKind::Least;
-        number + usize::from(is_fixpoint(its_kind))
+        let kind = FormulaKind::of(reader.kind());
+        self.links[node] = self.link_at(kind, reader.operand(), number);
+        self.kinds[node] = kind;
+        // the entry stays only if the node is a fixpoint: else a later node's is written over it
+        self.equations[number] = EquationEntry {
+            body: node as u32 + 1,
+            is_least: kind == FormulaKind::Least,
+        };
+        number + usize::from(kind.is_fixpoint())
     }
 
-    // Lists the equations of a formula, by a reader that moves from node to node. Returns how many there are.
+    // Lists the equations of a formula, node by node. Returns how many there are.
     pub fn list_equations(&mut self, formula: &[u32]) -> usize
         requires { Good formula.now }
         ensures value { result ≡ equation_count formula.now }
         ensures listed { Listed formula.now self.new }
     {
-        // the placeholder's entry stays only if node 0 is no fixpoint
-        self.bodies[0] = 0;
-        self.least[0] = true;
+        // it stays only if node 0 is no fixpoint
+        self.equations[0] = EquationEntry::PLACEHOLDER;
         let mut number = usize::from(!is_fixpoint_at(formula, 0));
         let reader = FormulaReader::new(formula);
         for node in 0..at(formula, 0) {
@@ -162,8 +164,7 @@ impl EquationTable {
 pub struct Equations<'a> {
     pub formula: &'a [u32],
     pub table: &'a EquationTable,
-    pub count: usize,
-    ghost listed: { Listed formula.now table.now × (count ≡ equation_count formula.now) },
+    ghost listed: { Listed formula.now table.now },
 }
 
 impl<'a> Equations<'a> {
@@ -172,8 +173,9 @@ impl<'a> Equations<'a> {
 
     // Reads the subformula of `node` for `target`, in the body of `equation`.
     #[cycle(read_body_read_equation)]
+    #[tactic(auto, using(crate::proofs::Reading::count_few, crate::proofs::Reading::at_leaf, crate::proofs::Reading::at_two, crate::proofs::Reading::at_modal, crate::proofs::Reading::at_target, crate::proofs::Reading::at_outer, crate::proofs::Reading::link_few, crate::proofs::Reading::formula_few))]
     fn read_body(&self, node: usize, equation: usize, target: usize) -> u32
-        requires { (node < size self.now.formula.now) × (equation < self.now.count) }
+        requires { (node < size self.now.formula.now) × (equation < equation_count self.now.formula.now) }
         ensures { result ≡ body_reading self.now.formula.now target equation node }
     {
         match self.table.kind_of(node) {
@@ -204,37 +206,41 @@ impl<'a> Equations<'a> {
 
     // Reads an equation for `target`.
     #[cycle(read_body_read_equation)]
+    #[tactic(auto, using(crate::proofs::Reading::count_few, crate::proofs::Reading::body_few, crate::proofs::Reading::at_equation))]
     fn read_equation(&self, equation: usize, target: usize) -> u32
-        requires { equation < self.now.count }
+        requires { equation < equation_count self.now.formula.now }
         ensures { result ≡ reading (formula_only self.now.formula.now) target equation }
     {
         self.read_body(self.table.body_of(equation), equation, target)
     }
 
     // The alternation depth of an equation.
+    #[tactic(auto, unfolding(rules::specs::Depth::depth))]
     pub fn alternation_depth(&self, equation: usize) -> u32
-        requires { equation < self.now.count }
+        requires { equation < equation_count self.now.formula.now }
         ensures { result ≡ depth (formula_only self.now.formula.now) equation }
     {
         self.read_equation(equation, equation)
     }
 
     // The priority of an equation: its depth made even, plus 1 for a least equation.
+    #[tactic(auto, using(crate::proofs::Reading::count_few, crate::proofs::Listing::byte_of), unfolding(rules::specs::Depth::by_depth))]
     pub fn priority_of(&self, equation: usize) -> Priority
-        requires { equation < self.now.count }
+        requires { equation < equation_count self.now.formula.now }
         ensures { result.0 ≡ by_depth (formula_only self.now.formula.now) equation }
     {
         let depth = self.alternation_depth(equation);
         Priority(2 * (depth / 2) + u32::from(self.table.is_least(equation)))
     }
 
-    // Lists the priorities of all equations, by depth, at the front of a table, and leaves the rest of it as it is.
-    pub fn list_priorities(&self, priorities: &mut [u32])
-        requires { self.now.count ≤ length priorities.old }
-        ensures { RankedBy by_depth self.now.formula.now self.now.count
-            priorities.old priorities.new }
+    // Lists the priorities of the first equations, by depth, at the front of a slice, and leaves the rest of it as it
+    // is.
+    pub fn list_priorities(&self, count: usize, priorities: &mut [u32])
+        requires few { count ≤ equation_count self.now.formula.now }
+        requires room { count ≤ length priorities.old }
+        ensures { RankedBy by_depth self.now.formula.now count priorities.old priorities.new }
     {
-        for (equation, priority) in priorities[..self.count].iter_mut().enumerate() {
+        for (equation, priority) in priorities[..count].iter_mut().enumerate() {
             *priority = self.priority_of(equation).0;
         }
     }

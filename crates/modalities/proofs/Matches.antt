@@ -1,20 +1,19 @@
 -- The targets that transitions give: none, one, and some after others; all of a state's are its successors, and each is
 -- given as often as it has matching transitions. Assumes nothing.
-use mathlib.Core.Path.{◌≡◌, refl, ap, ap₂, ◌∙◌}
+use mathlib.Core.Path.{◌≡◌, refl, sym, ap, ap₂, ◌∙◌}
 use mathlib.Core.Bool.{Bool, true, false, cond}
-use mathlib.Core.List.{List, [], ◌∷◌, ◌++◌, map}
-use Prim.Native.Nat.{ℕ, suc, ◌-◌, ◌≤◌, ◌<◌}
+use mathlib.Core.List.{List, [], ◌∷◌, ◌++◌, map, map-map}
+use Prim.Native.Nat.{ℕ, suc, ◌+◌, ◌-◌, ◌≤◌, ◌<◌}
 use native.Mathlib.Omega.{arith}
 use lib.Dec.{eqb}
 use lib.ListN.{length, length-map}
-use borrow.Author.Tests.{ne_eqb}
-use Rattle.rules.specs.Lists.{word, In, one, from, filter, occurrences, once}
-use Rattle.rules.specs.Words.{Input, input_of}
+use Rattle.rules.specs.Lists.{word, In, from, filter, occurrences, once}
+use Rattle.rules.specs.Words.{Input}
 use Rattle.rules.specs.Labels.{multiset}
-use Rattle.rules.specs.System.{degree, transition_label, transition_target, first_transition, transitions}
+use Rattle.rules.specs.System.{transition_label, transition_target, transitions}
 use Rattle.rules.specs.Actions.{Action, action_tree, matches}
 use Rattle.rules.specs.Pairs.{matching_transitions, successors}
-use Rattle.lists.proofs.Ranges.{from-length, from_in, in_from}
+use Rattle.lists.proofs.Ranges.{from-length, from-append, from_snoc, from_in, in_from}
 use Rattle.lists.proofs.Members.{map-append, in_map, no_more}
 use Rattle.lists.proofs.Filters.{filter_in, filter-append, filter-agree}
 use Rattle.lists.proofs.Inserts.{once_map, once_in, once_distinct}
@@ -23,12 +22,13 @@ use Rattle.lists.proofs.Occurrences.{occurs_map}
 use Rattle.pairs.specs.Slot.{key_of}
 use Rattle.settling.specs.Made.{tallies}
 use Rattle.modalities.specs.declared.Modality.{Modality}
+use Rattle.modalities.specs.declared.model.ModelTables.{ModelTables}
 use Rattle.modalities.specs.declared.moves.Moves.{Moves}
-use Rattle.modalities.specs.Matched.{Answered, target_keys, matched_keys, answered_keys, numbers_of, OfState}
-use Rattle.modalities.specs.Matched.{modality_keys, modality_counts}
+use Rattle.modalities.specs.Matched.{first_moves, moves_in, state_moves, passing_keys, matched_keys, answered_keys, answer, Answered}
+use Rattle.modalities.specs.Matched.{OfState, model_in, modality_keys, modality_counts}
 
 -- a test chooses no more than there are
-chosen : (f : ℕ → Bool) (xs : List ℕ) → length (filter f xs) ≤ length xs
+chosen : {A : Type 0} (f : A → Bool) (xs : List A) → length (filter f xs) ≤ length xs
 unfolding filter
 chosen f [] = omega arith
 chosen f (x ∷ xs) = go (f x) (chosen f xs)
@@ -38,60 +38,89 @@ chosen f (x ∷ xs) = go (f x) (chosen f xs)
     go true h = omega arith
     go false h = omega arith
 
-module _ (ss answers : List ℕ) (item : ℕ) where
-  pub answered_none : answered_keys ss answers item [] ≡ []
-  unfolding answered_keys filter
-  answered_none = refl
+-- to choose among images is to choose among what they come from
+chosen_images : {A B : Type 0} (f : B → Bool) (g : A → B) (xs : List A)
+    → filter f (map g xs) ≡ map g (filter (λ x. f (g x)) xs)
+unfolding filter
+chosen_images f g [] = refl
+chosen_images f g (x ∷ xs) = go (f (g x)) (chosen_images f g xs)
+  where
+    go : (b : Bool) → filter f (map g xs) ≡ map g (filter (λ x. f (g x)) xs)
+        → cond b (g x ∷ filter f (map g xs)) (filter f (map g xs))
+        ≡ map g (cond b (x ∷ filter (λ x. f (g x)) xs) (filter (λ x. f (g x)) xs))
+    go true e = ap (λ (l : List _). g x ∷ l) e
+    go false e = e
 
-  pub answered_append : (ts us : List ℕ)
-      → answered_keys ss answers item (ts ++ us) ≡ answered_keys ss answers item ts ++ answered_keys ss answers item us
-  unfolding answered_keys
-  answered_append ts us =
-      let told : ℕ → Bool = λ t. eqb (word answers (transition_label ss t)) 1 in
-      ap (target_keys ss item) (filter-append told ts us)
-      ∙ ap (map (λ s. key_of s item)) (map-append (transition_target ss) (filter told ts) (filter told us))
-      ∙ map-append (λ s. key_of s item) (map (transition_target ss) (filter told ts))
-      (map (transition_target ss) (filter told us))
+-- ---- the first transitions that are read
+
+module _ (labels targets : List ℕ) where
+  move : ℕ → ℕ × ℕ
+  move i = (word labels i, word targets i)
+
+  -- one more
+  pub moves_snoc : (i : ℕ) → first_moves labels targets (i + 1)
+      ≡ first_moves labels targets i ++ ((word labels i, word targets i) ∷ [])
+  unfolding move
+  moves_snoc i =
+      let d : i + 1 ≡ suc i = omega arith in
+      let z : 0 + i ≡ i = omega arith in
+      ap (first_moves labels targets) d ∙ ap (map move) (from_snoc 0 i) ∙ map-append move (from 0 i) ((0 + i) ∷ [])
+      ∙ ap (λ (j : ℕ). first_moves labels targets i ++ (move j ∷ [])) z
+
+  -- the first ones, and those after them
+  pub moves_split : (i n : ℕ) → i ≤ n → first_moves labels targets n
+      ≡ first_moves labels targets i ++ map (λ i. (word labels i, word targets i)) (from i (n - i))
+  unfolding move
+  moves_split i n h =
+      let d : n ≡ i + (n - i) = omega arith in
+      let z : 0 + i ≡ i = omega arith in
+      ap (first_moves labels targets) d ∙ ap (map move) (from-append 0 i (n - i))
+      ∙ map-append move (from 0 i) (from (0 + i) (n - i))
+      ∙ ap (λ (j : ℕ). first_moves labels targets i ++ map move (from j (n - i))) z
+
+-- ---- those that pass a test of their labels
+
+module _ (passes : ℕ → Bool) (item : ℕ) where
+  pub passing_none : passing_keys passes item [] ≡ []
+  unfolding passing_keys filter
+  passing_none = refl
+
+  pub passing_append : (ms ns : List (ℕ × ℕ))
+      → passing_keys passes item (ms ++ ns) ≡ passing_keys passes item ms ++ passing_keys passes item ns
+  unfolding passing_keys
+  passing_append ms ns =
+      let told : ℕ × ℕ → Bool = λ m. passes m.0 in
+      ap (map (λ m. key_of m.1 item)) (filter-append told ms ns)
+      ∙ map-append (λ m. key_of m.1 item) (filter told ms) (filter told ns)
 
   -- not more keys than transitions
-  pub answered_most : (ts : List ℕ) → length (answered_keys ss answers item ts) ≤ length ts
-  unfolding answered_keys
-  answered_most ts =
-      let told : ℕ → Bool = λ t. eqb (word answers (transition_label ss t)) 1 in
-      let goals = map (transition_target ss) (filter told ts) in
-      omega (
-        arith,
-        length-map goals (λ s. key_of s item),
-        length-map (filter told ts) (transition_target ss),
-        chosen told ts,
-      )
+  pub passing_most : (ms : List (ℕ × ℕ)) → length (passing_keys passes item ms) ≤ length ms
+  unfolding passing_keys
+  passing_most ms =
+      let told : ℕ × ℕ → Bool = λ m. passes m.0 in
+      omega (arith, length-map (filter told ms) (λ m. key_of m.1 item), chosen told ms)
 
-  -- one transition: the answer for its label says whether it gives a target
-  module _ (t label : ℕ) (e : label ≡ transition_label ss t) where
-    pub one_target : (target : ℕ) → word answers label ≡ 1 → target ≡ transition_target ss t
-        → answered_keys ss answers item (t ∷ []) ≡ key_of target item ∷ []
-    unfolding answered_keys filter
-    one_target target y z = rw (z, ← e, y) refl
+  -- one transition: its label says whether it gives a target
+  module _ (label target : ℕ) where
+    pub one_target : passes label ≡ true → passing_keys passes item ((label, target) ∷ []) ≡ key_of target item ∷ []
+    unfolding passing_keys filter
+    one_target e = rw e refl
 
-    pub no_target : ¬ (word answers label ≡ 1) → answered_keys ss answers item (t ∷ []) ≡ []
-    unfolding answered_keys filter
-    no_target y = rw (← e, ne_eqb (word answers label) 1 y) refl
-
-tells : (r : Bool) (byte : ℕ) → byte ≡ one r → eqb byte 1 ≡ r
-tells true byte e = rw e refl
-tells false byte e = rw e refl
+    pub no_target : passes label ≡ false → passing_keys passes item ((label, target) ∷ []) ≡ []
+    unfolding passing_keys filter
+    no_target e = rw e refl
 
 -- right answers choose the transitions that match
-module _ (ls ss : List ℕ) (a : Action) (answers : List ℕ) (item : ℕ) where
-  pub answered_matched : (first end : ℕ) → Answered ls ss a answers first end
-      → answered_keys ss answers item (from first (end - first)) ≡ matched_keys ls ss a item (from first (end - first))
-  unfolding answered_keys matched_keys
-  answered_matched first end k =
-      let told : ℕ → Bool = λ t. eqb (word answers (transition_label ss t)) 1 in
-      let fits : ℕ → Bool = λ t. matches (multiset ls (transition_label ss t)) a in
-      ap (target_keys ss item) (filter-agree told fits (from first (end - first)) (λ t m.
-      let (p, q) = in_from t first (end - first) m in
-      tells (fits t) (word answers (transition_label ss t)) (k t p (omega arith))))
+pub answered_matched : (ls : List ℕ) (a : Action) (answers : List Bool) (item : ℕ) (labels targets : List ℕ) (n : ℕ)
+    → Answered ls a answers labels n
+    → answered_keys answers item (first_moves labels targets n) ≡ matched_keys ls a item (first_moves labels targets n)
+unfolding passing_keys
+answered_matched ls a answers item labels targets n k =
+    ap (map (λ m. key_of m.1 item))
+    (filter-agree (λ m. answer answers m.0) (λ m. matches (multiset ls m.0) a) (first_moves labels targets n) (λ m within.
+    let (i, inside, e) = in_map (λ i. (word labels i, word targets i)) m (from 0 n) within in
+    let (p, q) = in_from i 0 n inside in
+    rw e (k i (omega arith))))
 
 -- ---- keys of one item are alike only for one state
 
@@ -102,17 +131,18 @@ keys_once item xs =
     (λ s m. tt)
 
 -- there are no more different keys than states,
-pub answered_once : (ss answers : List ℕ) (item : ℕ) (ts : List ℕ) (n : ℕ)
-    → ((t : ℕ) → In t ts → transition_target ss t < n) → length (once eqb (answered_keys ss answers item ts)) ≤ n
-unfolding answered_keys
-answered_once ss answers item ts n below =
-    let told : ℕ → Bool = λ t. eqb (word answers (transition_label ss t)) 1 in
-    let goals = map (transition_target ss) (filter told ts) in
+pub passing_once : (passes : ℕ → Bool) (item : ℕ) (ms : List (ℕ × ℕ)) (n : ℕ)
+    → ((m : ℕ × ℕ) → In m ms → m.1 < n) → length (once eqb (passing_keys passes item ms)) ≤ n
+unfolding passing_keys
+passing_once passes item ms n below =
+    let told : ℕ × ℕ → Bool = λ m. passes m.0 in
+    let goals = map (λ (m : ℕ × ℕ). m.1) (filter told ms) in
     let inside : (s : ℕ) → In s (once eqb goals) → In s (from 0 n) = λ s i.
-    let (t, m, e) = in_map (transition_target ss) s (filter told ts) ((once_in number_equality goals s).0 i) in
-    from_in s 0 n (omega arith) (omega (arith, e, below t (filter_in told t ts m))) in
+    let (m, k, e) = in_map (λ (m : ℕ × ℕ). m.1) s (filter told ms) ((once_in number_equality goals s).0 i) in
+    from_in s 0 n (omega arith) (omega (arith, e, below m (filter_in told m ms k))) in
     omega (
       arith,
+      ap (λ (l : List ℕ). length (once eqb l)) (map-map (λ s. key_of s item) (λ (m : ℕ × ℕ). m.1) (filter told ms)),
       ap length (keys_once item goals),
       length-map (once eqb goals) (λ s. key_of s item),
       no_more (once eqb goals) (from 0 n) (once_distinct number_equality goals) inside,
@@ -135,38 +165,46 @@ keys_tallies item xs =
 
 -- the keys of its successors, and how many of its matching transitions lead to each
 module _ (x : Input) (a : Action) (item s : ℕ) where
-  matched_all : once eqb
-      (matched_keys x.labels x.system a item (from (first_transition x.system s) (degree x.system s)))
+  abbrev met : List ℕ
+  met = map (transition_target x.system) (matching_transitions x a s)
+
+  matched_met : matched_keys x.labels a item (state_moves x.system s) ≡ map (λ t. key_of t item) met
+  unfolding passing_keys matching_transitions
+  matched_met =
+      let move : ℕ → ℕ × ℕ = λ t. (transition_label x.system t, transition_target x.system t) in
+      let fits : ℕ × ℕ → Bool = λ m. matches (multiset x.labels m.0) a in
+      let chosen-ones = filter (λ t. matches (multiset x.labels (transition_label x.system t)) a) (transitions x.system s) in
+      ap (map (λ m. key_of m.1 item)) (chosen_images fits move (transitions x.system s))
+      ∙ map-map (λ (m : ℕ × ℕ). key_of m.1 item) move chosen-ones
+      ∙ sym (map-map (λ t. key_of t item) (transition_target x.system) chosen-ones)
+
+  matched_all : once eqb (matched_keys x.labels a item (state_moves x.system s))
       ≡ map (λ t. key_of t item) (successors x a s)
-  unfolding matched_keys successors matching_transitions transitions
-  matched_all = keys_once item (map (transition_target x.system) (matching_transitions x a s))
+  unfolding successors
+  matched_all = ap (once eqb) matched_met ∙ keys_once item met
 
-  tallied_all : tallies
-      (matched_keys x.labels x.system a item (from (first_transition x.system s) (degree x.system s)))
-      ≡ map (λ t. occurrences eqb t (map (transition_target x.system) (matching_transitions x a s)))
-      (successors x a s)
-  unfolding matched_keys successors matching_transitions transitions
-  tallied_all = keys_tallies item (map (transition_target x.system) (matching_transitions x a s))
+  tallied_all : tallies (matched_keys x.labels a item (state_moves x.system s))
+      ≡ map (λ t. occurrences eqb t met) (successors x a s)
+  unfolding successors
+  tallied_all = ap tallies matched_met ∙ keys_tallies item met
 
--- the same for a modality, where the loop goes over the transitions of its state
+-- the same for a modality, where the transitions that are read are those of its state
 module _ (x : Input) (m : Modality) (moves : Moves) (of : OfState x.system m.state moves) where
-  as_many : moves.end - moves.first ≡ degree x.system m.state
-  as_many = omega (arith, of.end)
-
-  pub matched_modality : once eqb (matched_keys x.labels x.system
-      (action_tree x.labels x.actions m.action) m.operand (numbers_of moves))
+  pub matched_modality : once eqb (matched_keys x.labels (action_tree x.labels x.actions m.action) m.operand (moves_in moves))
       ≡ modality_keys x m
-  matched_modality =
-      rw (as_many, of.first) (matched_all x (action_tree x.labels x.actions m.action) m.operand m.state)
+  matched_modality = rw of.moves (matched_all x (action_tree x.labels x.actions m.action) m.operand m.state)
 
-  pub tallied_modality : tallies (matched_keys x.labels x.system
-      (action_tree x.labels x.actions m.action) m.operand (numbers_of moves))
+  pub tallied_modality : tallies (matched_keys x.labels (action_tree x.labels x.actions m.action) m.operand (moves_in moves))
       ≡ modality_counts x m
-  tallied_modality =
-      rw (as_many, of.first) (tallied_all x (action_tree x.labels x.actions m.action) m.operand m.state)
+  tallied_modality = rw of.moves (tallied_all x (action_tree x.labels x.actions m.action) m.operand m.state)
 
 -- a state's successors are the same whatever the formula's words are: they are not looked at
-pub successors-any : (l s a f : List ℕ) (t : Action) (n : ℕ)
-    → successors (input_of l s a []) t n ≡ successors (input_of l s a f) t n
-unfolding successors matching_transitions
-successors-any l s a f t n = refl
+module _ (t : ModelTables) (x : Input) (same-labels : t.labels.now ≡ x.labels) (same-system : t.system.now ≡ x.system)
+    (same-actions : t.actions.now ≡ x.actions) (m : Modality) where
+  pub model_keys : modality_keys (model_in t) m ≡ modality_keys x m
+  unfolding successors matching_transitions
+  model_keys = rw (same-labels, same-system, same-actions) refl
+
+  pub model_counts : modality_counts (model_in t) m ≡ modality_counts x m
+  unfolding successors matching_transitions
+  model_counts = rw (same-labels, same-system, same-actions) refl

@@ -8,7 +8,6 @@ use lib.Dec.{leb, ltb}
 use lib.ListN.{length}
 use borrow.Author.Tests.{leb-true, leb-false, le-leb, lt-leb, ltb-true, ltb-false, lt-ltb, le-ltb}
 use Rattle.rules.specs.declared.Room.{Room}
-use Rattle.rules.specs.System.{state_count}
 use Rattle.settling.specs.declared.Counters.{Counters}
 use Rattle.settling.specs.declared.MarkedBy.{MarkedBy}
 use Rattle.settling.specs.declared.MarkedBy.TheVariants.{State, Vertex}
@@ -49,7 +48,6 @@ module _ (v e edges states transitions : ℕ) where
 record Counted (v e edges states m : ℕ) : Type 0 where
   least : v ≤ m
   apart : v < m → (m ≡ states) × (m + (edges + states) < v + e)
-  fewer : m < states → m ≡ v
 
 counted : (v e edges states transitions : ℕ) → Counted v e edges states (mark_count v e edges states transitions)
 unfolding mark_count
@@ -57,7 +55,7 @@ counted v e edges states transitions =
     go (leb states v) (ltb transitions (states - v)) (ltb (edges + states + (states - v)) e) refl refl
   where
     region : Counted v e edges states v
-    region = record { least = omega arith; apart = λ h. absurd (omega arith); fewer = λ h. refl }
+    region = record { least = omega arith; apart = λ h. absurd (omega arith) }
 
     go : (a b d : Bool) → leb states v ≡ a → ltb (edges + states + (states - v)) e ≡ d
         → Counted v e edges states (cond a v (cond b v (cond d states v)))
@@ -67,7 +65,7 @@ counted v e edges states transitions =
     go false false true p q =
         let more = leb-false states v p in
         let wide = ltb-true (edges + states + (states - v)) e q in
-        record { least = omega arith; apart = λ h. (refl, omega arith); fewer = λ h. absurd (omega arith) }
+        record { least = omega arith; apart = λ h. (refl, omega arith) }
 
 -- what tells the marks says how many there are
 by_states : MarkedBy → Type 0
@@ -78,11 +76,6 @@ told_state : (b : Bool) (m : MarkedBy) → m ≡ cond b State Vertex → m ≡ S
 unfolding by_states
 told_state true m e h = refl
 told_state false m e h = absurd (subst by_states (sym h ∙ e) tt)
-
-told_vertex : (b : Bool) (m : MarkedBy) → m ≡ cond b State Vertex → m ≡ Vertex → b ≡ false
-unfolding by_states
-told_vertex true m e h = absurd (subst by_states (sym e ∙ h) tt)
-told_vertex false m e h = refl
 
 module _ (w : List ℕ) (room : Room) (c : Counters) (states transitions marks : ℕ)
     (counts : marks ≡ mark_count room.vertices room.edges c.edges states transitions) where
@@ -110,16 +103,15 @@ module _ (w : List ℕ) (room : Room) (c : Counters) (states transitions marks :
     pub cleared_ready : Ready w₁ room.vertices room.edges c
     cleared_ready = cleared.ready
 
-    pub cleared_spacious : (ss : List ℕ) → states ≡ state_count ss → (item : ScaledItem) (by : MarkedBy)
+    pub cleared_spacious : (item : ScaledItem) (by : MarkedBy)
         → by ≡ marked_by states marks
-        → Spacious w₁ ss room (record { item = item; start = c.edges; marked_by = by; marks = marks }) c
-    cleared_spacious ss told item by is =
+        → Spacious w₁ states room marks (record { item = item; start = c.edges; marked_by = by }) c
+    cleared_spacious item by is =
         record {
           marks = marks_cleared w w₁ room.vertices marks c.edges k u.1;
           least = facts.least;
-          states = λ z. omega (arith, leb-true states marks (told_state (leb states marks) by is z), told);
-          apart = λ h. ((facts.apart h).0 ∙ told, omega (arith, (facts.apart h).1, told));
-          vertices = λ z. facts.fewer (leb-false states marks (told_vertex (leb states marks) by is z));
+          one-each = λ z. leb-true states marks (told_state (leb states marks) by is z);
+          apart = facts.apart;
         }
 
     -- what is answered from there on is answered from the beginning

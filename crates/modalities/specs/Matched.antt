@@ -1,11 +1,11 @@
 -- The targets that a modality's transitions give, as keys, and what matching their labels asks of the words. Assumes
 -- nothing: these are definitions.
-use Rattle.std.specs.Prelude.{◌≡◌, cond, List, map, ℕ, ◌+◌, ◌-◌, ◌≤◌, ◌<◌, eqb, leb, ltb, length}
+use Rattle.std.specs.Prelude.{◌≡◌, Bool, false, cond, List, [], map, ℕ, ◌+◌, ◌-◌, ◌≤◌, ◌<◌, eqb, leb, ltb, length, get_or}
 use Rattle.rules.specs.declared.Room.{Room}
-use Rattle.rules.specs.Lists.{word, one, from, filter, occurrences}
-use Rattle.rules.specs.Words.{Input}
+use Rattle.rules.specs.Lists.{word, from, filter, occurrences}
+use Rattle.rules.specs.Words.{Input, input_of}
 use Rattle.rules.specs.Labels.{multiset}
-use Rattle.rules.specs.System.{state_count, transition_label, transition_target, first_transition, degree}
+use Rattle.rules.specs.System.{state_count, transition_label, transition_target, transitions}
 use Rattle.rules.specs.Table.{size}
 use Rattle.rules.specs.Actions.{Action, action_tree, matches}
 use Rattle.rules.specs.Pairs.{matching_transitions, successors}
@@ -18,6 +18,7 @@ use Rattle.settling.specs.Stand.{marks_of}
 use Rattle.settling.specs.Made.{Marks, Ready}
 use Rattle.modalities.specs.declared.Modality.{Modality}
 use Rattle.modalities.specs.declared.moves.Moves.{Moves}
+use Rattle.modalities.specs.declared.model.ModelTables.{ModelTables}
 
 -- no mark is past the edges, so that no vertex has the mark of an edge that is made from here on
 abbrev pub Unmarked : List ℕ → Room → Counters → Type 0
@@ -33,17 +34,19 @@ mark_count v e edges states transitions =
 abbrev pub marked_by : (states marks : ℕ) → MarkedBy
 marked_by states marks = cond (leb states marks) State Vertex
 
--- no mark is past the edges; marks by state have one for each state, and where that is more than the region has, they
--- and the edges of a step, at most one for each state, have different words
-pub record Spacious (w ss : List ℕ) (room : Room) (o : Operand) (c : Counters) : Type 0 where
-  pub marks : (i : ℕ) → i < o.marks → word (marks_of w room.vertices o.marks) i ≤ c.edges
-  pub least : room.vertices ≤ o.marks
-  pub states : o.marked_by ≡ State → state_count ss ≤ o.marks
-  pub apart : room.vertices < o.marks
-      → (o.marks ≡ state_count ss) × (o.marks + (c.edges + state_count ss) < room.vertices + room.edges)
-  pub vertices : o.marked_by ≡ Vertex → o.marks ≡ room.vertices
+-- none of so many marks is past the edges; marks by state have one for each state, and where that is more than the region
+-- has, they and the edges of a step, at most one for each state, have different words
+pub record Spacious (w : List ℕ) (states : ℕ) (room : Room) (many : ℕ) (o : Operand) (c : Counters) : Type 0 where
+  pub marks : (i : ℕ) → i < many → word (marks_of w room.vertices many) i ≤ c.edges
+  pub least : room.vertices ≤ many
+  pub one-each : o.marked_by ≡ State → states ≤ many
+  pub apart : room.vertices < many → (many ≡ states) × (many + (c.edges + states) < room.vertices + room.edges)
 
 -- ---- a modality at a state
+
+-- the words that are lent, as an input of an empty formula: successors do not depend on one
+abbrev pub model_in : ModelTables → Input
+model_in t = input_of t.labels.now t.system.now t.actions.now []
 
 -- its state, its action formula and its operand are there
 abbrev pub Inside : Input → Modality → Type 0
@@ -61,44 +64,48 @@ modality_counts x m =
     map (λ s. occurrences eqb s (map (transition_target x.system) (matching_transitions x a m.state)))
     (successors x a m.state)
 
--- ---- transitions, and those of them that match
+-- ---- transitions, each as its label and its target, and those of them that match
 
--- the keys of the target states of transitions and the item
-abbrev pub target_keys : List ℕ → ℕ → List ℕ → List ℕ
-target_keys ss item ts = map (λ s. key_of s item) (map (transition_target ss) ts)
+-- those of state s, in order
+abbrev pub state_moves : List ℕ → ℕ → List (ℕ × ℕ)
+state_moves ss s = map (λ t. (transition_label ss t, transition_target ss t)) (transitions ss s)
 
--- of the transitions ts in order, those whose label matches, each as the key of its target state and the item
-unfoldable pub matched_keys : (ls ss : List ℕ) → Action → ℕ → List ℕ → List ℕ
-matched_keys ls ss a item ts = target_keys ss item (filter (λ t. matches (multiset ls (transition_label ss t)) a) ts)
+-- the first n of those that are read
+abbrev pub first_moves : (labels targets : List ℕ) → ℕ → List (ℕ × ℕ)
+first_moves labels targets n = map (λ i. (word labels i, word targets i)) (from 0 n)
 
--- ---- answers are bytes, one for each label
+-- all of them
+abbrev pub moves_in : Moves → List (ℕ × ℕ)
+moves_in m = first_moves m.labels.now m.targets.now (length m.targets.now)
+
+-- they are those of state s of the system
+pub record OfState (ss : List ℕ) (s : ℕ) (m : Moves) : Type 0 where
+  pub states : m.states ≡ state_count ss
+  pub moves : moves_in m ≡ state_moves ss s
+
+-- of transitions in order, those whose label passes, each as the key of its target and the item
+unfoldable pub passing_keys : (ℕ → Bool) → ℕ → List (ℕ × ℕ) → List ℕ
+passing_keys passes item ms = map (λ m. key_of m.1 item) (filter (λ m. passes m.0) ms)
+
+-- those whose label matches the action formula
+abbrev pub matched_keys : (ls : List ℕ) → Action → ℕ → List (ℕ × ℕ) → List ℕ
+matched_keys ls a item ms = passing_keys (λ l. matches (multiset ls l) a) item ms
+
+-- ---- answers, one for each label
 
 -- a system can have so many labels
 abbrev pub answer_count : ℕ
 answer_count = 4_096
 
--- there is one for the label of each transition from `first` up to `end`
-abbrev pub HaveBytes : (ss answers : List ℕ) → ℕ → ℕ → Type 0
-HaveBytes ss answers first end = (t : ℕ) → first ≤ t → t < end → transition_label ss t < length answers
+-- the answer for a label
+abbrev pub answer : List Bool → ℕ → Bool
+answer answers l = get_or answers l false
 
--- they are 1 where the action formula matches the label, else 0
-abbrev pub Answered : (ls ss : List ℕ) → Action → List ℕ → ℕ → ℕ → Type 0
-Answered ls ss a answers first end =
-    (t : ℕ) → first ≤ t → t < end
-    → word answers (transition_label ss t) ≡ one (matches (multiset ls (transition_label ss t)) a)
+-- for the first n of the labels they say whether the action formula matches
+abbrev pub Answered : (ls : List ℕ) → Action → List Bool → (labels : List ℕ) → ℕ → Type 0
+Answered ls a answers labels n =
+    (i : ℕ) → i < n → answer answers (word labels i) ≡ matches (multiset ls (word labels i)) a
 
--- of the transitions ts in order, those whose label has the answer 1, each as the key of its target state and the item
-unfoldable pub answered_keys : (ss answers : List ℕ) → ℕ → List ℕ → List ℕ
-answered_keys ss answers item ts =
-    target_keys ss item (filter (λ t. eqb (word answers (transition_label ss t)) 1) ts)
-
--- ---- the transitions of a state, as numbers
-
--- the numbers of the transitions
-abbrev pub numbers_of : Moves → List ℕ
-numbers_of m = from m.first (m.end - m.first)
-
--- they are those of state s
-pub record OfState (ss : List ℕ) (s : ℕ) (m : Moves) : Type 0 where
-  pub first : m.first ≡ first_transition ss s
-  pub end : m.end ≡ m.first + degree ss s
+-- those whose label has the answer `true`
+abbrev pub answered_keys : List Bool → ℕ → List (ℕ × ℕ) → List ℕ
+answered_keys answers item ms = passing_keys (answer answers) item ms

@@ -1,34 +1,39 @@
 // The step of a box or a diamond: an edge for each transition of the state whose label matches, once per target.
+// Kept (no plainer): the work slice and its room are two parameters, as crate `settling` says.
+// Kept (no plainer): that the labels lie below a bound is a clause: it is the number of labels in one function and that
+// of the answers in the next, and `Moves` holds neither.
 #![tactic(auto)]
 
 ghost use Rattle.std.specs.Prelude.{◌≡◌, List, [], ◌∷◌, ◌++◌, ℕ, ◌≤◌, ◌<◌, eqb, length};
 ghost use Rattle.rules.specs.Lists.{once};
 ghost use Rattle.rules.specs.Words.{most_states, most_vertices, most_edges};
-ghost use Rattle.rules.specs.System.{state_count, transition_label, transition_target, transition_count};
+ghost use Rattle.rules.specs.Labels.{label_count};
+ghost use Rattle.rules.specs.System.{state_count};
 ghost use Rattle.rules.specs.Table.{size};
 ghost use Rattle.rules.specs.Actions.{action_tree};
-ghost use Rattle.lent_input.specs.Inputs.{input_in};
 ghost use Rattle.settling.specs.declared.Counters.{Counters};
 ghost use Rattle.settling.specs.declared.MarkedBy.TheVariants.{State};
 ghost use Rattle.settling.specs.Made.{Ready, Answer, tallies, Gathering, Gathered, Raisable};
-ghost use Rattle.modalities.specs.Matched.{Unmarked, OfState, Inside, numbers_of};
-ghost use Rattle.modalities.specs.Matched.{answer_count, HaveBytes, Answered, mark_count, marked_by, Spacious};
-ghost use Rattle.modalities.specs.Matched.{answered_keys, matched_keys, modality_keys, modality_counts};
+ghost use Rattle.modalities.specs.Within.{Below};
+ghost use Rattle.modalities.specs.Matched.{Unmarked, Spacious, OfState, Inside, model_in, moves_in};
+ghost use Rattle.modalities.specs.Matched.{mark_count, marked_by};
+ghost use Rattle.modalities.specs.Matched.{answer_count, Answered, answered_keys, matched_keys};
+ghost use Rattle.modalities.specs.Matched.{modality_keys, modality_counts};
 
+mod model;
 mod moves;
-mod walk_tables;
 
 use compiled::LABELS;
 use match_table::ActionWords;
+pub use model::ModelTables;
 pub use moves::Moves;
 use pairs::{ByteMultiples, NoRoom};
 use rules::Room;
 use settling::{Counters, MarkedBy, Operand};
-pub use walk_tables::WalkTables;
 use words::at;
 
-// A byte for each label that a system can have.
-type Answers = [u8; LABELS];
+// An answer for each label that a system can have.
+type Answers = [bool; LABELS];
 
 // A modality at a state: the state, the node of its action formula, the item number of its operand.
 #[derive(Clone, Copy)]
@@ -39,50 +44,45 @@ pub struct Modality {
 }
 
 // The transitions of a state: as many as its degree, from the first one on.
-fn moves_of<'a>(tables: &WalkTables<'a>, state: u32) -> Moves<'a>
-    requires { state < state_count tables.now.input.system.now }
-    ensures { (result.system.now ≡ tables.now.input.system.now)
-        × OfState tables.now.input.system.now state result }
+fn moves_of<'a>(tables: &ModelTables<'a>, state: u32) -> Moves<'a>
+    requires { state < state_count tables.now.system.now }
+    ensures labels { Below (label_count tables.now.labels.now) result.labels.now }
+    ensures of_state { OfState tables.now.system.now state result }
 {
-    let system = tables.input.system;
-    let samples = tables.compiled.samples();
+    let system = tables.system;
     let index = state as usize;
-    let first = transitions::first_transition(system, samples, index);
-    let labels = 3 + at(system, 0);
+    let first = transitions::first_transition(system, tables.compiled.samples(), index);
+    let end = first + at(system, 3 + index);
+    let columns = &system[3 + at(system, 0)..];
+    let (labels, targets) = columns.split_at(at(system, 1));
     Moves {
-        system,
-        first,
-        end: first + at(system, 3 + index),
-        labels,
-        targets: labels + at(system, 1),
+        labels: &labels[first..end],
+        targets: &targets[first..end],
+        states: system[0],
     }
 }
 
-// One transition of a modality's state: its target is met if the answer for its label is 1. The answers have a byte for
-// each label.
+// One transition of a modality's state: its target is met if the answer for its label says so.
 fn follow(
     counters: Counters,
     work: &mut [u32],
     room: Room,
-    answers: &[u8],
-    moves: Moves<'_>,
-    transition: usize,
+    answers: &[bool],
+    label: u32,
     target: u32,
     operand: Operand<'_>,
 ) -> Result<Counters, NoRoom>
+    ghost marks: { ℕ }
     requires ready { Ready work.old room.vertices room.edges counters × (operand.item.number < 2048)
-        × Raisable work.old room.vertices room.edges operand counters }
-    requires states { operand.marked_by ≡ State → state_count moves.system.now ≤ operand.marks }
-    requires followed { (transition < moves.end) × (transition_label moves.system.now transition < length answers.now)
-        × (target ≡ transition_target moves.system.now transition) }
+        × Raisable work.old room.vertices room.edges marks operand counters }
+    requires target { (target < most_states) × (operand.marked_by ≡ State → target < marks) }
+    requires answer { label < length answers.now }
     ensures { (w : List ℕ) (c : Counters) (ks : List ℕ) → operand.entry.start ≡ c.edges
-        → Gathering w room.vertices room.edges c operand.entry ks work.old counters
-        → Gathered w room.vertices room.edges c operand.entry
-        (ks ++ answered_keys moves.entry.system.now answers.now operand.entry.item.number (transition ∷ []))
-        work.new result }
+        → Gathering w room.vertices room.edges marks c operand.entry ks work.old counters
+        → Gathered w room.vertices room.edges marks c operand.entry
+        (ks ++ answered_keys answers.now operand.entry.item.number ((label, target) ∷ [])) work.new result }
 {
-    let label = moves.label_of(transition);
-    if answers[label] == 1 {
+    if answers[label as usize] {
         return settling::target_once(counters, work, room, target, operand);
     }
     Ok(counters)
@@ -123,29 +123,34 @@ fn marked_by(states: u32, marks: u32) -> MarkedBy
 // time: no label is decided here, and the words of labels and action formulas are no parameters, so that the compiler
 // can keep what the loop needs in registers. The target of the next transition is read before the count of this one's
 // is raised: on some machines a read waits for the place of the store before it.
+// Kept (speed): the index is for that: by `zip` the next target would be read after the store (docs/PERFORMANCE.md).
 fn follow_all(
     counters: Counters,
     work: &mut [u32],
     room: Room,
-    answers: &[u8],
+    answers: &[bool],
     moves: Moves<'_>,
     operand: Operand<'_>,
 ) -> Result<Counters, NoRoom>
+    ghost marks: { ℕ }
     requires ready { Ready work.old room.vertices room.edges counters × (operand.start ≡ counters.edges)
-        × (operand.item.number < 2048) × Spacious work.old moves.system.now room operand counters }
-    requires have_bytes { HaveBytes moves.system.now answers.now moves.first moves.end }
-    ensures { let ks = answered_keys moves.entry.system.now answers.now operand.entry.item.number
-        (numbers_of moves.entry) in
+        × (operand.item.number < 2048) × Spacious work.old moves.states room marks operand counters }
+    requires answers { Below (length answers.now) moves.labels.now }
+    ensures { let ks = answered_keys answers.now operand.entry.item.number (moves_in moves.entry) in
         Answer work.old room.vertices room.edges counters (once eqb ks) (tallies ks) work.new result }
 {
+    let targets = moves.targets;
+    if targets.is_empty() {
+        return Ok(counters);
+    }
     let mut so_far = counters;
-    let mut ahead = moves.target_of(moves.first);
-    for transition in moves.first..moves.end {
+    let mut ahead = targets[0];
+    for (index, label) in moves.labels.iter().enumerate() {
         let target = ahead;
-        ahead = moves.target_of(transition + 1);
-        so_far = follow(
-            so_far, work, room, answers, moves, transition, target, operand,
-        )?;
+        if index + 1 < targets.len() {
+            ahead = targets[index + 1];
+        }
+        so_far = follow(so_far, work, room, answers, *label, target, operand)?;
     }
     Ok(so_far)
 }
@@ -156,63 +161,61 @@ fn settle_matched(
     multiples: ByteMultiples<'_>,
     work: &mut [u32],
     room: Room,
-    answers: &[u8],
+    answers: &[bool],
     moves: Moves<'_>,
     item: u32,
 ) -> Result<Counters, NoRoom>
     requires unmarked { Unmarked work.old room counters × (item < 2048) }
-    requires have_bytes { HaveBytes moves.system.now answers.now moves.first moves.end }
-    ensures { let ks = answered_keys moves.entry.system.now answers.now item (numbers_of moves.entry) in
+    requires answers { Below (length answers.now) moves.labels.now }
+    ensures { let ks = answered_keys answers.now item (moves_in moves.entry) in
         Answer work.old room.vertices room.edges counters (once eqb ks) (tallies ks) work.new result }
 {
-    let states = moves.system[0];
-    let marks = mark_count(room, counters.edges, states, moves.end - moves.first);
+    let marks = mark_count(room, counters.edges, moves.states, moves.targets.len());
     settling::clear_marks(work, room, marks);
     let operand = Operand {
         item: multiples.scale(item),
         start: counters.edges,
-        marked_by: marked_by(states, marks),
-        marks,
+        marked_by: marked_by(moves.states, marks),
     };
     follow_all(counters, work, room, answers, moves, operand)
 }
 
 // For the labels of the transitions it is decided whether the action formula at the node matches them. This stands in
 // for a row of the table of matching labels, where the formula has none.
-fn decide_labels(tables: &WalkTables<'_>, moves: Moves<'_>, node: usize, answers: &mut Answers)
-    requires { let x = input_in tables.now.input in (moves.system.now ≡ x.system) × (node < size x.actions)
-        × (length answers.old ≡ answer_count) }
-    ensures answers_len { length answers.new ≡ answer_count }
-    ensures answered { let x = input_in tables.now.input in
-        Answered x.labels x.system (action_tree x.labels x.actions node) answers.new
-        moves.entry.first moves.entry.end }
+fn decide_labels(tables: &ModelTables<'_>, moves: Moves<'_>, node: usize, answers: &mut Answers)
+    requires node { node < size tables.now.actions.now }
+    requires labels { Below (label_count tables.now.labels.now) moves.labels.now }
+    requires count { length answers.old ≡ answer_count }
+    ensures count { length answers.new ≡ answer_count }
+    ensures answered { Answered tables.now.labels.now (action_tree tables.now.labels.now tables.now.actions.now node)
+        answers.new moves.entry.labels.now (length moves.entry.labels.now) }
 {
-    let actions = tables.input.actions;
     let classes = tables.compiled.classes();
-    for transition in moves.first..moves.end {
-        let label = moves.label_of(transition);
+    for label in moves.labels {
+        let label = *label as usize;
         let multiset = at(classes, label);
-        answers[label] = matching::match_action_formula(actions, classes, multiset, node) as u8;
+        answers[label] = matching::match_action_formula(tables.actions, classes, multiset, node);
     }
 }
 
 // The targets of the transitions, where the action formula has no row: their labels are decided first.
 fn settle_decided(
     counters: Counters,
-    tables: &WalkTables<'_>,
+    tables: &ModelTables<'_>,
     work: &mut [u32],
     room: Room,
     moves: Moves<'_>,
     modality: Modality,
 ) -> Result<Counters, NoRoom>
     requires unmarked { Unmarked work.old room counters }
-    requires inside { let x = input_in tables.now.input in (moves.system.now ≡ x.system) × Inside x modality }
-    ensures { let x = input_in tables.now.input in
-        let ks = matched_keys x.labels x.system (action_tree x.labels x.actions modality.action) modality.operand
-        (numbers_of moves.entry) in
+    requires inside { Inside (model_in tables.now) modality }
+    requires labels { Below (label_count tables.now.labels.now) moves.labels.now }
+    ensures { let x = model_in tables.now in
+        let ks = matched_keys x.labels (action_tree x.labels x.actions modality.action) modality.operand
+        (moves_in moves.entry) in
         Answer work.old room.vertices room.edges counters (once eqb ks) (tallies ks) work.new result }
 {
-    let mut answers = [0u8; LABELS];
+    let mut answers = [false; LABELS];
     let node = modality.action as usize;
     decide_labels(tables, moves, node, &mut answers);
     let item = modality.operand;
@@ -230,21 +233,21 @@ fn settle_decided(
 // The targets of a modality are met and get their edges, each with its count of matching transitions.
 pub fn settle_modality(
     counters: Counters,
-    tables: &WalkTables<'_>,
+    tables: &ModelTables<'_>,
     work: &mut [u32],
     room: Room,
     modality: Modality,
 ) -> Result<Counters, NoRoom>
-    requires { Unmarked work.old room counters × Inside (input_in tables.now.input) modality }
-    ensures { let x = input_in tables.now.input in
+    requires { Unmarked work.old room counters × Inside (model_in tables.now) modality }
+    ensures { let x = model_in tables.now in
         Answer work.old room.vertices room.edges counters (modality_keys x modality)
         (modality_counts x modality) work.new result }
 {
     let moves = moves_of(tables, modality.state);
     let node = modality.action as usize;
     let words = ActionWords {
-        labels: tables.input.labels,
-        actions: tables.input.actions,
+        labels: tables.labels,
+        actions: tables.actions,
     };
     let Some(answers) = match_table::row(&words, tables.matched, node) else {
         return settle_decided(counters, tables, work, room, moves, modality);

@@ -1,7 +1,7 @@
 // The kinds of the nodes of an action formula and of a formula, and the words that stand for them.
 #![tactic(auto)]
 
-ghost use Rattle.std.specs.Prelude.{◌≡◌, ◌≤◌};
+ghost use Rattle.std.specs.Prelude.{◌≡◌, ◌/◌, eqb, ltb, min};
 ghost use Rattle.node_kinds.specs.Codes.{ReadsAction, ReadsFormula, action_code, formula_code};
 
 #[derive(Clone, Copy, Debug, PartialEq, Eq)]
@@ -31,6 +31,8 @@ pub enum FormulaKind {
 #[derive(Clone, Copy, Debug, PartialEq, Eq)]
 pub struct UnknownKind(pub u32);
 
+// Kept (no plainer): two kinds have two lists of words, and no derive reads a kind from its word. What takes a word of no
+// kind for the last one is a function of its own, since a conversion would hide that.
 impl TryFrom<u32> for ActionKind {
     type Error = UnknownKind;
 
@@ -71,38 +73,40 @@ impl TryFrom<u32> for FormulaKind {
 }
 
 impl ActionKind {
-    // The kind with a word that stands for one.
+    // The kind with this word. A word that stands for none is read as the last kind.
     pub fn of(word: u32) -> ActionKind
-        requires { word ≤ 5 }
-        ensures { action_code result ≡ word }
+        ensures { action_code result ≡ min word 5 }
     {
-        match word {
-            0 => ActionKind::True,
-            1 => ActionKind::False,
-            2 => ActionKind::MultiAction,
-            3 => ActionKind::Union,
-            4 => ActionKind::Intersection,
-            _ => ActionKind::Negation,
-        }
+        ActionKind::try_from(word).unwrap_or(ActionKind::Negation)
     }
 }
 
 impl FormulaKind {
-    // The kind with a word that stands for one.
+    // The kind with this word. A word that stands for none is read as the last kind.
     pub fn of(word: u32) -> FormulaKind
-        requires { word ≤ 8 }
-        ensures { formula_code result ≡ word }
+        ensures { formula_code result ≡ min word 8 }
     {
-        match word {
-            0 => FormulaKind::True,
-            1 => FormulaKind::False,
-            2 => FormulaKind::And,
-            3 => FormulaKind::Or,
-            4 => FormulaKind::Box,
-            5 => FormulaKind::Diamond,
-            6 => FormulaKind::Least,
-            7 => FormulaKind::Greatest,
-            _ => FormulaKind::Reference,
-        }
+        FormulaKind::try_from(word).unwrap_or(FormulaKind::Reference)
+    }
+
+    // Is a node of this kind a formula that holds everywhere or nowhere?
+    pub fn is_constant(self) -> bool
+        ensures { result ≡ ltb (formula_code self) 2 }
+    {
+        matches!(self, FormulaKind::True | FormulaKind::False)
+    }
+
+    // Does it speak of the transitions of a state?
+    pub fn is_modality(self) -> bool
+        ensures { result ≡ eqb (formula_code self / 2) 2 }
+    {
+        matches!(self, FormulaKind::Box | FormulaKind::Diamond)
+    }
+
+    // Does it begin an equation?
+    pub fn is_fixpoint(self) -> bool
+        ensures { result ≡ eqb (formula_code self / 2) 3 }
+    {
+        matches!(self, FormulaKind::Least | FormulaKind::Greatest)
     }
 }

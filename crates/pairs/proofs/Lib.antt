@@ -1,7 +1,7 @@
 pub mod Bytes
 pub mod Wrap
 pub mod Parts
-pub mod Slots
+pub mod Filled
 pub mod Search
 pub mod OneMore
 pub mod Begin

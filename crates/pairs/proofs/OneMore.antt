@@ -8,36 +8,32 @@ use Rattle.rules.specs.Lists.{word, In, position, insert}
 use Rattle.lists.proofs.Members.{position_out}
 use Rattle.lists.proofs.Inserts.{insert_old, insert_new}
 use Rattle.lists.proofs.Equalities.{number_equality}
-use Rattle.words.specs.Regions.{region, put_word}
-use Rattle.words.proofs.Regions.{region_past, region_same, rest_put, length-region}
+use Rattle.work_slice.specs.Regions.{region, put_word}
+use Rattle.work_slice.proofs.Regions.{region_past, region_same, rest_put, length-region}
 use Rattle.pairs.specs.declared.Place.{Place}
 use Rattle.pairs.specs.declared.Place.TheVariants.{Known, Free}
 use Rattle.pairs.specs.Slot.{key_of}
 use Rattle.pairs.specs.Table.{slots_of, keys_in, keys_of, Slots, Asks}
 use Rattle.pairs.specs.Answers.{Fresh, Finding, Numbers, Full}
-use Rattle.pairs.proofs.Slots.{length-keys_in, keys_in_more, filled, more}
+use Rattle.pairs.proofs.Parts.{slot_set}
+use Rattle.pairs.proofs.Filled.{length-keys_in, keys_in_more, filled, more}
 
--- ---- a word of the slots is put
+-- ---- a word of the slots becomes another
 
-slots_put : (v i x : ℕ) (w : List ℕ) → i < 3 * v → slots_of (put_word 0 (3 * v) i x w) v ≡ set (slots_of w v) i x
-slots_put v i x w h = region_same 0 (3 * v) i x w h
+slots_set : (v i x : ℕ) (w : List ℕ) → i < 3 * v → slots_of (set w i x) v ≡ set (slots_of w v) i x
+slots_set v i x w h = ap (λ (l : List ℕ). slots_of l v) (slot_set v i x w) ∙ region_same 0 (3 * v) i x w h
 
-keys_beside : (v i x : ℕ) (w : List ℕ) → i < 3 * v → region 3 v (put_word 0 (3 * v) i x w) ≡ region 3 v w
-unfolding region put_word
-keys_beside v i x w h =
-    ap (λ (l : List ℕ). take v l) (drop-set-lt (3 * v) w (0 * (3 * v) + i) x (omega arith))
+keys_beside : (v i x : ℕ) (w : List ℕ) → i < 3 * v → region 3 v (set w i x) ≡ region 3 v w
+unfolding region
+keys_beside v i x w h = ap (λ (l : List ℕ). take v l) (drop-set-lt (3 * v) w i x h)
 
 slots_beside : (v i x : ℕ) (w : List ℕ) → i < v → slots_of (put_word 3 v i x w) v ≡ slots_of w v
 unfolding put_word
 slots_beside v i x w h = region_past 0 (3 * v) (3 * v + i) x w (omega arith)
 
-rest_beside : (v i x : ℕ) (w : List ℕ) → i < 3 * v → drop (4 * v) (put_word 0 (3 * v) i x w) ≡ drop (4 * v) w
-unfolding put_word
-rest_beside v i x w h = drop-set-lt (4 * v) w (0 * (3 * v) + i) x (omega arith)
-
 -- the words after a key k was numbered n in slot p
 abbrev pub numbered : List ℕ → (v n k p : ℕ) → List ℕ
-numbered w v n k p = put_word 3 v n k (put_word 0 (3 * v) (2 * p + 1) (n + 1) (put_word 0 (3 * v) (2 * p) k w))
+numbered w v n k p = put_word 3 v n k (set (set w (2 * p) k) (2 * p + 1) (n + 1))
 
 module _ (w : List ℕ) (v n s q : ℕ) (a : Asks w v n s q) where
   abbrev k : ℕ
@@ -61,12 +57,6 @@ module _ (w : List ℕ) (v n s q : ℕ) (a : Asks w v n s q) where
       let g : Fresh w v n k p = subst (Finding w v n k) e d in
       record { more = omega (arith, longer g.new); kept = refl }
 
-  -- both words of the slot found are words of the slots
-  pub free_within : (f : Option Place) (p : ℕ) → Finding w v n k f → f ≡ Some (Free p) → 2 * p + 1 < 3 * v
-  free_within f p d e =
-      let g : Fresh w v n k p = subst (Finding w v n k) e d in
-      omega (arith, g.path.within)
-
   pub nowhere_full : (f : Option Place) → Finding w v n k f → f ≡ None → Full w w v n k
   nowhere_full f d e =
       let g : (¬ In k (keys_of w v n)) × (n ≡ v) = subst (Finding w v n k) e d in
@@ -88,13 +78,13 @@ module _ (w : List ℕ) (v n s q : ℕ) (a : Asks w v n s q) where
     slots : slots_of (numbered w v n k p) v ≡ filled (slots_of w v) p k (n + 1)
     slots =
         slots_beside v n k _ room
-        ∙ slots_put v (2 * p + 1) (n + 1) (put_word 0 (3 * v) (2 * p) k w) high
-        ∙ ap (λ (l : List ℕ). set l (2 * p + 1) (n + 1)) (slots_put v (2 * p) k w low)
+        ∙ slots_set v (2 * p + 1) (n + 1) (set w (2 * p) k) high
+        ∙ ap (λ (l : List ℕ). set l (2 * p + 1) (n + 1)) (slots_set v (2 * p) k w low)
 
     keys_region : region 3 v (numbered w v n k p) ≡ set (region 3 v w) n k
     keys_region =
         region_same 3 v n k _ room
-        ∙ ap (λ (l : List ℕ). set l n k) (keys_beside v (2 * p + 1) (n + 1) (put_word 0 (3 * v) (2 * p) k w) high ∙ keys_beside v (2 * p) k w low)
+        ∙ ap (λ (l : List ℕ). set l n k) (keys_beside v (2 * p + 1) (n + 1) (set w (2 * p) k) high ∙ keys_beside v (2 * p) k w low)
 
     keys : keys_of (numbered w v n k p) v (n + 1) ≡ keys_of w v n ++ (k ∷ [])
     keys = ap (λ (x : List ℕ). keys_in x (n + 1)) keys_region ∙ keys_in_more (region 3 v w) n k (omega (arith, keys_long))
@@ -109,8 +99,8 @@ module _ (w : List ℕ) (v n s q : ℕ) (a : Asks w v n s q) where
     rest : drop (4 * v) (numbered w v n k p) ≡ drop (4 * v) w
     rest =
         rest_put 4 3 v n k _ room (lit< tt)
-        ∙ rest_beside v (2 * p + 1) (n + 1) (put_word 0 (3 * v) (2 * p) k w) high
-        ∙ rest_beside v (2 * p) k w low
+        ∙ drop-set-lt (4 * v) (set w (2 * p) k) (2 * p + 1) (n + 1) (omega (arith, high))
+        ∙ drop-set-lt (4 * v) w (2 * p) k (omega (arith, low))
 
     added : Numbers w (numbered w v n k p) v n k n (n + 1)
     added =
@@ -128,9 +118,7 @@ module _ (w : List ℕ) (v n s q : ℕ) (a : Asks w v n s q) where
           rest = rest;
         }
 
-  -- from what each call ensures, in the order of the calls
-  pub added_by : (f : Option Place) (p : ℕ) (w1 w2 w3 : List ℕ) → n < v → Finding w v n k f → f ≡ Some (Free p) → w1 ≡ put_word 0 (3 * v) (2 * p) k w
-      → w2 ≡ put_word 0 (3 * v) (2 * p + 1) (n + 1) w1 → w3 ≡ put_word 3 v n k w2 → Numbers w w3 v n k n (n + 1)
-  added_by f p w1 w2 w3 room d e e₁ e₂ e₃ =
-      let g : w3 ≡ numbered w v n k p = cc in
-      rw g (added room p (subst (Finding w v n k) e d))
+  -- from what the calls ensure
+  pub added_by : (f : Option Place) (p : ℕ) (w₁ : List ℕ) → n < v → Finding w v n k f → f ≡ Some (Free p) → w₁ ≡ numbered w v n k p
+      → Numbers w w₁ v n k n (n + 1)
+  added_by f p w₁ room d e g = rw g (added room p (subst (Finding w v n k) e d))

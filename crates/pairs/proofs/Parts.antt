@@ -1,8 +1,13 @@
 -- The words of the slots are the first three regions of v words. Assumes nothing.
-use Rattle.std.proofs.Common.{◌≡◌, ℕ, ◌+◌, ◌*◌, ◌<◌, List, ◌++◌, take, drop, set, sym, ap, ◌∙◌, ap₂, arith, lit<, drop-drop, take-add}
+use Rattle.std.proofs.Common.{◌≡◌, ℕ, ◌+◌, ◌-◌, ◌*◌, ◌<◌, ◌≤◌, List, ◌++◌, take, drop, set, sym, ap, ◌∙◌, ap₂, arith, lit<, drop-drop, take-add}
+use Rattle.std.specs.Prelude.{MatchOption, IsSomeAnd}
+use Rattle.std.specs.Option.{SomeIff}
+use Rattle.std.specs.declared.option.Option.{Option}
+use Rattle.std.specs.declared.option.Option.TheVariants.{Some, None}
+use Rattle.player.specs.declared.VertexIndex.{VertexIndex}
 use Rattle.rules.specs.Lists.{word}
-use Rattle.words.specs.Regions.{region, put_word}
-use Rattle.words.proofs.Regions.{word_at}
+use Rattle.work_slice.specs.Regions.{region, put_word}
+use Rattle.work_slice.proofs.Regions.{word_at}
 use Rattle.pairs.specs.Table.{slots_of}
 
 three : (v : ℕ) (w : List ℕ) → slots_of w v ≡ region 0 v w ++ (region 1 v w ++ region 2 v w)
@@ -33,3 +38,12 @@ slot_at v i w h = ap (λ (j : ℕ). word w j) (sym (flat v i)) ∙ word_at 0 (3 
 pub slot_set : (v i x : ℕ) (w : List ℕ) → set w i x ≡ put_word 0 (3 * v) i x w
 unfolding put_word
 slot_set v i x w = ap (λ (j : ℕ). set w j x) (sym (flat v i))
+
+-- ---- what a slot holds, as it is read
+
+pub vertex_read : (held : ℕ) (less : Option ℕ) (vertex : Option VertexIndex) (Is : ℕ → VertexIndex → Type 0)
+    → ((x : ℕ) (i : VertexIndex) → Is x i → i.0 ≡ x) → SomeIff less (1 ≤ held) (held - 1)
+    → MatchOption less (vertex ≡ None) (λ x. IsSomeAnd vertex (Is x)) → MatchOption vertex (held ≡ 0) (λ i. held ≡ i.0 + 1)
+vertex_read held None vertex Is to s m = rw m (omega (arith, s))
+vertex_read held (Some x) None Is to s m = absurd m
+vertex_read held (Some x) (Some i) Is to s m = omega (arith, s.0, s.1, to x i m)

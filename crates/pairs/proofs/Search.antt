@@ -8,7 +8,7 @@ use Rattle.pairs.specs.declared.Place.TheVariants.{Known, Free}
 use Rattle.pairs.specs.Slot.{slot_of}
 use Rattle.pairs.specs.Table.{slot_count, slots_of, key_in, held_in, keys_of, Path, Table}
 use Rattle.pairs.specs.Answers.{Others, Has, Ends, Probed, Finding}
-use Rattle.pairs.proofs.Slots.{length-keys_in, found_at, absent, crowded}
+use Rattle.pairs.proofs.Filled.{length-keys_in, found_at, absent, crowded}
 
 -- ---- along a stretch
 

@@ -6,13 +6,13 @@ use Rattle.rules.specs.Lists.{word, In, position, insert}
 use Rattle.lists.proofs.Inserts.{insert_old, insert_new}
 use Rattle.lists.proofs.Equalities.{number_equality}
 use Rattle.lists.proofs.Members.{position_out}
-use Rattle.words.specs.Regions.{region}
+use Rattle.work_slice.specs.Regions.{region}
 use Rattle.pairs.specs.declared.Numbered.{Numbered}
 use Rattle.pairs.specs.declared.NoRoom.{NoRoom}
 use Rattle.pairs.specs.Slot.{key_of}
 use Rattle.pairs.specs.Table.{key_at, keys_of, Table}
 use Rattle.pairs.specs.Answers.{Numbers, Full, Numbering}
-use Rattle.pairs.proofs.Slots.{length-keys_in, get_d_keys_in}
+use Rattle.pairs.proofs.Filled.{length-keys_in, get_d_keys_in}
 use Rattle.pairs.proofs.Parts.{slots_kept}
 
 -- ---- a key says its pair

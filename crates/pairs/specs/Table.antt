@@ -5,7 +5,7 @@
 use Rattle.std.specs.Prelude.{◌≡◌, ℕ, zero, suc, ◌+◌, ◌-◌, ◌*◌, ◌/◌, ◌%◌, ◌<◌, ◌≤◌, Bool, List, [], ◌∷◌, ◌++◌, length, drop, nat_lt}
 use Rattle.rules.specs.Lists.{word, tally, Distinct}
 use Rattle.rules.specs.Words.{most_states, most_vertices}
-use Rattle.words.specs.Regions.{region}
+use Rattle.work_slice.specs.Regions.{region}
 use Rattle.pairs.specs.Slot.{slot_of}
 
 -- ---- the words
@@ -84,11 +84,6 @@ pub record Table (w : List ℕ) (v n : ℕ) : Type 0 where
   pub small : (i : ℕ) → i < n → key_at w v i < most_states * 2048
 
 -- ---- what calls ask and do
-
--- word i of the slots is a word of the first three regions of eight, which stand in a slice of this size
-pub record InSlots (v i size : ℕ) : Type 0 where
-  pub whole : 8 * v ≤ size
-  pub word : i < 3 * v
 
 -- what a call asks that looks a pair up
 pub record Asks (w : List ℕ) (v n state item : ℕ) : Type 0 where

@@ -1,16 +1,16 @@
 // The table of known pairs in the lent work slice: looking a pair up, and numbering it.
+// Kept (no plainer): the work slice and its number of vertices are two parameters, as crate `settling` says.
 #![tactic(auto)]
 
-ghost use Rattle.std.specs.Prelude.{◌≡◌, ◌+◌, ◌*◌, ◌%◌, ◌^◌, ◌<◌, ◌≤◌, length};
+ghost use Rattle.std.specs.Prelude.{◌≡◌, ℕ, ◌+◌, ◌*◌, ◌%◌, ◌^◌, ◌<◌, ◌≤◌, length, MatchOption};
 ghost use Rattle.rules.specs.Words.{most_states, most_vertices};
-ghost use Rattle.rules.specs.Lists.{word};
-ghost use Rattle.words.specs.Regions.{put_word};
+ghost use Rattle.work_slice.specs.Regions.{put_word};
 ghost use Rattle.pairs.specs.Slot.{key_of, slot_of, Multiples};
-ghost use Rattle.pairs.specs.Table.{slot_count, slots_of, key_in, held_in, state_at, item_at, InSlots, Asks, Started};
+ghost use Rattle.pairs.specs.Table.{slot_count, slots_of, key_in, held_in, state_at, item_at, Asks, Started};
 ghost use Rattle.pairs.specs.Answers.{Probed, Finding, Numbering};
 
 use player::VertexIndex;
-use words::{KEYS, put_word, region_word};
+use work_slice::{Region, put_word, region_word};
 
 // The items have numbers below this: a pair's key is its state times it, plus its item.
 const ITEMS: u32 = 2048;
@@ -111,6 +111,14 @@ impl<'a> ByteMultiples<'a> {
 }
 
 impl ScaledItem<'_> {
+    // The key of the item's pair with a state.
+    fn key_of(&self, state: u32) -> u32
+        requires { (state < most_states) × (self.now.number < 2048) }
+        ensures { result ≡ key_of state self.now.number }
+    {
+        state * ITEMS + self.number
+    }
+
     // The slot, of so many, from which the search for the item's pair with a state starts. The product of the key is
     // that of the state, times 2,048, and that of the item.
     fn slot_of(&self, state: u32, slots: u32) -> u32
@@ -125,7 +133,7 @@ impl ScaledItem<'_> {
 
 // Where a pair stands: the vertex that it has, or the empty slot that is for it.
 #[derive(Clone, Copy)]
-pub enum Place {
+enum Place {
     Known(VertexIndex),
     Free(usize),
 }
@@ -141,90 +149,87 @@ pub struct Numbered {
 #[derive(Clone, Copy, Debug, PartialEq, Eq)]
 pub struct NoRoom;
 
-// ---- the words of the slots: only these two functions index them
-
-// The word of the slots at an index.
-fn slot_word(work: &[u32], vertices: u32, index: usize) -> u32
-    requires { InSlots vertices index (length work.now) }
-    ensures { result ≡ word (slots_of work.now vertices) index }
-{
-    work[index]
+// The table of known pairs, in a work slice with so many vertices.
+// Kept (rule): the table stands in lent words: there is no heap, and so no map.
+#[derive(Clone, Copy)]
+pub struct Slots<'a> {
+    pub work: &'a [u32],
+    pub vertices: u32,
+    ghost large: { 8 * vertices ≤ length work.now },
 }
 
-// It becomes another.
-fn put_slot_word(work: &mut [u32], vertices: u32, index: usize, value: u32)
-    requires { InSlots vertices index (length work.old) }
-    ensures { work.new ≡ put_word 0 (3 * vertices) index value work.old }
-{
-    work[index] = value;
-}
+impl Slots<'_> {
+    // ---- one slot, one vertex
 
-// ---- one slot, one vertex
-
-// The key in a slot.
-fn key_in(work: &[u32], vertices: u32, slot: usize) -> u32
-    requires { (8 * vertices ≤ length work.now) × (slot < slot_count vertices) }
-    ensures { result ≡ key_in (slots_of work.now vertices) slot }
-{
-    slot_word(work, vertices, 2 * slot)
-}
-
-// What a slot holds: 0 if it is empty, else the number of a vertex plus one.
-// Kept (rule): it is a word of the slice that the host lends.
-fn held_in(work: &[u32], vertices: u32, slot: usize) -> u32
-    requires { (8 * vertices ≤ length work.now) × (slot < slot_count vertices) }
-    ensures { result ≡ held_in (slots_of work.now vertices) slot }
-{
-    slot_word(work, vertices, 2 * slot + 1)
-}
-
-// The state of a vertex's pair.
-pub fn state_of(work: &[u32], vertices: u32, vertex: VertexIndex) -> u32
-    requires { (8 * vertices ≤ length work.now) × (vertex.0 < vertices) }
-    ensures { result ≡ state_at work.now vertices vertex.0 }
-{
-    region_word(work, vertices, KEYS, vertex.0) / ITEMS
-}
-
-// The item of a vertex's pair.
-pub fn item_of(work: &[u32], vertices: u32, vertex: VertexIndex) -> u32
-    requires { (8 * vertices ≤ length work.now) × (vertex.0 < vertices) }
-    ensures { result ≡ item_at work.now vertices vertex.0 }
-{
-    region_word(work, vertices, KEYS, vertex.0) % ITEMS
-}
-
-// ---- all slots
-
-// Goes along the slots from `from` up to `end` until one has the key or is empty.
-fn probe(work: &[u32], vertices: u32, key: u32, from: usize, end: usize) -> Option<Place>
-    requires { (8 * vertices ≤ length work.now) × (end ≤ slot_count vertices) }
-    ensures { Probed (slots_of work.now vertices) from end key result }
-{
-    for slot in from..end {
-        let held = held_in(work, vertices, slot);
-        if held == 0 {
-            return Some(Place::Free(slot));
-        }
-        if key_in(work, vertices, slot) == key {
-            return Some(Place::Known(VertexIndex(held - 1)));
-        }
+    // The key in a slot.
+    fn key_in(&self, slot: usize) -> u32
+        requires { slot < slot_count self.now.vertices }
+        ensures { result ≡ key_in (slots_of self.now.work.now self.now.vertices) slot }
+    {
+        self.work[2 * slot]
     }
-    None
-}
 
-// Where a pair stands, searched from the slot of its key up to the last, and then from the first. It stands nowhere if
-// no slot is empty.
-fn find(work: &[u32], vertices: u32, known: u32, state: u32, item: ScaledItem<'_>) -> Option<Place>
-    requires { Asks work.now vertices known state item.number }
-    ensures { Finding work.now vertices known (key_of state item.entry.number) result }
-{
-    let key = state * ITEMS + item.number;
-    let slots = vertices + vertices / 2;
-    let home = item.slot_of(state, slots) as usize;
-    match probe(work, vertices, key, home, slots as usize) {
-        Some(place) => Some(place),
-        None => probe(work, vertices, key, 0, home),
+    // The vertex that a slot holds; None if it is empty.
+    fn held_in(&self, slot: usize) -> Option<VertexIndex>
+        requires { slot < slot_count self.now.vertices }
+        ensures { let held = held_in (slots_of self.now.work.now self.now.vertices) slot in
+            MatchOption result (held ≡ 0) (λ vertex. held ≡ vertex.0 + 1) }
+    {
+        let held = self.work[2 * slot + 1];
+        held.checked_sub(1).map(VertexIndex)
+    }
+
+    // The state of a vertex's pair.
+    pub fn state_of(&self, vertex: VertexIndex) -> u32
+        requires { vertex.0 < self.now.vertices }
+        ensures { result ≡ state_at self.now.work.now self.now.vertices vertex.0 }
+    {
+        region_word(self.work, self.vertices, Region::Keys, vertex.0) / ITEMS
+    }
+
+    // The item of a vertex's pair.
+    pub fn item_of(&self, vertex: VertexIndex) -> u32
+        requires { vertex.0 < self.now.vertices }
+        ensures { result ≡ item_at self.now.work.now self.now.vertices vertex.0 }
+    {
+        region_word(self.work, self.vertices, Region::Keys, vertex.0) % ITEMS
+    }
+
+    // ---- all slots
+
+    // Goes along the slots from `from` up to `end` until one has the key or is empty.
+    fn probe(&self, key: u32, from: usize, end: usize) -> Option<Place>
+        requires { end ≤ slot_count self.now.vertices }
+        ensures { Probed (slots_of self.now.work.now self.now.vertices) from end key result }
+    {
+        for slot in from..end {
+            let Some(vertex) = self.held_in(slot) else {
+                return Some(Place::Free(slot));
+            };
+            if self.key_in(slot) == key {
+                return Some(Place::Known(vertex));
+            }
+        }
+        None
+    }
+
+    // Where a pair stands, searched from the slot of its key up to the last, and then from the first. It stands nowhere
+    // if no slot is empty.
+    // Kept (no plainer): tried with or_else: the check infers no `ensures` for its closure, so that both clauses of
+    // `probe` would stand there again.
+    fn find(&self, state: u32, item: ScaledItem<'_>) -> Option<Place>
+        requires { (0 < self.now.vertices) × (self.now.vertices ≤ most_vertices) × (state < most_states)
+            × (item.number < 2048) }
+        ensures { (known : ℕ) → Asks self.now.work.now self.now.vertices known state item.entry.number
+            → Finding self.now.work.now self.now.vertices known (key_of state item.entry.number) result }
+    {
+        let key = item.key_of(state);
+        let slots = self.vertices + self.vertices / 2;
+        let home = item.slot_of(state, slots) as usize;
+        match self.probe(key, home, slots as usize) {
+            Some(place) => Some(place),
+            None => self.probe(key, 0, home),
+        }
     }
 }
 
@@ -239,16 +244,17 @@ pub fn number(
     requires { Asks work.old vertices known state item.number }
     ensures { Numbering work.old work.new vertices known (key_of state item.entry.number) result }
 {
-    match find(work, vertices, known, state, item) {
+    let slots = Slots { work, vertices };
+    match slots.find(state, item) {
         Some(Place::Known(vertex)) => Ok(Numbered { vertex, known }),
         Some(Place::Free(slot)) => {
             if known == vertices {
                 return Err(NoRoom);
             }
-            let key = state * ITEMS + item.number;
-            put_slot_word(work, vertices, 2 * slot, key);
-            put_slot_word(work, vertices, 2 * slot + 1, known + 1);
-            put_word(work, vertices, KEYS, known, key);
+            let key = item.key_of(state);
+            work[2 * slot] = key;
+            work[2 * slot + 1] = known + 1;
+            put_word(work, vertices, Region::Keys, known, key);
             Ok(Numbered {
                 vertex: VertexIndex(known),
                 known: known + 1,

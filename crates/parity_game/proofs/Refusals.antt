@@ -1,11 +1,11 @@
 -- The refusals 52 and 53 of a game as a program finds them, by the sizes that it has read. Assumes nothing.
-use Prim.Native.Nat.{ℕ, ◌+◌, ◌*◌, ◌<◌, ◌≤◌}
+use Prim.Native.Nat.{ℕ, ◌+◌, ◌*◌}
 use native.Mathlib.Omega.{arith}
 use mathlib.Core.Path.{◌≡◌, refl, sym, ap, ap₂, ◌∙◌, subst}
 use mathlib.Core.List.{List}
 use lib.ListN.{length}
-use lib.Dec.{ltb, leb}
-use borrow.Author.Tests.{le-leb, lt-leb}
+use mathlib.Core.Bool.{not}
+use lib.Dec.{eqb, ltb, leb}
 use Rattle.rules.specs.Answers.{Check}
 use Rattle.std.specs.declared.result.Result.TheVariants.{Ok}
 use Rattle.rules.specs.Answers.{fault}
@@ -14,8 +14,7 @@ use Rattle.rules.specs.Answers.{fault_if, and_then}
 use Rattle.rules.specs.Game.{vertex_columns, vertex_count, edges_in, initial_in}
 use Rattle.rules.specs.Refusal.{differ, fault_from, lower_fault, too_large}
 use Rattle.rules.specs.GameRefusal.{falls, refusal52, refusal53}
-use Rattle.tables.proofs.Faults.{if-true, if-false, then_fault, then_passed}
-use Rattle.tables.proofs.Choices.{differ_yes, differ_no}
+use Rattle.tables.proofs.Faults.{then_fault, then_passed, then_same}
 use Rattle.parity_game.proofs.Pools.{in_order_lem, if_before, if_past, from_before, from_past, then_before}
 
 -- ---- 52 and 53 in the order of the places, by the counts that were read
@@ -68,7 +67,7 @@ module _ (g : List ℕ) (n m : ℕ) (en : n ≡ vertex_count g) (em : m ≡ edge
       ∙ in_order_lem 2 begin (and_then owners targets) (if_past 2 53 _ _ (omega arith))
       (then_before 2 owners targets (from_before 2 53 _ _ (too_large g 2) (omega arith)) (from_before 2 53 _ _ (too_large g n) (omega arith))))
 
-  -- the answers of the program, one law for each, by the place of the first offset
+  -- the answers of the program, one law for each check that it makes, by the place of the first offset
 
   module _ (f : ℕ) (ef : f ≡ 3 + length vertex_columns * n) where
     read : refusal52 g
@@ -81,38 +80,50 @@ module _ (g : List ℕ) (n m : ℕ) (en : n ≡ vertex_count g) (em : m ≡ edge
         (and_then (fault_from 52 (p + 1) (p + n + 1) (falls g)) (fault_if 52 (p + n) (differ (word g (p + n)) m))))
         (sym ef) offsets_checked
 
-    pub first_offset : (word g f ≡ 0 → ⊥) → refusal52 g ≡ fault 52 f
-    first_offset h = read ∙ then_fault _ (if-true 52 _ (differ_yes h))
+    module _ {begin : Check} {w : ℕ} (ew : w ≡ word g f) (eb : begin ≡ fault_if 52 f (not (eqb w 0))) where
+      begun : refusal52 g
+          ≡ and_then begin
+          (and_then (fault_from 52 (f + 1) (f + n + 1) (falls g)) (fault_if 52 (f + n) (differ (word g (f + n)) m)))
+      unfolding differ
+      begun = read ∙ then_same _ (ap (λ (v : ℕ). fault_if 52 f (not (eqb v 0))) (sym ew) ∙ sym eb)
 
-    pub offset-falls : {k p : ℕ} → word g f ≡ 0 → fault_from 52 (f + 1) (f + n + 1) (falls g) ≡ fault k p
-        → refusal52 g ≡ fault k p
-    offset-falls h e = read ∙ then_passed _ (if-false 52 _ (differ_no h)) ∙ then_fault _ e
+      pub first_offset : {k p : ℕ} → begin ≡ fault k p → refusal52 g ≡ fault k p
+      first_offset e = begun ∙ then_fault _ e
 
-    pub last_offset : word g f ≡ 0 → fault_from 52 (f + 1) (f + n + 1) (falls g) ≡ Ok tt → (word g (f + n) ≡ m → ⊥)
-        → refusal52 g ≡ fault 52 (f + n)
-    last_offset h e l =
-        read ∙ then_passed _ (if-false 52 _ (differ_no h)) ∙ then_passed _ e ∙ if-true 52 _ (differ_yes l)
+      pub offset-falls : {rising : Check} {k p : ℕ} → begin ≡ Ok tt
+          → rising ≡ fault_from 52 (f + 1) (f + n + 1) (falls g) → rising ≡ fault k p → refusal52 g ≡ fault k p
+      offset-falls h r e = begun ∙ then_passed _ h ∙ then_fault _ (sym r ∙ e)
 
-    pub right_offsets : word g f ≡ 0 → fault_from 52 (f + 1) (f + n + 1) (falls g) ≡ Ok tt → word g (f + n) ≡ m
-        → refusal52 g ≡ Ok tt
-    right_offsets h e l =
-        read ∙ then_passed _ (if-false 52 _ (differ_no h)) ∙ then_passed _ e ∙ if-false 52 _ (differ_no l)
+      pub last_offset : {rising last : Check} {v : ℕ} → begin ≡ Ok tt
+          → rising ≡ fault_from 52 (f + 1) (f + n + 1) (falls g) → rising ≡ Ok tt → v ≡ word g (f + n)
+          → last ≡ fault_if 52 (f + n) (not (eqb v m)) → last ≡ refusal52 g
+      unfolding differ
+      last_offset h r e ev l =
+          l ∙ ap (λ (x : ℕ). fault_if 52 (f + n) (not (eqb x m))) ev
+          ∙ sym (begun ∙ then_passed _ h ∙ then_passed _ (sym r ∙ e))
 
-  pub wrong-initial : n ≤ initial_in g → refusal53 g ≡ fault 53 2
-  wrong-initial h = vertices_checked ∙ then_fault _ (if-true 53 2 (le-leb _ _ h))
+  module _ {begin : Check} {w : ℕ} (ew : w ≡ initial_in g) (eb : begin ≡ fault_if 53 2 (leb n w)) where
+    initial_checked : refusal53 g
+        ≡ and_then begin
+        (and_then (fault_from 53 (3 + 0 * n) (3 + 1 * n) (too_large g 2))
+        (fault_from 53 (edges + 0 * m) (edges + 1 * m) (too_large g n)))
+    initial_checked = vertices_checked ∙ then_same _ (ap (λ (v : ℕ). fault_if 53 2 (leb n v)) (sym ew) ∙ sym eb)
 
-  -- by the places where the owners and the targets begin and end
-  module _ (a b : ℕ) (ea : a ≡ 3 + 0 * n) (eb : b ≡ 3 + 1 * n) where
-    owners_read : fault_from 53 (3 + 0 * n) (3 + 1 * n) (too_large g 2) ≡ fault_from 53 a b (too_large g 2)
-    owners_read = ap₂ (λ (p q : ℕ). fault_from 53 p q (too_large g 2)) (sym ea) (sym eb)
+    pub wrong-initial : {k p : ℕ} → begin ≡ fault k p → refusal53 g ≡ fault k p
+    wrong-initial e = initial_checked ∙ then_fault _ e
 
-    pub wrong_owner : {k p : ℕ} → initial_in g < n → fault_from 53 a b (too_large g 2) ≡ fault k p
-        → refusal53 g ≡ fault k p
-    wrong_owner h e = vertices_checked ∙ then_passed _ (if-false 53 2 (lt-leb _ _ h)) ∙ then_fault _ (owners_read ∙ e)
+    -- by the places where the owners and the targets begin and end
+    module _ (a b : ℕ) (ea : a ≡ 3 + 0 * n) (ee : b ≡ 3 + 1 * n) where
+      owners_read : fault_from 53 (3 + 0 * n) (3 + 1 * n) (too_large g 2) ≡ fault_from 53 a b (too_large g 2)
+      owners_read = ap₂ (λ (p q : ℕ). fault_from 53 p q (too_large g 2)) (sym ea) (sym ee)
 
-    pub right_owners : (p q : ℕ) → p ≡ 4 + (length vertex_columns + 1) * n + 0 * m
-        → q ≡ 4 + (length vertex_columns + 1) * n + 1 * m
-        → initial_in g < n → fault_from 53 a b (too_large g 2) ≡ Ok tt → refusal53 g ≡ fault_from 53 p q (too_large g n)
-    right_owners p q ep eq h e =
-        vertices_checked ∙ then_passed _ (if-false 53 2 (lt-leb _ _ h)) ∙ then_passed _ (owners_read ∙ e)
-        ∙ ap₂ (λ (u v : ℕ). fault_from 53 u v (too_large g n)) (sym ep) (sym eq)
+      pub wrong_owner : {k p : ℕ} → begin ≡ Ok tt → fault_from 53 a b (too_large g 2) ≡ fault k p
+          → refusal53 g ≡ fault k p
+      wrong_owner h e = initial_checked ∙ then_passed _ h ∙ then_fault _ (owners_read ∙ e)
+
+      pub right_owners : (p q : ℕ) → p ≡ 4 + (length vertex_columns + 1) * n + 0 * m
+          → q ≡ 4 + (length vertex_columns + 1) * n + 1 * m
+          → begin ≡ Ok tt → fault_from 53 a b (too_large g 2) ≡ Ok tt → refusal53 g ≡ fault_from 53 p q (too_large g n)
+      right_owners p q ep eq h e =
+          initial_checked ∙ then_passed _ h ∙ then_passed _ (owners_read ∙ e)
+          ∙ ap₂ (λ (u v : ℕ). fault_from 53 u v (too_large g n)) (sym ep) (sym eq)

@@ -1,13 +1,14 @@
-// The words of a parity game: where they stand, the check of a game that is handed over, and the first words of a game
-// that is written.
+// The words of a parity game: where they stand, a game as it is read, the check of one that is handed over, and the
+// first words of a game that is written.
 #![tactic(auto)]
 
 ghost use Rattle.std.specs.Prelude.{◌≡◌, [], ◌∷◌, ◌+◌, ◌*◌, ◌<◌, ◌≤◌, length};
 ghost use Rattle.rules.specs.Game.{vertex_columns, edge_columns, game_words, vertex_count, game_end, vertex_word};
-ghost use Rattle.rules.specs.Game.{edges_from};
+ghost use Rattle.rules.specs.Game.{edges_from, edge_words_in};
 ghost use Rattle.rules.specs.Refusal.{fault_from, refusal1};
 ghost use Rattle.rules.specs.GameRefusal.{falls, above_room, refusal51, refusal52, refusal53, game_refusal};
 ghost use Rattle.words.specs.Stretches.{Wrote};
+ghost use Rattle.parity_game.specs.Readable.{Readable};
 ghost use Rattle.parity_game.specs.Sizes.{Sizes};
 
 use rules::{Fault, Room};
@@ -17,8 +18,18 @@ const MOST_VERTICES: usize = 1_048_576;
 
 const MOST_EDGES: usize = 4_194_304;
 
-// The columns of the vertices are owners and priorities, those of the edges targets and counts.
+// The columns of the vertices.
+// Kept (no plainer): a column is a number: the rules list the columns, and the writers go over them by a range.
+pub const OWNER: usize = 0;
+
+pub const PRIORITY: usize = 1;
+
 const VERTEX_COLUMNS: usize = 2;
+
+// The columns of the edges.
+pub const TARGET: usize = 0;
+
+pub const COUNT: usize = 1;
 
 const EDGE_COLUMNS: usize = 2;
 
@@ -92,6 +103,43 @@ pub fn edges_from(game: &[u32], column: usize, vertex: usize) -> usize
     edge_column_at(vertices, edges, column) + words::at(game, offsets_at(vertices) + vertex)
 }
 
+// ---- a game as it is read
+
+// The words of a game, which are lent: whoever holds one need not ask where they end, nor where the edges of a vertex
+// do.
+#[derive(Clone, Copy)]
+pub struct Game<'a> {
+    pub words: &'a [u32],
+    ghost readable: { Readable words.now },
+}
+
+impl<'a> Game<'a> {
+    // How many vertices it has.
+    pub fn vertices(&self) -> usize
+        ensures { (result ≡ vertex_count self.now.words.now) × (result < 4294967296) }
+    {
+        words::at(self.words, 0)
+    }
+
+    // The word of a vertex in a column.
+    pub fn vertex_word(&self, column: usize, vertex: usize) -> usize
+        requires { (column < length vertex_columns) × (vertex < vertex_count self.now.words.now) }
+        ensures { result ≡ vertex_word self.now.words.now column vertex }
+    {
+        vertex_word(self.words, column, vertex)
+    }
+
+    // The words of a vertex's edges in a column.
+    pub fn edge_words(&self, column: usize, vertex: usize) -> &'a [u32]
+        requires { (column < length edge_columns) × (vertex < vertex_count self.now.words.now) }
+        ensures { result.now ≡ edge_words_in self.now.words.now column vertex }
+    {
+        let first = edges_from(self.words, column, vertex);
+        let end = edges_from(self.words, column, vertex + 1);
+        &self.words[first..end]
+    }
+}
+
 // ---- the check
 
 // Fault 52 at the first of the words from `first` up to `end` that is less than the one before it.
@@ -121,16 +169,10 @@ pub fn above_room(vertices: usize, edges: usize) -> bool
 pub fn check_room(room: Room) -> Result<(), Fault>
     ensures { result ≡ refusal1 room }
 {
-    if room.vertices < 1
+    let outside = room.vertices < 1
         || room.edges < 1
-        || above_room(room.vertices as usize, room.edges as usize)
-    {
-        return Err(Fault {
-            number: 1,
-            place: 0,
-        });
-    }
-    Ok(())
+        || above_room(room.vertices as usize, room.edges as usize);
+    faults::fault_if(1, 0, outside)
 }
 
 // 51: the length and the sizes.
@@ -138,21 +180,13 @@ pub fn check_room(room: Room) -> Result<(), Fault>
 fn check_sizes(game: &[u32]) -> Result<(), Fault>
     ensures { result ≡ refusal51 game.now }
 {
-    if game.len() < 3 {
-        return Err(Fault {
-            number: 51,
-            place: 0,
-        });
-    }
+    faults::fault_if(51, 0, game.len() < 3)?;
     let vertices = words::at(game, 0);
     let edges = words::at(game, 1);
-    if game.len() != game_words(vertices, edges) || vertices < 1 || above_room(vertices, edges) {
-        return Err(Fault {
-            number: 51,
-            place: 0,
-        });
-    }
-    Ok(())
+    let other = game.len() != game_words(vertices, edges)
+        || vertices < 1
+        || above_room(vertices, edges);
+    faults::fault_if(51, 0, other)
 }
 
 // 52: the offsets.
@@ -164,20 +198,9 @@ fn check_offsets(game: &[u32]) -> Result<(), Fault>
     let edges = words::at(game, 1);
     let first = offsets_at(vertices);
     let last = first + vertices;
-    if words::at(game, first) != 0 {
-        return Err(Fault {
-            number: 52,
-            place: first as u32,
-        });
-    }
+    faults::fault_if(52, first as u32, words::at(game, first) != 0)?;
     check_rising(game, first + 1, last + 1)?;
-    if words::at(game, last) != edges {
-        return Err(Fault {
-            number: 52,
-            place: last as u32,
-        });
-    }
-    Ok(())
+    faults::fault_if(52, last as u32, words::at(game, last) != edges)
 }
 
 // 53: the initial vertex, the owners and the targets.
@@ -187,17 +210,12 @@ fn check_vertices(game: &[u32]) -> Result<(), Fault>
 {
     let vertices = words::at(game, 0);
     let edges = words::at(game, 1);
-    if vertices <= words::at(game, 2) {
-        return Err(Fault {
-            number: 53,
-            place: 2,
-        });
-    }
-    let first = vertex_column_at(vertices, 0);
-    let end = vertex_column_at(vertices, 1);
+    faults::fault_if(53, 2, vertices <= words::at(game, 2))?;
+    let first = vertex_column_at(vertices, OWNER);
+    let end = vertex_column_at(vertices, PRIORITY);
     faults::check_below(game, first, end, 2, 53)?;
-    let target = edge_column_at(vertices, edges, 0);
-    let past = edge_column_at(vertices, edges, 1);
+    let target = edge_column_at(vertices, edges, TARGET);
+    let past = edge_column_at(vertices, edges, COUNT);
     faults::check_below(game, target, past, vertices, 53)
 }
 

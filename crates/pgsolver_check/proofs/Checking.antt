@@ -2,22 +2,27 @@
 use Prim.Native.Nat.{ℕ, suc, ◌+◌, ◌≤◌, ◌<◌}
 use native.Mathlib.Omega.{arith}
 use mathlib.Core.Path.{◌≡◌, refl, sym, ap, ◌∙◌, subst}
-use mathlib.Core.Bool.{Bool, true, false, not, ◌&&◌, ◌||◌}
+use mathlib.Core.Bool.{Bool, true, false, not, ◌&&◌, ◌||◌, true≢false}
 use mathlib.Core.List.{List, [], ◌∷◌, map}
 use mathlib.Core.Logic.{inl, inr}
-use mathlib.Core.Option.{none, some}
+use mathlib.Core.Option.{some}
 use lib.ListN.{length}
 use lib.Dec.{eqb, ltb}
-use borrow.Author.Tests.{ne_eqb, lt-ltb, le-ltb, ltb-true, ltb-false, eqb-true}
-use Rattle.std.specs.declared.result.Result.TheVariants.{Ok}
-use Rattle.rules.specs.Answers.{fault}
+use borrow.Author.Tests.{eq-eqb, ne_eqb, lt-ltb, le-ltb, ltb-true, ltb-false, eqb-true}
+use Rattle.std.specs.Prelude.{Result, Some, None}
+use Rattle.std.specs.declared.option.Option.{Option as Answer}
+use Rattle.std.specs.Option.{ok_or}
+use Rattle.std.specs.Result.{IsErrAnd}
+use Rattle.std.specs.declared.result.Result.TheVariants.{Ok, Err}
+use Rattle.rules.specs.Answers.{Check, fault}
 use Rattle.rules.specs.Lists.{In, Distinct, from, largest}
-use Rattle.rules.specs.Words.{room_of}
+use Rattle.rules.specs.declared.Room.{Room}
+use Rattle.rules.specs.declared.Fault.{Fault}
 use Rattle.rules.specs.Answers.{fault_if, and_then}
 use Rattle.rules.specs.Game.{edge_count}
 use Rattle.lists.proofs.Members.{map_in, in_map}
 use Rattle.lists.proofs.Tests.{or_left, or_right, or-false, and-true}
-use Rattle.tables.proofs.Faults.{if-true, if_passed}
+use Rattle.tables.proofs.Faults.{if-true, if_passed, passed_not_fault}
 use Rattle.restrictions.proofs.Kept.{from_distinct}
 use Rattle.rules.specs.Pgsolver.{SolverLine, SolverText}
 use Rattle.rules.specs.PgsolverParse.{parse}
@@ -29,12 +34,41 @@ use Rattle.pgsolver_scan.specs.Told.{saturated}
 use Rattle.pgsolver_check.specs.declared.Found.{Found}
 use Rattle.pgsolver_check.specs.Lines.{solver_text, lines_in, or_none, lines_from, top_of, tops_of, ranks_of}
 use Rattle.pgsolver_check.specs.Lines.{in_order, Readable, Narrow}
+use Rattle.pgsolver_check.specs.declared.Numbering.{Numbering}
+use Rattle.pgsolver_check.specs.declared.Numbering.TheVariants.{InOrder}
+use Rattle.pgsolver_check.specs.Numbers.{in_turn, apart}
 use Rattle.pgsolver_check.specs.Windows.{Apart}
-use Rattle.pgsolver_check.specs.Survey.{Seen}
+use Rattle.pgsolver_check.specs.Survey.{Seen, ToldSurvey}
 use Rattle.pgsolver_check.specs.Plans.{Planned}
 use Rattle.pgsolver_check.proofs.Bounding.{in_largest}
 use Rattle.pgsolver_check.proofs.Walking.{number_top, successor_top, exactly}
 use Rattle.pgsolver_check.proofs.Windowing.{some_same_number}
+
+-- ---- a fault that is handed on
+
+pub handed_on : {A : Type 0} (r : Result A Fault) (f : Fault) → IsErrAnd r (λ g. g ≡ f) → r ≡ Err f
+handed_on (Ok a) f e = absurd e
+handed_on (Err g) f e = ap Err e
+
+-- a test found a fault, or passed
+pub found_fault : (n : ℕ) {bad : Bool} {r : Check} {f : Fault} → r ≡ fault_if n 0 bad → r ≡ Err f
+    → (bad ≡ true) × (Err f ≡ fault_if n 0 (not false))
+unfolding fault_if
+found_fault n {bad = true} e g = (refl, sym g ∙ e)
+found_fault n {bad = false} e g = absurd (passed_not_fault (sym e ∙ g))
+
+pub found_none : (n : ℕ) {bad : Bool} {r : Check} {u : Unit {0}} → r ≡ fault_if n 0 bad → r ≡ Ok u → bad ≡ false
+found_none n {bad} e g = if_passed n 0 bad (sym e ∙ g)
+
+pub unequal : (a b : ℕ) → not (eqb a b) ≡ true → ¬ (a ≡ b)
+unequal a b e f = true≢false (sym e ∙ ap not (eq-eqb a b f))
+
+pub equal : (a b : ℕ) → not (eqb a b) ≡ false → a ≡ b
+equal a b e = eqb-true a b (turn (eqb a b) e)
+  where
+    turn : (c : Bool) → not c ≡ false → c ≡ true
+    turn true e = refl
+    turn false e = absurd (true≢false e)
 
 -- ---- lines in the order of their numbers
 
@@ -173,7 +207,7 @@ module _ {text : List ℕ} {found : Found} (s : Seen text found) (small : length
             exact = omega (arith, seen_low, few);
           }
 
-      numbers : (b : Bool) → b ≡ different (numbers_of t.lines) → refusal92 t ≡ fault_if 92 0 (not b)
+      pub numbers : (b : Bool) → b ≡ different (numbers_of t.lines) → refusal92 t ≡ fault_if 92 0 (not b)
       unfolding fault_if
       numbers true f =
           passes92 t
@@ -187,22 +221,25 @@ module _ {text : List ℕ} {found : Found} (s : Seen text found) (small : length
           })
       numbers false f = same_number t (sym f)
 
-      pub numbers_told : (b : Bool) → b ≡ different (numbers_of (lines_from text found.first)) → refusal92 t
-          ≡ fault_if 92 0 (not b)
-      numbers_told b f = numbers b (f ∙ ap (λ (ls : List SolverLine). different (numbers_of ls)) seen_lines)
-
-      pub first_apart : found.apart ≡ true → Apart 0 (numbers_of (lines_from text found.first))
+      pub first_apart : apart found.numbering ≡ true → Apart 0 (numbers_of (lines_from text found.first))
       first_apart f = subst (λ (ls : List SolverLine). Apart 0 (numbers_of ls)) (sym seen_lines) (s.new f)
 
-      pub numbers_again : found.apart ≡ false → refusal92 t ≡ fault_if 92 0 (not false)
-      numbers_again f = numbers false (some_same_number (numbers_of t.lines) (s.again f))
+      differ : different (numbers_of (lines_from text found.first)) ≡ different (numbers_of t.lines)
+      differ = ap (λ (ls : List SolverLine). different (numbers_of ls)) seen_lines
 
-      pub numbers_ordered : found.ordered ≡ true → refusal92 t ≡ fault_if 92 0 (not true)
-      numbers_ordered o =
-          numbers true
-          (sym (distinct_different (numbers_of t.lines)
-          (subst Distinct (sym (order_numbers 0 t.lines (sym s.order ∙ o)))
-          (from_distinct 0 (length t.lines)))))
+      pub none_same : (b : Bool) → b ≡ different (numbers_of (lines_from text found.first)) → b ≡ different (numbers_of t.lines)
+      none_same b e = e ∙ differ
+
+      pub in_order_different : (n : Numbering) → found.numbering ≡ n → n ≡ InOrder → true ≡ different (numbers_of t.lines)
+      unfolding apart in_turn
+      in_order_different n e f =
+          let i = e ∙ f in
+          sym (distinct_different (numbers_of t.lines)
+          (subst Distinct (sym (order_numbers 0 t.lines (sym (s.order (ap apart i)) ∙ ap in_turn i)))
+          (from_distinct 0 (length t.lines))))
+
+      pub repeated_same : apart found.numbering ≡ false → false ≡ different (numbers_of t.lines)
+      repeated_same f = some_same_number (numbers_of t.lines) (s.again f)
 
   -- ---- 93
 
@@ -226,14 +263,20 @@ module _ {text : List ℕ} {found : Found} (s : Seen text found) (small : length
           exact = omega (arith, ap tops_of seen_lines, right_low, few, s.many, given.long, right_highest);
         }
 
-    module _ (v e : ℕ) where
+    module _ (room : Room) where
+      abbrev v : ℕ
+      v = room.vertices
+
+      abbrev e : ℕ
+      e = room.edges
+
       abbrev ranked : Bool
       ranked = all (λ l. ltb l.priority 4_294_967_296) t.lines
 
       abbrev beyond : Bool
       beyond = ltb e (edge_count (map vertex_of t.lines))
 
-      pub beyond_vertices : v ≤ found.highest → refusal93 (room_of v e) t ≡ fault_if 93 0 (not false)
+      pub beyond_vertices : v ≤ found.highest → refusal93 room t ≡ fault_if 93 0 (not false)
       unfolding refusal93 fault_if
       beyond_vertices h = if-true 93 0
           (or_left (not ranked || beyond) (lt-ltb v (suc t.highest) (omega (arith, right_highest))))
@@ -252,7 +295,7 @@ module _ {text : List ℕ} {found : Found} (s : Seen text found) (small : length
                     (all_holds (λ l. ltb l.priority 4_294_967_296) t.lines p x m),
               )
 
-      pub beyond_rank : 4294967295 < found.rank → refusal93 (room_of v e) t ≡ fault_if 93 0 (not false)
+      pub beyond_rank : 4294967295 < found.rank → refusal93 room t ≡ fault_if 93 0 (not false)
       unfolding refusal93 fault_if
       beyond_rank h = if-true 93 0 (or_right (ltb v (suc t.highest)) (or_left beyond (go ranked refl)))
         where
@@ -278,7 +321,7 @@ module _ {text : List ℕ} {found : Found} (s : Seen text found) (small : length
                   (map_in (λ (l : SolverLine). l.priority) l t.lines i),
             ))
 
-        edges : (b : Bool) → b ≡ not beyond → refusal93 (room_of v e) t ≡ fault_if 93 0 (not b)
+        edges : (b : Bool) → b ≡ not beyond → refusal93 room t ≡ fault_if 93 0 (not b)
         unfolding refusal93
         edges b f =
             rw (
@@ -301,11 +344,11 @@ module _ {text : List ℕ} {found : Found} (s : Seen text found) (small : length
             }
 
         pub edges_told : (b : Bool) → b ≡ not (ltb e (edge_count (map vertex_of (lines_from text found.first))))
-            → refusal93 (room_of v e) t ≡ fault_if 93 0 (not b)
+            → refusal93 room t ≡ fault_if 93 0 (not b)
         edges_told b f = edges b
             (f ∙ ap (λ (ls : List SolverLine). not (ltb e (edge_count (map vertex_of ls)))) seen_lines)
 
-        pub listed_fits : found.listed ≤ e → refusal93 (room_of v e) t ≡ fault_if 93 0 (not true)
+        pub listed_fits : found.listed ≤ e → refusal93 room t ≡ fault_if 93 0 (not true)
         listed_fits h =
             edges true
             (sym (ap not (le-ltb e (edge_count (map vertex_of t.lines))
@@ -313,64 +356,81 @@ module _ {text : List ℕ} {found : Found} (s : Seen text found) (small : length
 
 -- ---- the plan
 
-pub refused91 : (text : List ℕ) (v e : ℕ) → parse text ≡ none → text_refusal (room_of v e) (parse text) ≡ fault 91 0
-unfolding text_refusal
-refused91 text v e p = rw p refl
+found_or : Found → Result Found Fault → Found
+found_or found (Ok x) = x
+found_or found (Err f) = found
 
-module _ {text : List ℕ} {found : Found} (s : Seen text found) (v e : ℕ) where
-  pub refused92 : {b : Bool} → refusal92 (solver_text text) ≡ fault_if 92 0 (not b) → b ≡ false
-      → text_refusal (room_of v e) (parse text) ≡ fault 92 0
-  unfolding text_refusal and_then fault_if
-  refused92 f g = rw (s.says, f, g) refl
+fault_or : Fault → Result Found Fault → Fault
+fault_or f (Ok x) = f
+fault_or f (Err g) = g
 
-  pub passed_numbers : {b : Bool} → refusal92 (solver_text text) ≡ fault_if 92 0 (not b) → b ≡ true
-      → refusal92 (solver_text text) ≡ Ok tt
-  unfolding fault_if
-  passed_numbers f g = f ∙ ap (λ (b : Bool). fault_if 92 0 (not b)) g
+no-fault : {x : Found} {f : Fault} → Ok x ≡ Err f → ⊥
+no-fault e =
+    let z : ◌≡◌ {A = ℕ} 0 1 = cc in
+    absurd (omega arith)
 
-  module _ (passed : refusal92 (solver_text text) ≡ Ok tt) where
-    pub refused93 : {b : Bool} → refusal93 (room_of v e) (solver_text text) ≡ fault_if 93 0 (not b) → b ≡ false
-        → text_refusal (room_of v e) (parse text) ≡ fault 93 0
-    unfolding text_refusal and_then fault_if
-    refused93 f g = rw (s.says, passed, f, g) refl
+-- the survey found this, or the text is refused
+pub surveyed_found : {text : List ℕ} (m : Answer Found) {r : Result Found Fault} {found : Found}
+    → ToldSurvey m text → r ≡ ok_or m (record { number = 91; place = 0 }) → r ≡ Ok found → Seen text found
+unfolding found_or
+surveyed_found {text} (Some x) {found = found} s e g = subst (Seen text) (ap (found_or found) (sym e ∙ g)) s
+surveyed_found None s e g = absurd (no-fault (sym g ∙ e))
 
-    pub planned : length text < 18446744073709551616 → {b : Bool}
-        → refusal93 (room_of v e) (solver_text text) ≡ fault_if 93 0 (not b) → b ≡ true
-        → Planned text v e (record { highest = found.highest; first = found.first; ordered = found.ordered })
-    planned small f g =
-        let roomy : refusal93 (room_of v e) (solver_text text) ≡ Ok tt = f ∙ pass g in
-        let (a, b, c) = parts roomy in
-        record {
-          says = s.says;
-          numbered = passed;
-          roomy = roomy;
-          header = right_highest s small passed;
-          fits = omega (arith, a, right_highest s small passed);
-          lines = seen_lines s small;
-          readable = right_readable s small passed;
-          low = right_low s small passed;
-          ranked = omega (arith, low_rank s small passed v e b);
-          held = c;
-          order = s.order;
-        }
-      where
-        pass : {b : Bool} → b ≡ true → fault_if 93 0 (not b) ≡ Ok tt
-        pass g = unfold fault_if in ap (λ (b : Bool). fault_if 93 0 (not b)) g
+pub refused91 : (text : List ℕ) (room : Room) (m : Answer Found) {r : Result Found Fault} {f : Fault} → ToldSurvey m text
+    → r ≡ ok_or m (record { number = 91; place = 0 }) → r ≡ Err f → text_refusal room (parse text) ≡ Err f
+unfolding text_refusal fault_or
+refused91 text room (Some x) s e g = absurd (no-fault (sym e ∙ g))
+refused91 text room None {f = f} s e g = rw s (ap Err (ap (fault_or f) (sym e ∙ g)))
 
-        parts : refusal93 (room_of v e) (solver_text text) ≡ Ok tt
-            → (suc (solver_text text).highest ≤ v) × (all (λ l. ltb l.priority 4_294_967_296) (lines_in text) ≡ true)
-            × (edge_count (map vertex_of (lines_in text)) ≤ e)
-        parts r =
-            let q : (ltb v (suc (solver_text text).highest) ||
-            (not (all (λ l. ltb l.priority 4_294_967_296) (lines_in text))
-            || ltb e (edge_count (map vertex_of (lines_in text))))) ≡ false = if_passed 93 0 _ (unfold refusal93 in r) in
-            let (a, b) = or-false (ltb v (suc (solver_text text).highest)) _ q in
-            let (c, d) = or-false (not (all (λ l. ltb l.priority 4_294_967_296) (lines_in text))) _ b in (
-              ltb-false v (suc (solver_text text).highest) a,
-              on (all (λ l. ltb l.priority 4_294_967_296) (lines_in text)) c,
-              ltb-false e (edge_count (map vertex_of (lines_in text))) d,
-            )
-          where
-            on : (b : Bool) → not b ≡ false → b ≡ true
-            on true e = refl
-            on false e = absurd (mathlib.Core.Bool.true≢false e)
+module _ {text : List ℕ} (room : Room) where
+  module _ {found : Found} (s : Seen text found) where
+    pub refused92 : {f : Fault} → Err f ≡ refusal92 (solver_text text) → text_refusal room (parse text) ≡ Err f
+    unfolding text_refusal and_then
+    refused92 e = rw (s.says, sym e) refl
+
+    module _ (passed : refusal92 (solver_text text) ≡ Ok tt) where
+      pub refused93 : {f : Fault} → Err f ≡ refusal93 room (solver_text text) → text_refusal room (parse text) ≡ Err f
+      unfolding text_refusal and_then
+      refused93 e = rw (s.says, passed, sym e) refl
+
+      pub planned : length text < 18446744073709551616 → refusal93 room (solver_text text) ≡ Ok tt
+          → Planned text room (record { highest = found.highest; first = found.first; numbering = found.numbering })
+      planned small roomy =
+          let (a, b, c) = parts roomy in
+          record {
+            says = s.says;
+            numbered = passed;
+            roomy = roomy;
+            header = right_highest s small passed;
+            fits = omega (arith, a, right_highest s small passed);
+            lines = seen_lines s small;
+            readable = right_readable s small passed;
+            low = right_low s small passed;
+            ranked = omega (arith, low_rank s small passed room b);
+            held = c;
+            order = s.order (distinct (apart found.numbering) refl);
+          }
+        where
+          distinct : (b : Bool) → apart found.numbering ≡ b → apart found.numbering ≡ true
+          distinct true e = e
+          distinct false e = absurd (s.again e (passed92 (solver_text text) passed).apart)
+
+          parts : refusal93 room (solver_text text) ≡ Ok tt
+              → (suc (solver_text text).highest ≤ room.vertices)
+              × (all (λ l. ltb l.priority 4_294_967_296) (lines_in text) ≡ true)
+              × (edge_count (map vertex_of (lines_in text)) ≤ room.edges)
+          parts r =
+              let q : (ltb room.vertices (suc (solver_text text).highest) ||
+              (not (all (λ l. ltb l.priority 4_294_967_296) (lines_in text))
+              || ltb room.edges (edge_count (map vertex_of (lines_in text))))) ≡ false
+              = if_passed 93 0 _ (unfold refusal93 in r) in
+              let (a, b) = or-false (ltb room.vertices (suc (solver_text text).highest)) _ q in
+              let (c, d) = or-false (not (all (λ l. ltb l.priority 4_294_967_296) (lines_in text))) _ b in (
+                ltb-false room.vertices (suc (solver_text text).highest) a,
+                on (all (λ l. ltb l.priority 4_294_967_296) (lines_in text)) c,
+                ltb-false room.edges (edge_count (map vertex_of (lines_in text))) d,
+              )
+            where
+              on : (b : Bool) → not b ≡ false → b ≡ true
+              on true e = refl
+              on false e = absurd (true≢false e)

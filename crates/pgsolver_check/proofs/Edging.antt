@@ -14,7 +14,7 @@ use Rattle.rules.specs.Pgsolver.{SolverLine}
 use Rattle.rules.specs.PgsolverReading.{vertex_of}
 use Rattle.pgsolver_scan.specs.Told.{past_line}
 use Rattle.pgsolver_check.specs.Lines.{lines_from, Readable}
-use Rattle.pgsolver_check.specs.Successors.{list_at}
+use Rattle.pgsolver_scan.specs.Successors.{list_at}
 use Rattle.pgsolver_check.proofs.Bounding.{no_edges, edges-of}
 use Rattle.pgsolver_check.proofs.Walking.{Walk, walk_start, walk_done, walk-next, walk_all, walk_more}
 

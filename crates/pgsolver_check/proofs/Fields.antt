@@ -16,7 +16,7 @@ use Rattle.pgsolver_scan.specs.declared.Number.{Number}
 use Rattle.pgsolver_scan.specs.Told.{saturated, since, past_line, Told, StandsField}
 use Rattle.pgsolver_scan.proofs.SameLine.{field-line}
 use Rattle.pgsolver_check.specs.Lines.{lines_from, ranks_of, Readable, Narrow, Body}
-use Rattle.pgsolver_check.specs.Successors.{value_or, list_at, Listed}
+use Rattle.pgsolver_scan.specs.Successors.{value_or, list_at, Listed}
 use Rattle.pgsolver_check.proofs.Bounding.{in_largest}
 use Rattle.pgsolver_check.proofs.Walking.{Walk, line_body, number_top, successor_top, walk-next, walk_among}
 use Rattle.pgsolver_check.proofs.Walking.{walk_number}

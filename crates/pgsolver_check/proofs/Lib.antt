@@ -7,3 +7,4 @@ pub mod Counting
 pub mod Fields
 pub mod Edging
 pub mod Checking
+pub mod Numbers

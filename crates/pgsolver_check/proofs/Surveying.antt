@@ -27,6 +27,8 @@ use Rattle.pgsolver_scan.proofs.Reading.{then_none}
 use Rattle.pgsolver_check.specs.declared.Found.{Found}
 use Rattle.pgsolver_check.specs.Lines.{text_or, solver_text, lines_at, top_of, tops_of, ranks_of, in_order}
 use Rattle.pgsolver_check.specs.Windows.{Apart}
+use Rattle.pgsolver_check.specs.declared.Numbering.TheVariants.{InOrder}
+use Rattle.pgsolver_check.specs.Numbers.{in_turn, apart}
 use Rattle.pgsolver_check.specs.Survey.{Addable, Added, Seen}
 use Rattle.pgsolver_check.proofs.Bounding.{largest_more, tops_more, no_edges, Enough, enough_more}
 use Rattle.pgsolver_check.proofs.Collecting.{Collected, collected_none, collected_twice, collected_more}
@@ -211,10 +213,9 @@ pub record Surveying (text : List ℕ) (highest first p : ℕ) (found : Found) (
   pub tops : found.top ≡ saturated (tops_of ls)
   pub ranks : found.rank ≡ saturated (ranks_of ls)
   pub enough : Enough highest ls found.listed
-  pub order : found.ordered ≡ in_order 0 ls
-  pub long : length bits ≡ 32_768
-  pub new : found.apart ≡ true → Collected 0 (numbers_of ls) bits
-  pub again : found.apart ≡ false → ¬ Distinct (numbers_of ls)
+  pub order : apart found.numbering ≡ true → in_turn found.numbering ≡ in_order 0 ls
+  pub new : apart found.numbering ≡ true → Collected 0 (numbers_of ls) bits
+  pub again : apart found.numbering ≡ false → ¬ Distinct (numbers_of ls)
 
 pub surveying_start : (text : List ℕ) (highest first : ℕ) {bits : List ℕ} → first ≤ length text
     → length text < 18446744073709551616 → Holds bits []
@@ -225,10 +226,9 @@ pub surveying_start : (text : List ℕ) (highest first : ℕ) {bits : List ℕ} 
       top = 0;
       rank = 0;
       listed = 0;
-      ordered = true;
-      apart = true;
+      numbering = InOrder;
     }) bits
-unfolding with_lines tops_of ranks_of in_order largest saturated
+unfolding with_lines tops_of ranks_of in_order largest saturated in_turn apart
 surveying_start text highest first h small k =
     record {
       ls = [];
@@ -242,8 +242,7 @@ surveying_start text highest first h small k =
       tops = omega arith;
       ranks = omega arith;
       enough = λ a b. omega (arith, no_edges);
-      order = refl;
-      long = k.long;
+      order = λ e. refl;
       new = λ e. collected_none 0 k;
       again = λ e. absurd (true≢false e);
     }
@@ -308,19 +307,18 @@ module _ {text : List ℕ} {highest first p : ℕ} {found : Found} {bits : List 
           );
           enough = subst (Enough highest (s.ls ++ (x ∷ []))) (sym listed)
               (enough_more highest s.ls x row c s.enough);
-          order = g.order ∙ ap (λ (b : Bool). b && eqb row.number found.lines) s.order
+          order = λ f. g.order f ∙ ap (λ (b : Bool). b && eqb row.number found.lines) (s.order (g.new f).0)
               ∙ ap (λ (b : Bool). in_order 0 s.ls && b)
               (same_turn x.number row.number found.lines c.number
               (omega (arith, s.few, s.within, s.small))
               ∙ ap (eqb x.number) (let z : found.lines ≡ 0 + length s.ls = omega (arith, s.many) in z))
               ∙ sym (order_more 0 s.ls x);
-          long = g.long;
           new = λ f. subst (λ (ns : List ℕ). Collected 0 ns bits') (sym numbers)
               (collected_more (s.new (g.new f).0) x.number (noted_exact c.number (g.new f).1));
-          again = λ f k. twice_seen f x c found.apart refl (subst Distinct numbers k);
+          again = λ f k. twice_seen f x c (apart found.numbering) refl (subst Distinct numbers k);
         }
       where
-        twice_seen : found'.apart ≡ false → (x : SolverLine) → RowAt text x row → (b : Bool) → found.apart ≡ b
+        twice_seen : apart found'.numbering ≡ false → (x : SolverLine) → RowAt text x row → (b : Bool) → apart found.numbering ≡ b
             → ¬ Distinct (numbers_of s.ls ++ (x.number ∷ []))
         twice_seen f x c true z k = collected_twice (s.new z) x.number [] (again_exact c.number (g.again f z)) k
         twice_seen f x c false z k = s.again z (distinct_before (numbers_of s.ls) (x.number ∷ []) k)
@@ -370,7 +368,7 @@ module _ (text : List ℕ) (h first : ℕ) (a : Told (Some (record { value = h; 
         ranks = s.ranks ∙ ap (λ (ls : List SolverLine). saturated (ranks_of ls)) lines;
         enough = λ low small. subst (λ (ls : List SolverLine). Enough h ls found.listed) lines s.enough
             (omega (arith, s.header, low)) (omega (arith, s.header, small));
-        order = s.order ∙ ap (in_order 0) lines;
+        order = λ f. s.order f ∙ ap (in_order 0) lines;
         new = λ f. subst (λ (ls : List SolverLine). Apart 0 (numbers_of ls)) lines (s.new f).apart;
         again = λ f. subst (λ (ls : List SolverLine). ¬ Distinct (numbers_of ls)) lines (s.again f);
       }

@@ -1,5 +1,6 @@
 pub mod Lines
 pub mod Windows
 pub mod Survey
-pub mod Successors
 pub mod Plans
+pub mod Numbers
+pub mod Facts

@@ -7,12 +7,12 @@ use Rattle.rules.specs.Lists.{Distinct}
 use Rattle.rules.specs.Game.{edge_count}
 use Rattle.rules.specs.PgsolverParse.{parse}
 use Rattle.rules.specs.PgsolverReading.{vertex_of, numbers_of}
-use Rattle.bitmap.specs.Marks.{bitmap_words}
 use Rattle.pgsolver_scan.specs.declared.VertexLine.{VertexLine}
 use Rattle.pgsolver_scan.specs.Told.{saturated}
 use Rattle.pgsolver_check.specs.declared.Found.{Found}
 use Rattle.pgsolver_check.specs.Lines.{solver_text, lines_in, lines_at, tops_of, ranks_of, in_order}
 use Rattle.pgsolver_check.specs.Windows.{Apart, Noted, Again}
+use Rattle.pgsolver_check.specs.Numbers.{in_turn, apart}
 
 -- one line more can be counted
 pub record Addable (found : Found) (row : VertexLine) : Type 0 where
@@ -28,10 +28,10 @@ pub record Added (found : Found) (row : VertexLine) (found' : Found) (bits bits'
   pub tops : found'.top ≡ max found.top (max row.number row.largest)
   pub ranks : found'.rank ≡ max found.rank row.priority
   pub lists : found'.listed ≡ found.listed + min row.listed (found.highest + 1)
-  pub order : found'.ordered ≡ (found.ordered && eqb row.number found.lines)
-  pub long : length bits' ≡ bitmap_words
-  pub new : found'.apart ≡ true → (found.apart ≡ true) × Noted 0 row.number bits bits'
-  pub again : found'.apart ≡ false → found.apart ≡ true → Again 0 row.number bits
+  pub order : apart found'.numbering ≡ true → in_turn found'.numbering
+      ≡ (in_turn found.numbering && eqb row.number found.lines)
+  pub new : apart found'.numbering ≡ true → (apart found.numbering ≡ true) × Noted 0 row.number bits bits'
+  pub again : apart found'.numbering ≡ false → apart found.numbering ≡ true → Again 0 row.number bits
 
 -- a text with the form, surveyed
 pub record Seen (text : List ℕ) (found : Found) : Type 0 where
@@ -46,9 +46,9 @@ pub record Seen (text : List ℕ) (found : Found) : Type 0 where
   -- where every number is a vertex, there are no more edges
   pub enough : tops_of (lines_in text) ≤ found.highest → found.highest < 18_446_744_073_709_551_610
       → edge_count (map vertex_of (lines_in text)) ≤ found.listed
-  pub order : found.ordered ≡ in_order 0 (lines_in text)
-  pub new : found.apart ≡ true → Apart 0 (numbers_of (lines_in text))
-  pub again : found.apart ≡ false → ¬ Distinct (numbers_of (lines_in text))
+  pub order : apart found.numbering ≡ true → in_turn found.numbering ≡ in_order 0 (lines_in text)
+  pub new : apart found.numbering ≡ true → Apart 0 (numbers_of (lines_in text))
+  pub again : apart found.numbering ≡ false → ¬ Distinct (numbers_of (lines_in text))
 
 -- a text has the form and was surveyed, or does not have it
 abbrev pub ToldSurvey : Option Found → List ℕ → Type 0

@@ -1,29 +1,39 @@
 // PGSolver text that is to be read as a game (#101), looked at before anything is written: whether it has the form,
 // whether each vertex is given once, and whether there is room for its game.
+// Kept (no plainer): text and place stay two parameters, as in crate pgsolver_scan.
 #![tactic(auto)]
 
 ghost use Rattle.std.specs.Prelude.{◌≡◌, true, false, not, [], map, ◌+◌, ◌<◌, ◌≤◌, length, eqb, ltb};
 ghost use Rattle.std.specs.declared.result.Result.TheVariants.{Ok};
-ghost use Rattle.rules.specs.Lists.{one, once, Distinct};
+ghost use Rattle.rules.specs.Lists.{once, Distinct};
 ghost use Rattle.rules.specs.Words.{most_vertices, room_of};
 ghost use Rattle.rules.specs.Answers.{fault_if};
 ghost use Rattle.rules.specs.Game.{edge_count};
 ghost use Rattle.rules.specs.PgsolverReading.{vertex_of, different, numbers_of, refusal92, refusal93};
-ghost use Rattle.bitmap.specs.Marks.{bitmap_words, bitmap_numbers, marked, Met, Holds, Only};
+ghost use Rattle.bitmap.specs.Marks.{bitmap_numbers, Holds, Only};
 ghost use Rattle.pgsolver_scan.specs.Told.{past_line};
-ghost use Rattle.pgsolver_check.specs.Lines.{solver_text, lines_from, tops_of, Readable, Narrow};
+ghost use Rattle.pgsolver_check.specs.Lines.{solver_text, lines_in, lines_from, tops_of, Readable, Narrow};
 ghost use Rattle.pgsolver_check.specs.Survey.{Seen, ToldSurvey, Addable, Added};
+ghost use Rattle.pgsolver_check.specs.Facts.{seen_prop};
+ghost use Rattle.pgsolver_check.specs.Numbers.{numbered_on};
 ghost use Rattle.pgsolver_check.specs.Windows.{Apart, Noted, Again};
-ghost use Rattle.pgsolver_check.specs.Successors.{list_at, Listed};
+ghost use Rattle.pgsolver_scan.specs.Successors.{list_at, Listed};
 ghost use Rattle.pgsolver_check.specs.Plans.{ToldPlan};
 
 use bitmap::{Bitmap, NUMBERS, WORDS};
-use pgsolver_scan::{Number, VertexLine};
+use pgsolver_scan::{Successors, VertexLine};
 use rules::Fault;
 
+// How the numbers of the lines stand. Those from 1,048,576 on are not compared by the survey.
+#[derive(Clone, Copy)]
+pub enum Numbering {
+    InOrder,
+    Different,
+    Repeated,
+}
+
 // What the survey of a text finds: the highest vertex number, the place of the first line, how many lines there are,
-// the highest number and the highest priority on them, a bound for the edges, whether the lines are in the order of
-// their numbers, and whether their numbers below 1,048,576 are all different.
+// the highest number and the highest priority on them, a bound for the edges, and how the lines are numbered.
 #[derive(Clone, Copy)]
 struct Found {
     highest: usize,
@@ -32,17 +42,30 @@ struct Found {
     top: usize,
     rank: usize,
     listed: usize,
-    ordered: bool,
-    apart: bool,
+    numbering: Numbering,
 }
 
-// What a text that is not refused gives: its highest vertex, the place of its first line, and whether its lines are in
-// the order of their numbers.
+// What a text that is not refused gives: its highest vertex, the place of its first line, and how the lines are
+// numbered.
 #[derive(Clone, Copy)]
 pub struct Plan {
     pub highest: usize,
     pub first: usize,
-    pub ordered: bool,
+    pub numbering: Numbering,
+}
+
+// How the lines are numbered with one more, whose number was seen before or is in its turn.
+#[tactic(auto, unfolding(crate::specs::Numbers::numbered_on))]
+fn with_number(numbering: Numbering, again: bool, in_turn: bool) -> Numbering
+    ensures { result ≡ numbered_on numbering again in_turn }
+{
+    if again {
+        return Numbering::Repeated;
+    }
+    match numbering {
+        Numbering::InOrder if !in_turn => Numbering::Different,
+        numbering => numbering,
+    }
 }
 
 // What is found with one line more. A line has no more different successors than there are vertices.
@@ -56,8 +79,7 @@ fn with_line(found: Found, row: VertexLine, bits: &mut Bitmap) -> Found
         top: found.top.max(row.number).max(row.largest),
         rank: found.rank.max(row.priority),
         listed: found.listed + row.listed.min(found.highest + 1),
-        ordered: found.ordered && row.number == found.lines,
-        apart: !again && found.apart,
+        numbering: with_number(found.numbering, again, row.number == found.lines),
         ..found
     }
 }
@@ -68,7 +90,7 @@ fn survey_text(text: &[u8], bits: &mut Bitmap) -> Option<Found>
     ensures { ToldSurvey result text.now }
 {
     let header = pgsolver_scan::read_header(text)?;
-    bitmap::clear(bits);
+    bits.clear();
     let mut place = header.next;
     let mut found = Found {
         highest: header.value,
@@ -77,11 +99,9 @@ fn survey_text(text: &[u8], bits: &mut Bitmap) -> Option<Found>
         top: 0,
         rank: 0,
         listed: 0,
-        ordered: true,
-        apart: true,
+        numbering: Numbering::InOrder,
     };
-    // Kept (no plainer): where a line ends is known once it is read, and each of the loops over lines reads it in its own
-    // way.
+    // Kept (no plainer): where a line ends is known once it is read.
     while place < text.len() {
         let row = pgsolver_scan::read_line(text, place)?;
         found = with_line(found, row, bits);
@@ -106,7 +126,7 @@ fn seen_before(number: usize, base: usize, bits: &mut Bitmap) -> bool
     if NUMBERS <= offset {
         return false;
     }
-    !bitmap::meet(bits, offset)
+    !bits.meet(offset)
 }
 
 // Are the numbers of the lines in the window from `base` on all different? If not, the numbers are not.
@@ -115,9 +135,10 @@ fn window_differs(text: &[u8], first: usize, base: usize, bits: &mut Bitmap) -> 
     ensures apart { result ≡ true → Apart base (numbers_of (lines_from text.now first)) }
     ensures not_distinct { result ≡ false → ¬ Distinct (numbers_of (lines_from text.now first)) }
 {
-    bitmap::clear(bits);
+    bits.clear();
     let mut place = first;
-    // Kept (no plainer): as the loop over lines above.
+    // Kept (no plainer): an iterator over the places of lines would serve two of the four loops over lines, this one
+    // and one of crate pgsolver_reader; the others know the end of a line from what they read of it.
     while place < text.len() {
         let Some(number) = pgsolver_scan::read_field(text, place, b' ') else {
             return false;
@@ -146,6 +167,8 @@ fn numbers_differ(text: &[u8], first: usize, highest: usize, bits: &mut Bitmap) 
 }
 
 // ---- edges: they are counted only where the bound that the survey found is more than there is room for
+// Kept (no plainer): that a list stands at a place is asked in three clauses, each of which speaks of its numbers too;
+// a struct for it would be made at one call, and one of crate pgsolver_reader.
 
 // How many different numbers a list has, and the place past it.
 #[derive(Clone, Copy)]
@@ -155,19 +178,13 @@ struct Counted {
 }
 
 // Empties the bitmap, in which only numbers of a list are marked.
+// Kept (no plainer): `wipe_all` of the bitmap takes a slice, and these numbers stand in a text.
 fn wipe_list(text: &[u8], list: usize, bits: &mut Bitmap)
     requires { Listed text.now list × Only bits.old (list_at text.now list) }
     ensures { Holds bits.new [] }
 {
-    let mut place = list;
-    // Kept (no plainer): a list ends at the byte behind one of its numbers, of which each has its own length.
-    loop {
-        let number = pgsolver_scan::known_number(text, place);
-        bitmap::wipe(bits, number.value);
-        if text[number.next] != b',' {
-            return;
-        }
-        place = number.next + 1;
+    for successor in Successors::new(text, list) {
+        bits.wipe(successor.value);
     }
 }
 
@@ -177,7 +194,7 @@ fn empty_list(text: &[u8], list: usize, next: usize, bits: &mut Bitmap)
     ensures { Holds bits.new [] }
 {
     if WORDS < next - list {
-        bitmap::clear(bits);
+        bits.clear();
         return;
     }
     wipe_list(text, list, bits);
@@ -186,22 +203,18 @@ fn empty_list(text: &[u8], list: usize, next: usize, bits: &mut Bitmap)
 // The different numbers of a list.
 fn count_list(text: &[u8], list: usize, bits: &mut Bitmap) -> Counted
     requires { Listed text.now list × Holds bits.old [] }
-    ensures count_value { result.count ≡ length (once eqb (list_at text.now list)) }
-    ensures list_value { past_line text.now list ≡ past_line text.now result.next }
-    ensures holds { Holds bits.new [] }
+    ensures counted { result.count ≡ length (once eqb (list_at text.now list)) }
+    ensures same_line { past_line text.now list ≡ past_line text.now result.next }
+    ensures emptied { Holds bits.new [] }
 {
-    let mut place = list;
     let mut count = 0;
-    // Kept (no plainer): as the loop over a list above.
-    loop {
-        let Number { value, next } = pgsolver_scan::known_number(text, place);
-        count += bitmap::meet(bits, value) as usize;
-        if text[next] != b',' {
-            empty_list(text, list, next, bits);
-            return Counted { count, next };
-        }
-        place = next + 1;
+    let mut next = list;
+    for successor in Successors::new(text, list) {
+        count += usize::from(bits.meet(successor.value));
+        next = successor.next;
     }
+    empty_list(text, list, next, bits);
+    Counted { count, next }
 }
 
 // Is there room for the edges of the lines, repeats left out? The fields before a list are only passed over: that they
@@ -210,10 +223,10 @@ fn count_edges(text: &[u8], first: usize, room: usize, bits: &mut Bitmap) -> boo
     requires { Narrow text.now first }
     ensures { result ≡ not (ltb room (edge_count (map vertex_of (lines_from text.now first)))) }
 {
-    bitmap::clear(bits);
+    bits.clear();
     let mut place = first;
     let mut edges = 0;
-    // Kept (no plainer): as the loop over lines above.
+    // Kept (no plainer): as in `survey_text`.
     while place < text.len() {
         let number = pgsolver_scan::known_field(text, place);
         let priority = pgsolver_scan::known_field(text, number.next);
@@ -230,39 +243,62 @@ fn count_edges(text: &[u8], first: usize, room: usize, bits: &mut Bitmap) -> boo
 
 // ---- the check
 
-// 93: a text whose numbers are right, in room for so many vertices and edges.
-fn fits(text: &[u8], found: Found, vertices: usize, edges: usize, bits: &mut Bitmap) -> bool
-    requires seen { Seen text.now found × (refusal92 (solver_text text.now) ≡ Ok tt) }
-    requires most { vertices ≤ most_vertices }
-    ensures { refusal93 (room_of vertices edges) (solver_text text.now) ≡ fault_if 93 0 (not result) }
-{
-    if vertices <= found.highest {
-        return false;
-    }
-    if 4_294_967_295 < found.rank {
-        return false;
-    }
-    if found.listed <= edges {
-        return true;
-    }
-    count_edges(text, found.first, edges, bits)
+// A text with the form, and what the survey found: what holds of the two is said once, by the type.
+#[derive(Clone, Copy)]
+struct Surveyed<'a> {
+    text: &'a [u8],
+    found: Found,
+    ghost seen: { Seen text.now found } by { seen_prop text.now found },
 }
 
-// 92: each vertex up to the highest is given once, and no other.
-fn numbered(text: &[u8], found: Found, bits: &mut Bitmap) -> bool
-    requires { Seen text.now found }
-    ensures { refusal92 (solver_text text.now) ≡ fault_if 92 0 (not result) }
-{
-    if found.lines != found.highest + 1 {
-        return false;
+impl<'a> Surveyed<'a> {
+    // Are the numbers of the lines, which are as many as there are vertices, all different?
+    fn are_different(&self, bits: &mut Bitmap) -> bool
+        requires { (self.now.found.lines ≡ self.now.found.highest + 1)
+            × (self.now.found.top ≤ self.now.found.highest) }
+        ensures { result ≡ different (numbers_of (lines_in self.now.text.now)) }
+    {
+        match self.found.numbering {
+            Numbering::InOrder => true,
+            Numbering::Different => {
+                numbers_differ(self.text, self.found.first, self.found.highest, bits)
+            },
+            Numbering::Repeated => false,
+        }
     }
-    if found.highest < found.top {
-        return false;
+
+    // 92: each vertex up to the highest is given once, and no other.
+    fn check_numbers(&self, bits: &mut Bitmap) -> Result<(), Fault>
+        ensures { result ≡ refusal92 (solver_text self.now.text.now) }
+    {
+        let found = self.found;
+        let miscounted = found.lines != found.highest + 1;
+        faults::fault_if(92, 0, miscounted)?;
+        let too_high = found.highest < found.top;
+        faults::fault_if(92, 0, too_high)?;
+        let different = self.are_different(bits);
+        faults::fault_if(92, 0, !different)
     }
-    if found.ordered {
-        return true;
+
+    // 93: a text whose numbers are right fits in room for so many vertices and edges.
+    // Kept (no plainer): they are two numbers, here and in the call below. A `Room` has two of 32 bits, and so would
+    // ask more of a caller than was asked before.
+    fn check_fit(&self, vertices: usize, edges: usize, bits: &mut Bitmap) -> Result<(), Fault>
+        requires right { refusal92 (solver_text self.now.text.now) ≡ Ok tt }
+        requires most { vertices ≤ most_vertices }
+        ensures { result ≡ refusal93 (room_of vertices edges) (solver_text self.now.text.now) }
+    {
+        let found = self.found;
+        let too_many = vertices <= found.highest;
+        faults::fault_if(93, 0, too_many)?;
+        let too_high = 4_294_967_295 < found.rank;
+        faults::fault_if(93, 0, too_high)?;
+        if found.listed <= edges {
+            return Ok(());
+        }
+        let fit = count_edges(self.text, found.first, edges, bits);
+        faults::fault_if(93, 0, !fit)
     }
-    found.apart && numbers_differ(text, found.first, found.highest, bits)
 }
 
 // 91, 92, 93: a text for room of so many vertices and edges. The bitmap is lent, whatever it holds.
@@ -273,29 +309,18 @@ pub fn check_text(
     bits: &mut Bitmap,
 ) -> Result<Plan, Fault>
     requires { vertices ≤ most_vertices }
-    ensures { ToldPlan result vertices edges text.now }
+    ensures { ToldPlan result (room_of vertices edges) text.now }
 {
-    let Some(found) = survey_text(text, bits) else {
-        return Err(Fault {
-            number: 91,
-            place: 0,
-        });
-    };
-    if !numbered(text, found, bits) {
-        return Err(Fault {
-            number: 92,
-            place: 0,
-        });
-    }
-    if !fits(text, found, vertices, edges, bits) {
-        return Err(Fault {
-            number: 93,
-            place: 0,
-        });
-    }
+    let found = survey_text(text, bits).ok_or(Fault {
+        number: 91,
+        place: 0,
+    })?;
+    let surveyed = Surveyed { text, found };
+    surveyed.check_numbers(bits)?;
+    surveyed.check_fit(vertices, edges, bits)?;
     Ok(Plan {
         highest: found.highest,
         first: found.first,
-        ordered: found.ordered,
+        numbering: found.numbering,
     })
 }

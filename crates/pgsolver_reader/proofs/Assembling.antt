@@ -2,15 +2,13 @@
 use Prim.Native.Nat.{ℕ, suc, ◌+◌, ◌-◌, ◌≤◌, ◌<◌}
 use native.Mathlib.Omega.{arith}
 use mathlib.Core.Path.{◌≡◌, refl, sym, ap, ◌∙◌, subst}
-use mathlib.Core.Bool.{Bool, true, false, cond}
+use mathlib.Core.Bool.{Bool, true, false, cond, not}
 use mathlib.Core.List.{List, [], ◌∷◌, ◌++◌, map, append-nil, append_assoc}
 use lib.ListN.{length, take, drop, set, replicate, length-set, length-map, take-append-drop}
 use lib.Seq.{slice, slice_empty, take-take, take-set-le, length-take-le}
 use lib.Dec.{eqb}
 use Rattle.rules.specs.Answers.{Check}
 use Rattle.std.specs.declared.result.Result.TheVariants.{Ok, Err}
-use Rattle.std.specs.Prelude.{Result, IsErrAnd}
-use Rattle.rules.specs.Answers.{fault}
 use Rattle.rules.specs.declared.Fault.{Fault}
 use Rattle.rules.specs.declared.Answer.TheVariants.{Done, Refused}
 use Rattle.rules.specs.declared.Room.{Room}
@@ -28,7 +26,7 @@ use Rattle.lists.proofs.Members.{in_map}
 use Rattle.lists.proofs.Ranges.{from-length}
 use Rattle.lists.proofs.Tests.{or-false}
 use Rattle.tables.proofs.Faults.{if-true, if-false, if_passed, then_both, then_fault, then_passed}
-use Rattle.tables.proofs.Choices.{outside_false, differ_yes, differ_no, differ_false}
+use Rattle.tables.proofs.Choices.{outside_false, differ_false}
 use Rattle.games.specs.Columns.{edge_column_of}
 use Rattle.games.proofs.Reading.{length_read}
 use Rattle.parity_game.proofs.Stretches.{three, game_stretches, targets_first, Plain, plain_to, plain_none, plain_more}
@@ -61,6 +59,10 @@ part_start {text} {n} {game} r =
       offsets = ap (λ (b : ℕ). slice (offsets_from n) b game) z ∙ slice_empty (offsets_from n) game;
       targets = slice_empty (edges_begin n) game;
     }
+
+-- the targets end inside
+pub part_within : {text : List ℕ} {n q : ℕ} {game : List ℕ} → Part text n n q game → q ≤ length game
+part_within p = omega (arith, p.place, p.room)
 
 -- every vertex is posted
 pub all_posted : {text : List ℕ} {n : ℕ} {game : List ℕ} → ((u : ℕ) → u < n → In u (numbers_of (lines_in text)))
@@ -234,7 +236,7 @@ room_sizes v e size p =
     let y = outside_false 1 4_194_304 e d in
     (x.1, y.1, differ_false size (game_words v e) (if_passed 2 0 _ b))
 
-module _ {text : List ℕ} {v e : ℕ} {plan : Plan} (p : Planned text v e plan) where
+module _ {text : List ℕ} {v e : ℕ} {plan : Plan} (p : Planned text (room_of v e) plan) where
   abbrev t : SolverText
   t = solver_text text
 
@@ -257,7 +259,7 @@ module _ {text : List ℕ} {v e : ℕ} {plan : Plan} (p : Planned text v e plan)
   plan_small = omega (arith, many, p.held)
 
   pub plan_ready : (size : ℕ) → v ≤ 1048576 → e ≤ 4194304 → size ≡ game_words v e
-      → Ready text plan.first (plan.highest + 1) plan.ordered size
+      → Ready text plan.first (plan.highest + 1) plan.numbering size
   plan_ready size a b c =
       record {
         begins = record { readable = p.readable; lines = p.lines };
@@ -286,11 +288,6 @@ module _ {text : List ℕ} {v e : ℕ} {plan : Plan} (p : Planned text v e plan)
 
 -- ---- refusals
 
--- a fault that is handed on
-pub handed_on : {A : Type 0} (r : Result A Fault) (f : Fault) → IsErrAnd r (λ g. g ≡ f) → r ≡ Err f
-handed_on (Ok a) f e = absurd e
-handed_on (Err g) f e = ap (λ (h : Fault). Err h) e
-
 pub read-refused : (text game : List ℕ) (r : Room) (f : Fault) → Err f ≡ room_refusal r (length game)
     → ◌≡◌ {A = Readback} (record { answer = Refused f.number f.place; game = game }) (read_game r text game)
 unfolding read_game reading_refusal room_refusal first_fault read_or and_then
@@ -316,12 +313,7 @@ pub lent_fault : (r : Room) (f : Fault) (size : ℕ) → refusal1 r ≡ Err f �
 unfolding room_refusal and_then
 lent_fault r f size e = sym (rw e refl)
 
-pub lent_other : (v e size : ℕ) → refusal1 (room_of v e) ≡ Ok tt → ¬ (size ≡ game_words v e)
-    → fault 2 0 ≡ room_refusal (room_of v e) size
-unfolding room_refusal game_length
-lent_other v e size a n = sym (then_passed _ a ∙ if-true 2 0 (differ_yes n))
-
-pub lent_right : (v e size : ℕ) → refusal1 (room_of v e) ≡ Ok tt → size ≡ game_words v e
-    → (Ok tt) ≡ room_refusal (room_of v e) size
-unfolding room_refusal game_length
-lent_right v e size a n = sym (then_passed _ a ∙ if-false 2 0 (differ_no n))
+pub lent_length : (v e size n : ℕ) → refusal1 (room_of v e) ≡ Ok tt → n ≡ game_words v e
+    → fault_if 2 0 (not (eqb size n)) ≡ room_refusal (room_of v e) size
+unfolding room_refusal game_length differ
+lent_length v e size n a e' = sym (then_passed _ a ∙ ap (λ (k : ℕ). fault_if 2 0 (not (eqb size k))) (sym e'))

@@ -5,6 +5,7 @@ use native.Mathlib.Decide.{dec_lt}
 use native.Mathlib.Numerals.{add-one}
 use mathlib.Core.Path.{◌≡◌, sym, ap, ◌∙◌, subst}
 use mathlib.Core.List.{List, [], ◌∷◌, ◌++◌, map, append-nil, append_assoc}
+use Rattle.std.proofs.lemmas.List.{drop-take}
 use lib.ListN.{length, take, drop, set, drop_of_length-le, length-set, length-map, get_or-append}
 use lib.Seq.{slice, take-set-le, take-set-lt, drop-set-lt, take-suc-set, drop-append-le, take-append-le, take-take}
 use lib.Seq.{length-take-le, get_or-set_other, get_or-take}
@@ -27,14 +28,14 @@ use Rattle.game_texts.proofs.Numbered.{named}
 use Rattle.std.specs.Prelude.{Some}
 use Rattle.pgsolver_scan.specs.Told.{saturated, since, past_line, Told}
 use Rattle.pgsolver_check.specs.Lines.{lines_in}
-use Rattle.pgsolver_check.specs.Successors.{list_at, Listed}
+use Rattle.pgsolver_scan.specs.Successors.{list_at, Listed}
 use Rattle.pgsolver_check.proofs.Walking.{successor_top, exactly}
 use Rattle.pgsolver_check.proofs.Bounding.{edges_append, edges_cons, no_edges}
 use Rattle.pgsolver_reader.specs.Parts.{verts_to, starts, Whole, Turn, Part, column_at, offsets_from, edges_begin}
 use Rattle.pgsolver_reader.specs.Parts.{post_at, PostsKept}
 use Rattle.pgsolver_check.proofs.Fields.{listed_at, field_is, owner-known}
 use Rattle.pgsolver_reader.proofs.Standing.{low_rank}
-use Rattle.pgsolver_reader.proofs.Putting.{Wiping}
+use Rattle.pgsolver_reader.proofs.Putting.{Wiping, word_in}
 
 -- ---- slices after a store and after an append
 
@@ -233,15 +234,21 @@ module _ {text : List ℕ} {n v q place : ℕ} {game : List ℕ} (w : Whole text
       in_room = omega (arith, p.room)
 
       -- the bitmap is emptied by the words just written
-      pub turn_wiping : {bits : List ℕ} → Holds bits (once eqb (list_at text list)) → Wiping g₂ q end bits
+      pub turn_wiping : {bits : List ℕ} → Holds bits (once eqb (list_at text list)) → Wiping (take (end - q) (drop q g₂)) bits
       turn_wiping {bits} h =
-          let new : slice q end g₂ ≡ once eqb (list_at text list) = slice_wrote_new c place₁ in
+          let past : q + (end - q) ≡ end = omega (arith, c.past) in
+          let new : take (end - q) (drop q g₂) ≡ once eqb (list_at text list)
+          = sym (drop-take q (end - q) g₂) ∙ ap (λ (k : ℕ). drop q (take k g₂)) past ∙ slice_wrote_new c place₁ in
           record {
             only = only_holds (subst (λ (ns : List ℕ). Holds bits (once eqb ns)) (sym new) (again h));
-            small = λ s i. turn_listed.small s
-                ((once_in number_equality (list_at text list) s).0 (subst (λ (ns : List ℕ). In s ns) new i));
+            small = λ i k. small (word (take (end - q) (drop q g₂)) i)
+                (subst (λ (ns : List ℕ). In (word (take (end - q) (drop q g₂)) i) ns) new
+                (word_in (take (end - q) (drop q g₂)) i k));
           }
         where
+          small : (s : ℕ) → In s (once eqb (list_at text list)) → s < 1048576
+          small s i = turn_listed.small s ((once_in number_equality (list_at text list) s).0 i)
+
           again : {bits : List ℕ} → Holds bits (once eqb (list_at text list))
               → Holds bits (once eqb (once eqb (list_at text list)))
           again {bits} h = subst (Holds bits) (sym (once_once (list_at text list))) h

@@ -20,6 +20,8 @@ use Rattle.rules.specs.Texts.{decimal}
 use Rattle.rules.specs.Pgsolver.{SolverLine}
 use Rattle.rules.specs.PgsolverReading.{vertex_named, numbers_of}
 use Rattle.pgsolver_scan.specs.Told.{since}
+use Rattle.pgsolver_check.specs.declared.Numbering.{Numbering}
+use Rattle.pgsolver_check.specs.Numbers.{in_turn}
 use Rattle.pgsolver_check.specs.Lines.{lines_in, lines_from, tops_of, ranks_of, Readable, Body}
 
 -- nothing where the test holds
@@ -108,10 +110,10 @@ pub record Part (text : List ℕ) (n v q : ℕ) (game : List ℕ) : Type 0 where
 
 -- ---- what is asked of a text before its game is written
 
-pub record Ready (text : List ℕ) (first n : ℕ) (ordered : Bool) (size : ℕ) : Type 0 where
+pub record Ready (text : List ℕ) (first n : ℕ) (numbering : Numbering) (size : ℕ) : Type 0 where
   pub begins : Begins text first
   pub given : (u : ℕ) → u < n → In u (numbers_of (lines_in text))
-  pub order : ordered ≡ true → numbers_of (lines_in text) ≡ from 0 n
+  pub order : in_turn numbering ≡ true → numbers_of (lines_in text) ≡ from 0 n
   pub room : game_words n (edge_count (verts_to (lines_in text) n)) ≤ size
   pub short : size < 4_294_967_296
 

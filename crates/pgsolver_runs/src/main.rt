@@ -6,18 +6,52 @@
 // records were made.
 #![tactic(auto)]
 
-ghost use Rattle.std.specs.Prelude.{◌≤◌, length, ◌≡◌};
+ghost use Rattle.std.specs.Prelude.{◌≤◌, length};
 
+use rules::Room;
 use std::io;
 use std::io::Read;
 
+// What is done with what is handed over: a game is written, or a text is read in this room.
+#[derive(Clone, Copy)]
+enum Call {
+    Write,
+    Read(Room),
+}
+
+// The call, and the lengths of what is handed over and of what is lent.
+#[derive(Clone, Copy)]
+struct Head {
+    call: Call,
+    handed: usize,
+    lent: usize,
+    ghost few: { (handed ≤ 4096) × (lent ≤ 4096) },
+}
+
+impl From<[u8; 20]> for Head {
+    fn from(bytes: [u8; 20]) -> Head {
+        let mut head = [0u32; 5];
+        words::read_words(&bytes, &mut head);
+        let [kind, vertices, edges, handed, lent] = head;
+        let call = match kind {
+            0 => Call::Write,
+            _ => Call::Read(Room { vertices, edges }),
+        };
+        Head {
+            call,
+            handed: stored_runs::lent_length(handed),
+            lent: stored_runs::lent_length(lent),
+        }
+    }
+}
+
 // Writes a game as text. The game has as many words as there are whole ones.
-fn write_stored(rt: &impl Print, input: &[u8], lent: usize) -> io::Result<()>
-    requires { (length input.now ≤ 4096) × (lent ≤ 4096) }
+fn write_stored(rt: &impl Print, bytes: &[u8], lent: usize) -> io::Result<()>
+    requires { (length bytes.now ≤ 4096) × (lent ≤ 4096) }
 {
     let mut game = stored_runs::filled::<u32, 1024>(0);
-    let game = &mut game[..input.len() / 4];
-    stored_runs::read_words(input, 0, game);
+    let game = &mut game[..bytes.len() / 4];
+    words::read_words(bytes, game);
     let mut text = stored_runs::filled::<u8, 4096>(7);
     let text = &mut text[..lent];
     let answer = pgsolver_writer::write_pgsolver(game, text);
@@ -25,55 +59,32 @@ fn write_stored(rt: &impl Print, input: &[u8], lent: usize) -> io::Result<()>
 }
 
 // Reads a game from text.
-fn read_stored(
-    rt: &impl Print,
-    text: &[u8],
-    vertices: u32,
-    edges: u32,
-    lent: usize,
-) -> io::Result<()>
+fn read_stored(rt: &impl Print, text: &[u8], room: Room, lent: usize) -> io::Result<()>
     requires { lent ≤ 4096 }
 {
     let mut game = stored_runs::filled::<u32, 4096>(7);
     let game = &mut game[..lent];
-    let answer = pgsolver_reader::read_pgsolver(text, vertices, edges, game);
+    let answer = pgsolver_reader::read_pgsolver(text, room.vertices, room.edges, game);
     stored_runs::outcome_line(rt, answer, game, &[], &[])
 }
 
-// What the head of a record says, done with what was handed over.
-fn run_record(rt: &impl Print, head: &[u8], input: &[u8]) -> io::Result<()>
-    requires { (length head.now ≡ 20) × (length input.now ≤ 4096) }
-{
-    let lent = stored_runs::length_of(words::word_at(head, 16), 4096);
-    if words::word_at(head, 0) == 0 {
-        return write_stored(rt, input, lent);
+// What is handed over is read and the call made, or nothing is printed where the input ends before.
+fn run_next<R: Read>(rt: &impl Print, stdin: &mut R, head: Head) -> io::Result<()> {
+    let mut handed = stored_runs::filled::<u8, 4096>(0);
+    let handed = &mut handed[..head.handed];
+    if reading::read_full(stdin, handed)? < handed.len() {
+        return Ok(());
     }
-    let vertices = words::word_at(head, 4);
-    read_stored(rt, input, vertices, words::word_at(head, 8), lent)
+    match head.call {
+        Call::Write => write_stored(rt, handed, head.lent),
+        Call::Read(room) => read_stored(rt, handed, room, head.lent),
+    }
 }
 
-// The next record is read and done; None where the input ends before.
-fn run_next<R: Read>(rt: &impl Print, stdin: &mut R) -> io::Result<Option<()>> {
-    let Some(head) = stored_runs::read_array::<_, 20>(stdin)? else {
-        return Ok(None);
-    };
-    let size = stored_runs::length_of(words::word_at(&head, 12), 4096);
-    let mut input = stored_runs::filled::<u8, 4096>(0);
-    let input = &mut input[..size];
-    if stored_runs::read_full(stdin, input)? < size {
-        return Ok(None);
-    }
-    run_record(rt, &head, input)?;
-    Ok(Some(()))
-}
-
-// At most a million records, so that the program ends whatever it reads.
 fn main(rt: HostRuntime) -> io::Result<()> {
-    let mut stdin = rt.stdin();
-    for _ in 0..1000000 {
-        if run_next(&rt, &mut stdin)?.is_none() {
-            break;
-        }
-    }
+    stored_runs::each_record(
+        &mut rt.stdin(),
+        |stdin, head: Head| run_next(&rt, stdin, head),
+    )?;
     Ok(())
 }

@@ -1,60 +1,50 @@
 -- Reading given bytes and the header at a place of the text. Assumes nothing.
-use Prim.Native.Nat.{ℕ, ◌+◌, ◌<◌, ◌≤◌}
+use Prim.Native.Nat.{ℕ, ◌+◌, ◌-◌, ◌<◌}
 use native.Mathlib.Omega.{arith}
-use mathlib.Core.Path.{◌≡◌, sym, ap, ◌∙◌}
+use mathlib.Core.Path.{◌≡◌, refl, sym, ap, ◌∙◌, subst}
 use mathlib.Core.Bool.{Bool, true, false, cond}
-use mathlib.Core.List.{List, ◌∷◌}
+use mathlib.Core.List.{List, [], ◌∷◌}
 use mathlib.Core.Option.{none, some}
-use lib.ListN.{length, drop, drop_of_length-le}
-use Rattle.rules.specs.Lists.{word}
+use borrow.Author.Tests.{eqb-true, eqb-false, eq-eqb, ne_eqb}
+use lib.ListN.{length, drop, take}
+use Rattle.std.proofs.lemmas.List.{drop-drop, take_rest}
+use lib.Dec.{eqb}
 use Rattle.rules.specs.TextReading.{front, then_read, read_byte, read_bytes, read_field}
 use Rattle.rules.specs.Pgsolver.{parity_word}
 use Rattle.rules.specs.PgsolverParse.{read_header}
-use Rattle.std.specs.Prelude.{Some}
+use Rattle.std.specs.Prelude.{Some, None}
+use Rattle.std.specs.declared.option.Option.{Option as Answer}
+use Rattle.std.specs.List.{starts_with}
 use Rattle.game_texts.proofs.Parsing.{then-read}
 use Rattle.pgsolver_scan.specs.declared.Number.{Number}
-use Rattle.pgsolver_scan.specs.Told.{since, Told}
-use Rattle.pgsolver_scan.proofs.Scanning.{since-cons}
+use Rattle.pgsolver_scan.specs.Told.{since, Told, Followed}
 use Rattle.pgsolver_scan.proofs.Reading.{then_none, when_true, when_false}
 
 -- ---- given bytes, one by one
 
--- so many of them stand at a place
-pub record Standing (text : List ℕ) (p : ℕ) (bytes : List ℕ) (count : ℕ) : Type 0 where
-  pub within : p + count ≤ length text
-  pub left : read_bytes bytes (since text p) ≡ read_bytes (drop count bytes) (since text (p + count))
+-- the bytes at the front are these
+pub bytes_front : (bytes ts : List ℕ) → read_bytes bytes ts
+    ≡ cond (starts_with eqb ts bytes) (some (drop (length bytes) ts)) none
+unfolding read_bytes read_byte then_read
+bytes_front [] ts = refl
+bytes_front (c ∷ cs) [] = refl
+bytes_front (c ∷ cs) (t ∷ ts) = go (eqb t c) refl (bytes_front cs ts)
+  where
+    go : (b : Bool) → eqb t c ≡ b
+        → read_bytes cs ts ≡ cond (starts_with eqb ts cs) (some (drop (length cs) ts)) none
+        → then_read (cond (eqb t c) (some ts) none) (read_bytes cs)
+        ≡ cond (starts_with eqb (t ∷ ts) (c ∷ cs)) (some (drop (length cs) ts)) none
+    go true e r = rw (e, eq-eqb c t (sym (eqb-true t c e))) r
+    go false e r = rw (e, ne_eqb c t (λ f. eqb-false t c e (sym f))) refl
 
-module _ {text : List ℕ} {p : ℕ} {bytes : List ℕ} where
-  module _ {count : ℕ} (k : Standing text p bytes count) where
-    module _ (h : count < length bytes) (c : ℕ) (e : c ≡ word bytes count) where
-      next : read_bytes bytes (since text p)
-          ≡ then_read (read_byte c (since text (p + count))) (read_bytes (drop (count + 1) bytes))
-      unfolding read_bytes
-      next =
-          k.left
-          ∙ ap (λ (cs : List ℕ). read_bytes cs (since text (p + count)))
-          (since-cons bytes count h ∙ ap (λ (d : ℕ). d ∷ drop (count + 1) bytes) (sym e))
-
-      pub standing_more : read_byte c (since text (p + count)) ≡ some (since text (p + count + 1))
-          → p + count < length text → Standing text p bytes (count + 1)
-      standing_more f l =
-          let z : p + count + 1 ≡ p + (count + 1) = omega arith in
-          record {
-            within = omega arith;
-            left = next ∙ then-read _ (since text (p + count + 1)) f
-                ∙ ap (λ (j : ℕ). read_bytes (drop (count + 1) bytes) (since text j)) z;
-          }
-
-      pub standing_not : read_byte c (since text (p + count)) ≡ none → read_bytes bytes (since text p) ≡ none
-      standing_not f = next ∙ then_none _ f
-
-    pub standing_all : (n : ℕ) → length bytes ≡ n → n ≤ count → count ≤ n
-        → read_bytes bytes (since text p) ≡ some (since text (p + n))
-    unfolding read_bytes
-    standing_all n e f g =
-        let z : count ≡ n = omega arith in
-        k.left ∙ ap (λ (cs : List ℕ). read_bytes cs (since text (p + count))) (drop_of_length-le bytes (omega arith))
-        ∙ ap (λ (j : ℕ). some (since text (p + j))) z
+pub bytes_told : (text : List ℕ) (p n : ℕ) (bytes : List ℕ) (b : Bool) → length bytes ≡ n
+    → b ≡ starts_with eqb (take (length text - p) (drop p text)) bytes
+    → read_bytes bytes (since text p) ≡ cond b (some (since text (p + n))) none
+bytes_told text p n bytes b e f =
+    bytes_front bytes (since text p)
+    ∙ ap (λ (c : Bool). cond c (some (drop (length bytes) (since text p))) none)
+    (sym (f ∙ ap (λ (ts : List ℕ). starts_with eqb ts bytes) (take_rest text p)))
+    ∙ ap (λ (ts : List ℕ). cond b (some ts) none) (drop-drop (length bytes) p text ∙ ap (λ (k : ℕ). since text (p + k)) e)
 
 -- ---- the header
 
@@ -87,3 +77,9 @@ module _ (text : List ℕ) {b : Bool} (e : read_bytes parity_word text ≡ cond 
         t.2,
         omega arith,
       )
+
+    pub header_followed : (x : Number) → Told (Some x) (read_field 59 (since text 7)) text → (r : Answer Number)
+        → Followed r x 10 text → Told r (read_header text) text
+    header_followed x t (Some y) (e', h, g) =
+        subst (λ y. Told (Some y) (read_header text) text) (sym e') (header_told x t {d = true} g refl h)
+    header_followed x t None g = header_bad x t {d = false} g refl

@@ -7,3 +7,4 @@ pub mod Lines
 pub mod Headers
 pub mod PastLines
 pub mod SameLine
+pub mod Going

@@ -2,7 +2,7 @@
 use Prim.Native.Nat.{ℕ, zero, suc, ◌+◌, ◌*◌, ◌≤◌, ◌<◌, max}
 use native.Mathlib.Omega.{arith}
 use native.Mathlib.Decide.{dec_lt}
-use mathlib.Core.Path.{◌≡◌, refl, sym, ap, ◌∙◌}
+use mathlib.Core.Path.{◌≡◌, refl, sym, ap, ◌∙◌, subst}
 use mathlib.Core.Bool.{Bool, true, false, cond}
 use mathlib.Core.List.{List, [], ◌∷◌, ◌++◌}
 use mathlib.Core.Option.{Option, none, some}
@@ -19,7 +19,7 @@ use Rattle.std.specs.Prelude.{Some, None}
 use Rattle.std.specs.declared.option.Option.{Option as Answer}
 use Rattle.pgsolver_scan.specs.declared.Number.{Number}
 use Rattle.pgsolver_scan.specs.declared.Numbers.{Numbers}
-use Rattle.pgsolver_scan.specs.Told.{saturated, since, commas_at, Told, ToldList, ToldMore}
+use Rattle.pgsolver_scan.specs.Told.{saturated, since, commas_at, Told, ToldList, ToldMore, Followed}
 use Rattle.pgsolver_scan.proofs.Scanning.{since-cons, since_end, field_other, field_some}
 
 pub then_none : {A B : Type 0} {m : Option A} (f : A → Option B) → m ≡ none → then_read m f ≡ none
@@ -62,6 +62,12 @@ module _ (text : List ℕ) (p c : ℕ) (x : Number) (t : Told (Some x) (read_num
 
   pub field_bad : b ≡ false → read_field c (since text p) ≡ none
   field_bad g = field_other c (since text p) (front t.0 (since text x.next)) t.1 (when_false _ _ _ f g)
+
+pub field_followed : (text : List ℕ) (p c : ℕ) (x : Number) → Told (Some x) (read_number (since text p)) text
+    → (r : Answer Number) → Followed r x c text → Told r (read_field c (since text p)) text
+field_followed text p c x t (Some y) (e, h, f) =
+    subst (λ y. Told (Some y) (read_field c (since text p)) text) (sym e) (field_at text p c x t {b = true} f refl h)
+field_followed text p c x t None f = field_bad text p c x t {b = false} f refl
 
 -- ---- elements in front
 

@@ -226,6 +226,13 @@ module _ {text : List ℕ} {p : ℕ} (x : Number) (s : Stopped text p x.next x.v
       told_value
       (some_lead (digits_at (since text p)) (omega (arith, s.count)) (λ e. n (sym (first_byte (omega arith)) ∙ e)))
 
+  pub told_nonzero : ¬ (x.next ≡ p) → ¬ (word text p ≡ 48) → Told (Some x) (read_number (since text p)) text
+  told_nonzero n z = go (native.Mathlib.Decide.dec_lt (p + 1) x.next)
+    where
+      go : Dec (p + 1 < x.next) → Told (Some x) (read_number (since text p)) text
+      go (yes h) = told_more h z
+      go (no h) = told_one n (omega arith)
+
 -- ---- a byte
 
 pub byte_here : (text : List ℕ) (p c : ℕ) (b : Bool) → p < length text → eqb (word text p) c ≡ b

@@ -7,7 +7,7 @@ use Rattle.std.specs.List.{position}
 use Rattle.std.specs.declared.option.Option.{Option as Answer}
 use Rattle.std.proofs.Math.Option.{Option, none, some}
 use Rattle.rules.specs.Lists.{word, largest}
-use Rattle.rules.specs.TextReading.{Front, front, then_read, read_bytes, read_number, read_field}
+use Rattle.rules.specs.TextReading.{Front, front, then_read, read_byte, read_bytes, read_number, read_field}
 use Rattle.rules.specs.TextReading.{is_digit, digits_at, past_digits, value_on}
 use Rattle.rules.specs.Pgsolver.{SolverLine}
 use Rattle.rules.specs.PgsolverParse.{read_commas, read_list, read_named}
@@ -78,6 +78,13 @@ abbrev pub Told : Answer Number → Option (Front ℕ) → List ℕ → Type 0
 Told (Some x) m text =
     (n : ℕ) × (m ≡ some (front n (since text x.next))) × (x.value ≡ saturated n) × (x.next ≤ length text)
 Told None m text = m ≡ none
+
+-- this byte stands behind a number, which goes on past it; it does not
+abbrev pub Followed : Answer Number → Number → (byte : ℕ) → List ℕ → Type 0
+Followed (Some x) n byte text =
+    (x ≡ record { value = n.value; next = n.next + 1 }) × (n.next < length text)
+    × (read_byte byte (since text n.next) ≡ some (since text (n.next + 1)))
+Followed None n byte text = read_byte byte (since text n.next) ≡ none
 
 -- numbers were read
 abbrev pub ToldList : Answer Numbers → Option (Front (List ℕ)) → List ℕ → Type 0

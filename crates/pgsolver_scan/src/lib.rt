@@ -1,17 +1,19 @@
-// Reading PGSolver text from left to right (#101): each function reads what stands at a place of the text and answers
-// the place past it. A number beyond the bound of specs/Told is handed on as that bound.
-// Kept (no plainer): text and place stay two parameters. The rules' readers answer a value and the rest of the text; each
-// function here is one of them, and a place stands for the rest.
+// Reading PGSolver text from left to right (#101): a reader reads what stands at a place of the text and answers the
+// place past it. A number beyond the bound of specs/Told is handed on as that bound.
+// Kept (no plainer): text and place stay two parameters. Places are stored, compared and posted in the game's words, so
+// callers need the number; a struct of the two would be made and taken apart at each call.
 #![tactic(auto)]
 
-ghost use Rattle.std.specs.Prelude.{◌≡◌, Bool, true, false, cond, [], ◌∷◌, ◌+◌, ◌*◌, ◌-◌, ◌<◌, ◌≤◌, max, length};
+ghost use Rattle.std.specs.Prelude.{◌≡◌, true, false, cond, ◌+◌, ◌*◌, ◌-◌, ◌<◌, ◌≤◌, max, length};
 ghost use Rattle.std.specs.Prelude.{Some, None};
 ghost use Rattle.std.proofs.Math.Option.{none, some};
 ghost use Rattle.rules.specs.TextReading.{is_digit, read_byte, read_bytes, read_number, read_field};
 ghost use Rattle.rules.specs.PgsolverParse.{read_list, read_name, read_named, read_owner, read_line, read_header};
 ghost use Rattle.pgsolver_scan.specs.Told.{saturated, since, commas_at, read_successors, past_line};
 ghost use Rattle.pgsolver_scan.specs.Told.{Stopped, Stands, StandsField, Told, ToldList, ToldMore, Lacks, ToldSkip};
-ghost use Rattle.pgsolver_scan.specs.Told.{ToldDigit, ToldFirst, ToldRow, first_of};
+ghost use Rattle.pgsolver_scan.specs.Told.{ToldDigit, ToldFirst, ToldRow, first_of, Followed};
+ghost use Rattle.pgsolver_scan.specs.Successors.{Goes, left, Turn, Begun};
+ghost use Rattle.std.specs.Iterator.{item_count};
 
 // A number, and the place past it.
 #[derive(Clone, Copy)]
@@ -30,6 +32,8 @@ pub struct Numbers {
 
 // What the line of a vertex says: number, priority, owner, the largest of its successors, how many are listed, and the
 // place past the line.
+// Kept (no plainer): the owner stays a number, 0 or 1. It goes from the text's digits into a word of the game, and
+// nothing on the way asks whose it is: as a Player it would be turned into one and back.
 #[derive(Clone, Copy)]
 pub struct VertexLine {
     pub number: usize,
@@ -102,7 +106,8 @@ pub fn read_number(text: &[u8], place: usize) -> Option<Number>
     if number.next == place {
         return None;
     }
-    if place + 1 < number.next && text[place] == b'0' {
+    let zero_first = text[place] == b'0';
+    if zero_first && place + 1 < number.next {
         return None;
     }
     Some(number)
@@ -117,19 +122,26 @@ pub fn byte_at(text: &[u8], place: usize, byte: u8) -> bool
     place < text.len() && text[place] == byte
 }
 
+// The number, if this byte stands behind it, and the place past the byte.
+fn followed(text: &[u8], number: Number, byte: u8) -> Option<Number>
+    ensures { Followed result number byte text.now }
+{
+    if byte_at(text, number.next, byte) {
+        return Some(Number {
+            next: number.next + 1,
+            ..number
+        });
+    }
+    None
+}
+
 // The number at a place, and this byte behind it.
 pub fn read_field(text: &[u8], place: usize, byte: u8) -> Option<Number>
     requires { place ≤ length text.now }
     ensures { Told result (read_field byte (since text.now place)) text.now }
 {
     let number = read_number(text, place)?;
-    if byte_at(text, number.next, byte) {
-        return Some(Number {
-            value: number.value,
-            next: number.next + 1,
-        });
-    }
-    None
+    followed(text, number, byte)
 }
 
 // ---- in a text whose form was checked before
@@ -148,10 +160,10 @@ pub fn known_field(text: &[u8], place: usize) -> Number
     requires { StandsField text.now place }
     ensures { Told (Some result) (read_field 32 (since text.now place)) text.now }
 {
-    let Number { value, next } = known_number(text, place);
+    let number = known_number(text, place);
     Number {
-        value,
-        next: next + 1,
+        next: number.next + 1,
+        ..number
     }
 }
 
@@ -188,6 +200,45 @@ pub fn read_list(text: &[u8], place: usize) -> Option<Numbers>
     read_commas(text, first)
 }
 
+// The numbers of a list that was checked before, one by one: where the next one stands, if there is one more.
+#[derive(Drop)]
+pub struct Successors<'a> {
+    text: &'a [u8],
+    at: Option<usize>,
+}
+
+impl<'a> Successors<'a> {
+    // Those of the list that begins at a place.
+    pub fn new(text: &'a [u8], list: usize) -> Self
+        ensures { Begun result text.now list }
+    {
+        Successors {
+            text,
+            at: Some(list),
+        }
+    }
+}
+
+impl<'a> Iterator for Successors<'a> {
+    type Item = Number;
+
+    ghost can_next = { Goes };
+
+    ghost next_gives = { Turn };
+
+    ghost remaining = { item_count left };
+
+    fn next(&mut self) -> Option<Number> {
+        let number = known_number(self.text, self.at?);
+        let more = self.text[number.next] == b',';
+        self.at = None;
+        if more {
+            self.at = Some(number.next + 1);
+        }
+        Some(number)
+    }
+}
+
 // ---- blocks of bytes
 
 // So many bytes are looked at together, by a loop of fixed length without a way out: a compiler turns it into a few
@@ -198,11 +249,12 @@ const BLOCK: usize = 64;
 fn hit(byte: u8, one: u8, other: u8) -> u8
     ensures { (result ≤ 1) × (result ≡ 0 → (¬ (byte ≡ one)) × (¬ (byte ≡ other))) }
 {
-    (byte == one || byte == other) as u8
+    u8::from(byte == one || byte == other)
 }
 
-// Does one of the two bytes stand in the block from `place` on? The hits are summed, since this is the form for which
-// the compiler takes vector instructions; 64 of them fit in a byte.
+// Does one of the two bytes stand in the block from `place` on? 64 hits fit in a byte.
+// Kept (speed): the hits are summed, since for this form the compiler takes vector instructions; `any` leaves the loop
+// early, and so takes none.
 fn block_has(text: &[u8], place: usize, one: u8, other: u8) -> bool
     requires { place + 64 ≤ length text.now }
     ensures { result ≡ false → Lacks text.now place (place + 64) one other }
@@ -216,7 +268,8 @@ fn block_has(text: &[u8], place: usize, one: u8, other: u8) -> bool
 
 // The place of the first block, from `place` on, that has one of the two bytes; where none has, the place behind the
 // last whole block. Whoever looks for the two bytes goes on from there byte by byte.
-// Kept (no plainer): the answer is a place, which a `for` over chunks_exact would have to count beside the block.
+// Kept (no plainer): by `position` over chunks_exact, which gives a block's number, the place would have to be worked
+// out from that number, and where no block has the bytes, from how many blocks there are.
 fn skip_blocks(text: &[u8], place: usize, one: u8, other: u8) -> usize
     requires { place ≤ length text.now }
     ensures { Lacks text.now place result one other }
@@ -284,12 +337,7 @@ fn bytes_at<const N: usize>(text: &[u8], place: usize, bytes: &[u8; N]) -> bool
         ≡ cond result (some (since text.now (place + N))) none }
     ensures place_in_bounds { result ≡ true → (place + N ≤ length text.now) × (place + N < 18446744073709551616) }
 {
-    for (count, byte) in bytes.iter().enumerate() {
-        if !byte_at(text, place + count, *byte) {
-            return false;
-        }
-    }
-    true
+    text[place..].starts_with(bytes)
 }
 
 // The owner at a place, and the space behind it.
@@ -298,7 +346,8 @@ fn read_owner(text: &[u8], place: usize) -> Option<Number>
     ensures { Told result (read_owner (since text.now place)) text.now }
 {
     let owner = read_field(text, place, b' ')?;
-    if 1 < owner.value {
+    let nobody = 1 < owner.value;
+    if nobody {
         return None;
     }
     Some(owner)
@@ -367,11 +416,5 @@ pub fn read_header(text: &[u8]) -> Option<Number>
         return None;
     }
     let number = read_field(text, 7, b';')?;
-    if byte_at(text, number.next, b'\n') {
-        return Some(Number {
-            value: number.value,
-            next: number.next + 1,
-        });
-    }
-    None
+    followed(text, number, b'\n')
 }

@@ -1,101 +1,91 @@
 -- The line of a vertex of a game that can be written: where its successors stand, what the line is made of, and which
 -- games have such lines. Assumes nothing.
-use mathlib.Core.Path.{◌≡◌, refl, sym, ap, ◌∙◌, subst}
+use mathlib.Core.Path.{◌≡◌, refl, sym, ap, ◌∙◌}
 use mathlib.Core.Bool.{Bool, true, false}
 use mathlib.Core.List.{List, [], ◌∷◌, ◌++◌}
-use Prim.Native.Nat.{ℕ, ◌+◌, ◌-◌, ◌≤◌, ◌<◌}
-use native.Mathlib.Numerals.{add-one}
+use Prim.Native.Nat.{ℕ, suc, ◌+◌, ◌≤◌, ◌<◌}
 use native.Mathlib.Omega.{arith}
-use lib.ListN.{length, take, drop, length-append, length-drop}
-use lib.Seq.{slice, length-take-le}
-use Rattle.std.proofs.Common.{rules}
-use Rattle.std.proofs.lemmas.List.{get_or-take, get_or-drop}
-use Rattle.std.proofs.lemmas.Slice.{between_is}
+use lib.ListN.{length, length-append}
 use lib.Dec.{eqb}
 use Rattle.std.specs.declared.result.Result.TheVariants.{Ok}
-use Rattle.rules.specs.Answers.{fault}
+use Rattle.rules.specs.Answers.{Check, fault, fault_if}
 use Rattle.rules.specs.Lists.{word, In, once, every}
-use Rattle.rules.specs.Game.{vertex_count, owner_in, priority_in, offset_in, edge_column_at, edges_from, targets_in}
+use Rattle.rules.specs.Game.{vertex_count, owner_in, priority_in, targets_in}
 use Rattle.rules.specs.GameRefusal.{game_refusal}
 use Rattle.rules.specs.Texts.{decimal}
 use Rattle.rules.specs.Pgsolver.{name_text, line_text}
 use Rattle.rules.specs.PgsolverWriting.{line_in, has_successor, refusal98, writing_refusal}
-use Rattle.tables.proofs.Faults.{if-true, if-false, then_both}
+use borrow.Author.Tests.{eqb-true, eqb-false}
+use Rattle.tables.proofs.Faults.{if-true, if-false, if_fault, if_passed, then_both}
 use Rattle.lists.proofs.Inserts.{once_in}
 use Rattle.lists.proofs.Members.{in_at}
 use Rattle.lists.proofs.Equalities.{number_equality}
 use Rattle.restrictions.specs.GoodGame.{GoodGame}
-use Rattle.restrictions.proofs.Accepted.{good_game, most_offset, degree}
+use Rattle.restrictions.proofs.Accepted.{good_game, most_offset, degree, target_below}
 use Rattle.game_texts.proofs.Exact.{not_stuck, passes98}
-use Rattle.pgsolver_writer.specs.Successors.{Writable, spaced_list, Vertices, line_by}
+use Rattle.parity_game.specs.Readable.{Readable}
+use Rattle.pgsolver_writer.specs.Lines.{line_by}
+use Rattle.pgsolver_writer.specs.Successors.{Writable, spaced_list, Vertices}
 use Rattle.pgsolver_writer.proofs.Lists.{spaced-list}
 
 -- ---- which games are not refused
 
-pub writable : (g : List ℕ) → writing_refusal g ≡ Ok tt → Writable g
+pub writable : (g : List ℕ) → ((i : ℕ) → word g i < 4_294_967_296) → writing_refusal g ≡ Ok tt → Writable g
 unfolding writing_refusal
-writable g e =
+writable g words e =
     let (a, b) = then_both (game_refusal g) (refusal98 g) e in
-    record { good = good_game g a; leads = not_stuck g b }
+    record { good = good_game g a; leads = not_stuck g b; words = words }
 
--- ---- where the successors of a vertex stand
+-- ---- the successors of a vertex
 
-between : (ws : List ℕ) (i j : ℕ) → take (j - i) (drop i ws) ≡ slice i j ws
-between ws i j = search (rules, between_is)
+module _ (g : List ℕ) (good : GoodGame g) where
+  -- a game that is not refused can be read
+  pub readable : Readable g
+  readable =
+      record {
+        few = good.few;
+        few_edges = good.light;
+        inside = omega (arith, good.sized);
+        rises = good.rises;
+        ends = good.ends;
+      }
 
-module _ (g : List ℕ) (good : GoodGame g) (v first end : ℕ) (below : v < vertex_count g)
-    (begins : first ≡ edges_from g 0 v) (ends : end ≡ edges_from g 0 (v + 1)) where
-  later : offset_in g (v + 1) ≡ offset_in g v + length (targets_in g v)
-  later = ap (offset_in g) (add-one v) ∙ degree g good v below
-
-  successors_count : end ≡ first + length (targets_in g v)
-  successors_count = omega (arith, later)
-
-  pub successors_read : take (end - first) (drop first g) ≡ targets_in g v
-  successors_read = rw (between g first end, begins, ends, add-one v) refl
-
-  pub successors_vertices : Vertices (take (end - first) (drop first g))
-  successors_vertices =
+  pub successors_vertices : (v : ℕ) → v < vertex_count g → Vertices (targets_in g v)
+  successors_vertices v below =
       record {
         small = λ i h. small i h;
-        few = omega (arith, size, later, most_offset g good (v + 1) (omega arith), good.light);
+        few = omega (arith, degree g good v below, most_offset g good (suc v) below, good.light);
       }
     where
-      inside : end ≤ length g
-      inside = omega (arith, good.sized, most_offset g good (v + 1) (omega arith))
-
-      size : length (take (end - first) (drop first g)) ≡ end - first
-      size = length-take-le (end - first) (drop first g) (omega (arith, length-drop first g, inside))
-
-      small : (i : ℕ) → i < length (take (end - first) (drop first g))
-          → word (take (end - first) (drop first g)) i < 1_048_576
+      small : (i : ℕ) → i < length (targets_in g v) → word (targets_in g v) i < 1_048_576
       small i h =
-          let column = edge_column_at g 0 in
-          let e : column + (first + i - column) ≡ first + i = omega arith in
-          let k = good.leads (first + i - column) (omega (arith, size, most_offset g good (v + 1) (omega arith))) in
-          let here : word (take (end - first) (drop first g)) i ≡ word g (first + i)
-          = get_or-take (end - first) (drop first g) i 0 (omega (arith, size)) ∙ get_or-drop first g i 0
-          in
-          rw here (subst (λ (q : ℕ). word g q < 1_048_576) e (omega (arith, k, good.few)))
+          omega (
+            arith,
+            target_below g good v below (word (targets_in g v) i) (in_at (targets_in g v) i 0 h),
+            good.few,
+          )
 
-  pub successors_within : (first ≤ end) × (end ≤ length g)
-  successors_within =
-      (omega (arith, later), omega (arith, good.sized, most_offset g good (v + 1) (omega arith)))
+-- whether vertex v has no successors is checked
+module _ (g : List ℕ) (v : ℕ) {targets : List ℕ} {empty : Bool} {check : Check} (read : targets ≡ targets_in g v)
+    (told : empty ≡ eqb (length targets) 0) (checked : check ≡ fault_if 98 0 empty) where
+  tested : check ≡ fault_if 98 0 (eqb (length (targets_in g v)) 0)
+  tested = checked ∙ ap (fault_if 98 0) (told ∙ ap (λ (ts : List ℕ). eqb (length ts) 0) read)
 
-  -- a vertex without successors
-  pub stuck_refused : first ≡ end → refusal98 g ≡ fault 98 0
+  pub stuck_refused : {k p : ℕ} → v < vertex_count g → check ≡ fault k p → refusal98 g ≡ fault k p
   unfolding refusal98
-  stuck_refused e = go (every (has_successor g) 0 (vertex_count g)) refl
+  stuck_refused {k} {p} below f = go (every (has_successor g) 0 (vertex_count g)) refl
     where
-      go : (b : Bool) → every (has_successor g) 0 (vertex_count g) ≡ b → refusal98 g ≡ fault 98 0
-      go true t =
-          let k = not_stuck g (if-false 98 0 (rw t refl)) v below in
-          absurd (omega (arith, successors_count))
-      go false t = if-true 98 0 (rw t refl)
+      bad : (eqb (length (targets_in g v)) 0 ≡ true) × (98 ≡ k) × (0 ≡ p)
+      bad = if_fault 98 0 _ (sym tested ∙ f)
 
-  -- one with successors
-  pub some_successor : ¬ (first ≡ end) → ¬ (targets_in g v ≡ [])
-  some_successor n e = n (omega (arith, successors_count, ap length e))
+      go : (b : Bool) → every (has_successor g) 0 (vertex_count g) ≡ b → refusal98 g ≡ fault k p
+      go true t =
+          let some = not_stuck g (if-false 98 0 (rw t refl)) v below in
+          absurd (omega (arith, eqb-true _ _ bad.0))
+      go false t = if-true 98 0 (rw t refl) ∙ sym (if-true 98 0 bad.0) ∙ sym tested ∙ f
+
+  pub some_successor : check ≡ Ok tt → ¬ (targets_in g v ≡ [])
+  some_successor f none = eqb-false _ _ (if_passed 98 0 _ (sym tested ∙ f)) (ap length none)
 
 pub none_stuck : (g : List ℕ) (v : ℕ) → vertex_count g ≤ v → ((u : ℕ) → u < v → ¬ (targets_in g u ≡ []))
     → refusal98 g ≡ Ok tt

@@ -7,7 +7,7 @@ use native.Mathlib.Numerals.{add-one}
 use native.Mathlib.Omega.{arith}
 use lib.ListN.{length, length-append}
 use lib.Dec.{eqb}
-use Rattle.rules.specs.Lists.{word, In, from, once}
+use Rattle.rules.specs.Lists.{In, from, once}
 use Rattle.rules.specs.Game.{vertex_count, edges_in, owner_in, priority_in, offset_in, targets_in}
 use Rattle.rules.specs.Texts.{decimal}
 use Rattle.rules.specs.Pgsolver.{parity_word, header_text, comma_text, line_text, lines_text, spelled}
@@ -94,7 +94,7 @@ spaced_short (n ∷ ns) h =
     let rest = commas_short ns (λ m i. h m (inr i)) in
     omega (arith, length-append (decimal n) (comma_text ns), decimal-word n (h n (inl refl)), rest)
 
-module _ (g : List ℕ) (w : Writable g) (words : (i : ℕ) → word g i < 4_294_967_296) where
+module _ (g : List ℕ) (w : Writable g) where
   successors_short : (v : ℕ) → v < vertex_count g
       → length (spaced_list (once eqb (targets_in g v))) ≤ 11 * length (targets_in g v)
   successors_short v h =
@@ -112,8 +112,8 @@ module _ (g : List ℕ) (w : Writable g) (words : (i : ℕ) → word g i < 4_294
         ap length (line_parts g w v h),
         line_size v (priority_in g v) (owner_in g v) (targets_in g v),
         decimal-word v (omega (arith, w.good.few)),
-        decimal-word (priority_in g v) (words _),
-        decimal-word (owner_in g v) (words _),
+        decimal-word (priority_in g v) (w.words _),
+        decimal-word (owner_in g v) (w.words _),
         successors_short v h,
       )
 

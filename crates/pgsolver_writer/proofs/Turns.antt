@@ -5,8 +5,8 @@ use mathlib.Core.List.{List, [], ◌∷◌, ◌++◌}
 use Prim.Native.Nat.{ℕ, zero, suc, ◌+◌, ◌*◌, ◌-◌, ◌≤◌, ◌<◌}
 use native.Mathlib.Numerals.{add-one}
 use native.Mathlib.Omega.{arith}
-use lib.ListN.{length, take, drop, length-append, drop_of_length-le}
-use lib.Seq.{take-suc, take_all, drop-cons}
+use lib.ListN.{length, take, length-append}
+use lib.Seq.{take-suc, take_all}
 use lib.Dec.{eqb}
 use Rattle.rules.specs.Lists.{word, insert, insert_all, once}
 use Rattle.rules.specs.Texts.{decimal}
@@ -15,8 +15,8 @@ use Rattle.lists.proofs.Equalities.{number_equality}
 use Rattle.text_writer.specs.declared.Text.{Text}
 use Rattle.text_writer.specs.Appending.{Room, Appended}
 use Rattle.text_writer.proofs.Appending.{appended_none, appended_as, appended_both}
-use Rattle.bitmap.specs.Marks.{marked, Met, Wiped, Holds, Only}
-use Rattle.bitmap.proofs.Sets.{meets, only_holds, only_wiped, only_none}
+use Rattle.bitmap.specs.Marks.{marked, Met, Holds, Only}
+use Rattle.bitmap.proofs.Sets.{meets, only_holds}
 use Rattle.pgsolver_writer.specs.Successors.{spaced_list, separator, unless}
 use Rattle.pgsolver_writer.proofs.Lists.{spaced_longer, spaced_met, separator_met, length_met}
 
@@ -159,14 +159,3 @@ module _ (ts : List ℕ) (i : ℕ) {s : ℕ} {bits : List ℕ} {text text₀ : T
             ∙ ap separator (sym (first_more ts i h));
         holds = holds_more ts i h m k.holds;
       }
-
--- ---- emptying the bitmap
-
-pub only_more : (ts : List ℕ) (i : ℕ) {bits bits' : List ℕ} → i < length ts → Wiped bits bits' (word ts i)
-    → Only bits (drop i ts) → Only bits' (drop (i + 1) ts)
-only_more ts i {bits} h w o =
-    let m : drop i ts ≡ word ts i ∷ drop (i + 1) ts = rw (add-one i) (drop-cons ts i 0 h) in
-    only_wiped (subst (Only bits) m o) w
-
-pub only_done : (ts : List ℕ) (i : ℕ) {bits : List ℕ} → length ts ≤ i → Only bits (drop i ts) → Holds bits []
-only_done ts i {bits} h o = only_none (subst (Only bits) (drop_of_length-le ts h) o)

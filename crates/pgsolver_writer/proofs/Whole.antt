@@ -1,11 +1,14 @@
 -- The whole call: what its parts leave is the rules' writing, and so the answer's words. Assumes nothing.
-use mathlib.Core.Path.{◌≡◌, refl, sym, ap, subst}
+use mathlib.Core.Path.{◌≡◌, refl, sym, ap, ◌∙◌, subst}
 use mathlib.Core.List.{List}
 use Prim.Native.Nat.{ℕ}
 use lib.ListN.{length}
 use Rattle.rules.specs.declared.Answer.{Answer}
 use Rattle.rules.specs.declared.Answer.TheVariants.{Refused}
-use Rattle.std.specs.declared.result.Result.TheVariants.{Ok}
+use Rattle.std.specs.declared.result.Result.{Result}
+use Rattle.std.specs.declared.result.Result.TheVariants.{Ok, Err}
+use Rattle.std.specs.Result.{MatchResult, IsErrAnd}
+use Rattle.rules.specs.declared.Fault.{Fault}
 use Rattle.rules.specs.Answers.{fault}
 use Rattle.rules.specs.Answers.{said}
 use Rattle.rules.specs.Texts.{Written, text_into}
@@ -31,3 +34,22 @@ pub whole_writing : (g text : List ℕ) (a : Answer) (text' : List ℕ)
 whole_writing g text a text' e =
     let demand = subst (λ (w : Written). WritingDemand g text w.answer w.text) (sym e) (writing_demand g text) in
     (e, (ap (λ (w : Written). said w.answer) e, demand))
+
+-- ---- the answer, or why there is none
+
+abbrev pub Told : (g text text' : List ℕ) → Result Answer Fault → Type 0
+Told g text text' r =
+    MatchResult r (λ a. ◌≡◌ {A = Written} (record { answer = a; text = text' }) (written_game g text))
+    (λ f. ◌≡◌ {A = Written} (record { answer = Refused f.number f.place; text = text' }) (written_game g text))
+
+pub told_fault : (g text : List ℕ) (r : Result Answer Fault) (f : Fault) → IsErrAnd r (λ e. e ≡ f)
+    → Err f ≡ writing_refusal g → Told g text text r
+told_fault g text (Ok a) f e w = absurd e
+told_fault g text (Err e) f same w = refused g text e.number e.place (sym w ∙ ap Err (sym same))
+
+-- one answer of both
+pub told_answer : (g text text' : List ℕ) (r : Result Answer Fault) (a : Answer) → Told g text text' r
+    → MatchResult r (λ b. a ≡ b) (λ f. a ≡ Refused f.number f.place)
+    → ◌≡◌ {A = Written} (record { answer = a; text = text' }) (written_game g text)
+told_answer g text text' (Ok b) a t e = rw e t
+told_answer g text text' (Err f) a t e = rw e t

@@ -1,17 +1,17 @@
 -- What the functions that write a game's lines promise one another. Assumes nothing: these are definitions.
-use Rattle.std.specs.Prelude.{ℕ, ◌<◌, ◌≤◌, Bool, true, false, List, [], ◌∷◌, ◌++◌, length, eqb}
+use Rattle.std.specs.Prelude.{ℕ, ◌<◌, ◌≤◌, Bool, true, false, List, [], ◌∷◌, ◌++◌, length}
 use Rattle.rules.specs.Words.{most_vertices}
-use Rattle.rules.specs.Lists.{word, once}
+use Rattle.rules.specs.Lists.{word}
 use Rattle.rules.specs.Game.{vertex_count, targets_in}
 use Rattle.rules.specs.Texts.{decimal}
 use Rattle.rules.specs.Pgsolver.{comma_text}
 use Rattle.restrictions.specs.GoodGame.{GoodGame}
-use Rattle.pgsolver_writer.specs.declared.Vertex.{Vertex}
 
 -- what holds of the words of a game that is not refused in writing
 pub record Writable (g : List ℕ) : Type 0 where
   pub good : GoodGame g
   pub leads : (v : ℕ) → v < vertex_count g → 1 ≤ length (targets_in g v)
+  pub words : (i : ℕ) → word g i < 4_294_967_296
 
 -- a space before the first number, a comma before each other one
 unfoldable pub spaced_list : List ℕ → List ℕ
@@ -32,12 +32,3 @@ unless false s = s
 pub record Vertices (targets : List ℕ) : Type 0 where
   pub small : (i : ℕ) → i < length targets → word targets i < most_vertices
   pub few : length targets < 4_294_967_296
-
--- a line: number, priority, owner and successors, each of these once
-unfoldable pub line_by : (number priority owner : ℕ) → List ℕ → List ℕ
-line_by number priority owner targets =
-    decimal number
-    ++ ((32 ∷ decimal priority) ++ ((32 ∷ decimal owner) ++ (spaced_list (once eqb targets) ++ (59 ∷ 10 ∷ []))))
-
-abbrev pub line_of : Vertex → List ℕ
-line_of v = line_by v.number v.priority v.owner v.targets.now

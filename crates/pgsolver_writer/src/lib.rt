@@ -2,7 +2,8 @@
 // `write_pgsolver` is the one function for users; the others are its parts.
 #![tactic(auto)]
 
-ghost use Rattle.std.specs.Prelude.{Ok, ◌≡◌, cond, [], ◌∷◌, ◌*◌, ◌<◌, ◌≤◌, length, eqb};
+ghost use Rattle.std.specs.Prelude.{Ok, ◌≡◌, cond, [], ◌∷◌, ◌*◌, ◌<◌, ◌≤◌, length, eqb, MatchResult};
+ghost use Rattle.rules.specs.declared.Answer.TheVariants.{Refused};
 ghost use Rattle.rules.specs.Answers.{said};
 ghost use Rattle.rules.specs.Lists.{once};
 ghost use Rattle.rules.specs.Game.{vertex_count};
@@ -12,10 +13,11 @@ ghost use Rattle.rules.specs.PgsolverWriting.{line_in, game_text, refusal98, wri
 ghost use Rattle.rules.specs.PgsolverCalls.{WritingDemand};
 ghost use Rattle.text_writer.specs.Appending.{Room, Appended};
 ghost use Rattle.restrictions.specs.GoodGame.{GoodGame};
-ghost use Rattle.bitmap.specs.Marks.{bitmap_words, bitmap_numbers, marked, Met, Holds, Only};
-ghost use Rattle.pgsolver_writer.specs.Successors.{Writable, spaced_list, unless, Vertices, line_of};
+ghost use Rattle.bitmap.specs.Marks.{bitmap_numbers, marked, Met, Holds, Only};
+ghost use Rattle.pgsolver_writer.specs.Successors.{Writable, spaced_list, unless, Vertices};
 
 use bitmap::{Bitmap, WORDS};
+use parity_game::{Game, OWNER, PRIORITY, TARGET};
 use rules::{Answer, Fault};
 use text_writer::Text;
 
@@ -26,16 +28,10 @@ fn check_successors(game: &[u32]) -> Result<(), Fault>
     requires { GoodGame game.now }
     ensures { result ≡ refusal98 game.now }
 {
-    let vertices = words::at(game, 0);
-    for vertex in 0..vertices {
-        let first = parity_game::edges_from(game, 0, vertex);
-        let end = parity_game::edges_from(game, 0, vertex + 1);
-        if first == end {
-            return Err(Fault {
-                number: 98,
-                place: 0,
-            });
-        }
+    let game = Game { words: game };
+    // Kept (proof): by `any` over the range, the search does not get from its run of calls to a vertex.
+    for vertex in 0..game.vertices() {
+        faults::fault_if(98, 0, game.edge_words(TARGET, vertex).is_empty())?;
     }
     Ok(())
 }
@@ -49,128 +45,31 @@ fn check_writing(game: &[u32]) -> Result<(), Fault>
     check_successors(game)
 }
 
-// ---- what a line shows
-
-// A vertex of a game.
-#[derive(Clone, Copy)]
-struct Vertex<'a> {
-    number: usize,
-    priority: usize,
-    owner: usize,
-    targets: &'a [u32],
-}
-
-fn vertex_of<'a>(game: &'a [u32], number: usize) -> Vertex<'a>
-    requires { Writable game.now × (number < vertex_count game.now) }
-    ensures line { line_of result ≡ line_text (line_in game.now number) }
-    ensures targets { Vertices result.targets.now }
-{
-    let first = parity_game::edges_from(game, 0, number);
-    let end = parity_game::edges_from(game, 0, number + 1);
-    Vertex {
-        number,
-        priority: parity_game::vertex_word(game, 1, number),
-        owner: parity_game::vertex_word(game, 0, number),
-        targets: &game[first..end],
-    }
-}
-
 // ---- successors, each once: the bitmap marks those that were met, and is empty between two vertices
-
-// Empties the bitmap, in which only these vertices are marked.
-fn wipe_all(targets: &[u32], bits: &mut Bitmap)
-    requires vertices { Vertices targets.now }
-    requires only { Only bits.old targets.now }
-    ensures { Holds bits.new [] }
-{
-    for target in targets {
-        bitmap::wipe(bits, *target as usize);
-    }
-}
-
-// The same; where there are more vertices than words of the bitmap, by clearing all of it.
-fn empty(targets: &[u32], bits: &mut Bitmap)
-    requires vertices { Vertices targets.now }
-    requires only { Only bits.old targets.now }
-    ensures { Holds bits.new [] }
-{
-    if WORDS < targets.len() {
-        bitmap::clear(bits);
-    } else {
-        wipe_all(targets, bits);
-    }
-}
+// Kept (no plainer): that it is empty holds between two vertices and not while one is written, so no invariant says it.
 
 // How many bytes a successor takes, with what stands before it: none where it was met before.
 fn successor_length(target: usize, bits: &mut Bitmap) -> usize
-    requires { (target < bitmap_numbers) × (length bits.old ≡ bitmap_words) }
-    ensures value { (result ≡ length (unless (marked bits.old target) (32 ∷ decimal target))) × (result ≤ 11) }
+    requires { target < bitmap_numbers }
+    ensures bytes { (result ≡ length (unless (marked bits.old target) (32 ∷ decimal target))) × (result ≤ 11) }
     ensures met { Met bits.old bits.new target }
 {
-    let new = bitmap::meet(bits, target);
+    let new = bits.meet(target);
     if new {
         return 1 + text_writer::digit_count(target);
     }
     0
 }
 
-// How many bytes the successors take.
-fn successors_length(targets: &[u32], bits: &mut Bitmap) -> usize
-    requires vertices { Vertices targets.now }
-    requires holds { Holds bits.old [] }
-    ensures value { (result ≡ length (spaced_list (once eqb targets.now))) × (result ≤ 11 * length targets.now) }
-    ensures holds_2 { Holds bits.new [] }
-{
-    let mut size = 0;
-    for target in targets {
-        size += successor_length(*target as usize, bits);
-    }
-    empty(targets, bits);
-    size
-}
-
-// ---- lengths
-
-// How many bytes the line of a vertex has: the parts, two spaces, a semicolon and a newline.
-fn line_length(vertex: &Vertex<'_>, bits: &mut Bitmap) -> usize
-    requires vertices { Vertices vertex.now.targets.now }
-    requires holds { Holds bits.old [] }
-    ensures { (result ≡ length (line_of vertex.now)) × Holds bits.new [] }
-{
-    let number = text_writer::digit_count(vertex.number);
-    let priority = text_writer::digit_count(vertex.priority);
-    let owner = text_writer::digit_count(vertex.owner);
-    let successors = successors_length(vertex.targets, bits);
-    number + priority + owner + successors + 4
-}
-
-// How many bytes the text of a game has; its first line has nine beside the digits.
-fn text_length(game: &[u32], bits: &mut Bitmap) -> usize
-    requires writable { Writable game.now }
-    requires holds { Holds bits.old [] }
-    ensures value { (result ≡ length (game_text game.now)) × (result < 4294967296) }
-    ensures holds_2 { Holds bits.new [] }
-{
-    let vertices = words::at(game, 0);
-    let mut size = text_writer::digit_count(vertices - 1) + 9;
-    for number in 0..vertices {
-        let vertex = vertex_of(game, number);
-        size += line_length(&vertex, bits);
-    }
-    size
-}
-
-// ---- writing: each function appends to the text
-
-// A successor behind its separator, unless it was met before. Answers the next one's separator.
+// Appends a successor behind its separator, unless it was met before. Answers the next one's separator.
 fn put_successor(text: &mut Text<'_>, separator: u8, target: usize, bits: &mut Bitmap) -> u8
-    requires target_lt_bitmap_numbers { (target < bitmap_numbers) × (length bits.old ≡ bitmap_words) }
+    requires small { target < bitmap_numbers }
     requires room { Room text.old (unless (marked bits.old target) (separator ∷ decimal target)) }
     ensures wrote { Appended (unless (marked bits.old target) (separator ∷ decimal target)) text.old text.new }
     ensures next { result ≡ cond (marked bits.old target) separator 44 }
     ensures met { Met bits.old bits.new target }
 {
-    let new = bitmap::meet(bits, target);
+    let new = bits.meet(target);
     if new {
         text.put_byte(separator);
         text.put_decimal(target);
@@ -179,36 +78,104 @@ fn put_successor(text: &mut Text<'_>, separator: u8, target: usize, bits: &mut B
     separator
 }
 
-// The successors, each once: a space before the first one, a comma before the others.
-fn put_successors(text: &mut Text<'_>, targets: &[u32], bits: &mut Bitmap)
-    requires vertices { Vertices targets.now }
-    requires holds { Holds bits.old [] }
-    requires room { Room text.old (spaced_list (once eqb targets.now)) }
-    ensures wrote { Appended (spaced_list (once eqb targets.now)) text.old text.new }
-    ensures holds_2 { Holds bits.new [] }
-{
-    let mut separator = b' ';
-    for target in targets {
-        separator = put_successor(text, separator, *target as usize, bits);
-    }
-    empty(targets, bits);
+// The successors of a vertex, as its game has them: one may stand there more than once.
+// Kept (no plainer): two loops go over them, to count their bytes and to write them. In one function over a closure,
+// nothing would be known of what the closure leaves in the bitmap.
+#[derive(Clone, Copy)]
+struct Targets<'a> {
+    words: &'a [u32],
+    ghost vertices: { Vertices words.now },
 }
 
-// The line of a vertex.
-#[tactic(auto, using(crate::proofs::Lines::line_size))]
-fn put_line(text: &mut Text<'_>, vertex: &Vertex<'_>, bits: &mut Bitmap)
-    requires vertices { Vertices vertex.now.targets.now }
-    requires holds { Holds bits.old [] }
-    requires room { Room text.old (line_of vertex.now) }
-    ensures wrote { Appended (line_of vertex.now) text.old text.new }
-    ensures holds_2 { Holds bits.new [] }
-{
-    text.put_decimal(vertex.number);
-    text.put_number(vertex.priority);
-    text.put_number(vertex.owner);
-    put_successors(text, vertex.targets, bits);
-    text.put_bytes(b";\n");
+impl<'a> Targets<'a> {
+    // Empties the bitmap, in which only these vertices are marked; where there are more of them than words of the
+    // bitmap, by clearing all of it.
+    fn empty(self, bits: &mut Bitmap)
+        requires { Only bits.old self.words.now }
+        ensures { Holds bits.new [] }
+    {
+        if WORDS < self.words.len() {
+            bits.clear();
+        } else {
+            bits.wipe_all(self.words);
+        }
+    }
+
+    // How many bytes they take.
+    fn length(self, bits: &mut Bitmap) -> usize
+        requires { Holds bits.old [] }
+        ensures bytes { let ts = self.entry.words.now in
+            (result ≡ length (spaced_list (once eqb ts))) × (result ≤ 11 * length ts) }
+        ensures emptied { Holds bits.new [] }
+    {
+        let mut size = 0;
+        for target in self.words {
+            size += successor_length(*target as usize, bits);
+        }
+        self.empty(bits);
+        size
+    }
+
+    // Appends them, each once: a space before the first one, a comma before the others.
+    fn put(self, text: &mut Text<'_>, bits: &mut Bitmap)
+        requires holds { Holds bits.old [] }
+        requires room { Room text.old (spaced_list (once eqb self.words.now)) }
+        ensures wrote { Appended (spaced_list (once eqb self.entry.words.now)) text.old text.new }
+        ensures emptied { Holds bits.new [] }
+    {
+        let mut separator = b' ';
+        for target in self.words {
+            separator = put_successor(text, separator, *target as usize, bits);
+        }
+        self.empty(bits);
+    }
 }
+
+// ---- lines
+
+// A vertex of a game, as its line shows it.
+// Kept (no plainer): the owner is the number that the game's word holds and the line shows; a `Player` would be made of
+// the one to be turned back for the other.
+#[derive(Clone, Copy)]
+struct Vertex<'a> {
+    number: usize,
+    priority: usize,
+    owner: usize,
+    targets: Targets<'a>,
+}
+
+impl<'a> Vertex<'a> {
+    ghost use Rattle.pgsolver_writer.specs.Lines.{line_of};
+
+    // How many bytes its line has: the parts, two spaces, a semicolon and a newline.
+    fn line_length(&self, bits: &mut Bitmap) -> usize
+        requires { Holds bits.old [] }
+        ensures { (result ≡ length (line_of self.now)) × Holds bits.new [] }
+    {
+        let number = text_writer::digit_count(self.number);
+        let priority = text_writer::digit_count(self.priority);
+        let owner = text_writer::digit_count(self.owner);
+        let successors = self.targets.length(bits);
+        number + priority + owner + successors + 4
+    }
+
+    // Its line.
+    #[tactic(auto, using(crate::proofs::Lines::line_size))]
+    fn put_line(&self, text: &mut Text<'_>, bits: &mut Bitmap)
+        requires holds { Holds bits.old [] }
+        requires room { Room text.old (line_of self.now) }
+        ensures wrote { Appended (line_of self.now) text.old text.new }
+        ensures emptied { Holds bits.new [] }
+    {
+        text.put_decimal(self.number);
+        text.put_number(self.priority);
+        text.put_number(self.owner);
+        self.targets.put(text, bits);
+        text.put_bytes(b";\n");
+    }
+}
+
+// ---- the text
 
 // The first line.
 #[tactic(auto, using(crate::proofs::Texts::header_size))]
@@ -221,18 +188,55 @@ fn put_header(text: &mut Text<'_>, highest: usize)
     text.put_bytes(b";\n");
 }
 
-// The text of a game.
-fn put_text(text: &mut Text<'_>, game: &[u32], bits: &mut Bitmap)
-    requires writable { Writable game.now }
-    requires holds { Holds bits.old [] }
-    requires room { Room text.old (game_text game.now) }
-    ensures { Appended (game_text game.now) text.old text.new }
-{
-    let vertices = words::at(game, 0);
-    put_header(text, vertices - 1);
-    for number in 0..vertices {
-        let vertex = vertex_of(game, number);
-        put_line(text, &vertex, bits);
+// A game that can be written.
+#[derive(Clone, Copy)]
+struct WritableGame<'a> {
+    game: Game<'a>,
+    ghost writable: { Writable game.words.now },
+}
+
+impl<'a> WritableGame<'a> {
+    ghost use Rattle.pgsolver_writer.specs.Lines.{line_of};
+
+    fn vertex(self, number: usize) -> Vertex<'a>
+        requires { number < vertex_count self.game.words.now }
+        ensures { line_of result ≡ line_text (line_in self.entry.game.words.now number) }
+    {
+        Vertex {
+            number,
+            priority: self.game.vertex_word(PRIORITY, number),
+            owner: self.game.vertex_word(OWNER, number),
+            targets: Targets {
+                words: self.game.edge_words(TARGET, number),
+            },
+        }
+    }
+
+    // How many bytes its text has; the first line has nine beside the digits.
+    fn text_length(self, bits: &mut Bitmap) -> usize
+        requires { Holds bits.old [] }
+        ensures bytes { (result ≡ length (game_text self.entry.game.words.now)) × (result < 4294967296) }
+        ensures emptied { Holds bits.new [] }
+    {
+        let vertices = self.game.vertices();
+        let mut size = text_writer::digit_count(vertices - 1) + 9;
+        for number in 0..vertices {
+            size += self.vertex(number).line_length(bits);
+        }
+        size
+    }
+
+    // Its text.
+    fn put_text(self, text: &mut Text<'_>, bits: &mut Bitmap)
+        requires holds { Holds bits.old [] }
+        requires room { Room text.old (game_text self.game.words.now) }
+        ensures { Appended (game_text self.entry.game.words.now) text.old text.new }
+    {
+        let vertices = self.game.vertices();
+        put_header(text, vertices - 1);
+        for number in 0..vertices {
+            self.vertex(number).put_line(text, bits);
+        }
     }
 }
 
@@ -242,14 +246,27 @@ fn write_checked(game: &[u32], text: &mut [u8]) -> Answer
     ensures { record { answer = result; text = text.new }
         ≡ written_game game.now text.old }
 {
-    let mut bits = [0u32; WORDS];
-    let size = text_length(game, &mut bits);
+    let shown = WritableGame {
+        game: Game { words: game },
+    };
+    let mut bits = Bitmap::new();
+    let size = shown.text_length(&mut bits);
     if text.len() < size {
         return Answer::Refused(2, 0);
     }
     let mut written = Text::new(text);
-    put_text(&mut written, game, &mut bits);
+    shown.put_text(&mut written, &mut bits);
     written.finish()
+}
+
+// A game is written, or has a fault.
+fn write_text(game: &[u32], text: &mut [u8]) -> Result<Answer, Fault>
+    ensures { let whole = written_game game.now text.old in MatchResult result
+        (λ answer. ◌≡◌ {A = Written} (record { answer = answer; text = text.new }) whole)
+        (λ fault. ◌≡◌ {A = Written} (record { answer = Refused fault.number fault.place; text = text.new }) whole) }
+{
+    check_writing(game)?;
+    Ok(write_checked(game, text))
 }
 
 // Writes a game as PGSolver text into the text slice. Refused are 51, 52 and 53 as a restriction is, 98 for a vertex
@@ -264,8 +281,5 @@ pub fn write_pgsolver(game: &[u32], text: &mut [u8]) -> Answer
     ensures coded { said result ≡ said (written_game game.now text.old).answer }
     ensures demand { WritingDemand game.now text.old result text.new }
 {
-    match check_writing(game) {
-        Err(fault) => Answer::from(fault),
-        Ok(()) => write_checked(game, text),
-    }
+    write_text(game, text).unwrap_or_else(Answer::from)
 }

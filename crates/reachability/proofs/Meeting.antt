@@ -17,7 +17,7 @@ use Rattle.lists.proofs.Inserts.{insert_new, insert_old}
 use Rattle.lists.proofs.Equalities.{number_equality}
 use Rattle.lists.proofs.Ranges.{from-length, from_in}
 use Rattle.restrictions.proofs.Kept.{number_in, number-out, number_below}
-use Rattle.reachability.specs.Search.{Knows}
+use Rattle.reachability.specs.Knowing.{Knows}
 
 -- ---- the new number, once one more vertex is met
 

@@ -14,7 +14,7 @@ use Rattle.rules.specs.Game.{vertex_count, initial_in, edge_words_in, targets_in
 use Rattle.rules.specs.Restrict.{search_from, reached_vertices}
 use Rattle.lists.proofs.Inserts.{inserts_none, inserts_cons, insert_new}
 use Rattle.lists.proofs.Equalities.{number_equality}
-use Rattle.reachability.specs.Search.{Knows}
+use Rattle.reachability.specs.Knowing.{Knows}
 use Rattle.reachability.proofs.Meeting.{length_known}
 
 -- ---- the targets that are left

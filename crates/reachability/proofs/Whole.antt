@@ -16,7 +16,7 @@ use Rattle.rules.specs.Restricts.{Restricts, RestrictionDemand1}
 use Rattle.restrictions.proofs.Kept.{kept_length}
 use Rattle.restrictions.proofs.Restriction.{restriction_passed, restriction_refused, restriction_restricts}
 use Rattle.restrictions.proofs.Refusals.{restriction_demand1}
-use Rattle.reachability.specs.Search.{Knows}
+use Rattle.reachability.specs.Knowing.{Knows}
 use Rattle.reachability.proofs.Meeting.{length_known}
 use Rattle.reachability.proofs.Written.{map_is}
 

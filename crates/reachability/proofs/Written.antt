@@ -7,7 +7,7 @@ use lib.Seq.{ext_get_or}
 use Rattle.rules.specs.Game.{vertex_count}
 use Rattle.rules.specs.Restrict.{new_number, vertex_map, reached_vertices}
 use Rattle.restrictions.proofs.Kept.{map-length, map-word}
-use Rattle.reachability.specs.Search.{Knows}
+use Rattle.reachability.specs.Knowing.{Knows}
 
 -- the map
 pub map_is : (g mapping work : List ℕ) (count : ℕ) → Knows count mapping work → length mapping ≡ vertex_count g → take count work ≡ reached_vertices g

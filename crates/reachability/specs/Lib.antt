@@ -1,2 +1,3 @@
-pub mod Search
+pub mod Knowing
+pub mod Meets
 pub mod Parts

@@ -3,129 +3,149 @@
 // docs/STORED-RUNS.md lays out a record and a line.
 #![tactic(auto)]
 
-ghost use Rattle.std.specs.Prelude.{◌≤◌, ◌<◌, length, ◌≡◌};
+ghost use Rattle.std.specs.Prelude.{◌≤◌};
 
 use rules::Room;
 use std::io;
-use stored_runs::Groups;
+use stored_runs::{Groups, Lent, lent_length};
 
-fn bad_record(rt: &impl Print) -> io::Result<()> {
-    println!(rt; "bad record")
+// The words of a record: what the call is, and what is handed over.
+#[derive(Clone, Copy)]
+struct Record {
+    head: [u32; 12],
+    handed: [u32; 64],
 }
 
-// A build whose lent slices have so many words, each word `fill` before the call.
-fn lend_build(
-    rt: &impl Print,
-    input: Groups<'_>,
+impl From<[u8; 304]> for Record {
+    fn from(bytes: [u8; 304]) -> Record {
+        let mut head = [0u32; 12];
+        let mut handed = [0u32; 64];
+        words::read_words(&bytes[..48], &mut head);
+        words::read_words(&bytes[48..], &mut handed);
+        Record { head, handed }
+    }
+}
+
+// A run: its input, its room, and how long the lent slices are, in which each word is `fill` before the call.
+#[derive(Clone, Copy)]
+struct Build<'a> {
+    input: Groups<'a>,
     room: Room,
     limit: u32,
     fill: u32,
-    game_length: usize,
-    work_length: usize,
-) -> io::Result<()>
-    requires { (game_length ≤ 117) × (work_length ≤ 193) }
-{
-    let mut game = stored_runs::filled::<u32, 117>(fill);
-    let mut work = stored_runs::filled::<u32, 193>(fill);
-    let (game, work) = (&mut game[..game_length], &mut work[..work_length]);
-    let answer = translate::translate(
-        input.labels,
-        input.system,
-        input.actions,
-        input.formula,
-        room.vertices,
-        room.edges,
+    game: usize,
+    work: usize,
+    ghost few: { (game ≤ 117) × (work ≤ 193) },
+}
+
+// A stored call.
+#[derive(Clone, Copy)]
+enum Call<'a> {
+    Build(Build<'a>),
+    Restrict(&'a [u32], Lent),
+}
+
+// So many words, and those behind them; None where there are fewer.
+fn split(words: &[u32], length: u32) -> Option<(&[u32], &[u32])> {
+    let length = length as usize;
+    if words.len() < length {
+        return None;
+    }
+    Some(words.split_at(length))
+}
+
+// The four groups of words stand one after the other.
+fn build_of(record: &Record) -> Option<Build<'_>> {
+    let [
+        _,
+        vertices,
+        edges,
         limit,
+        labels,
+        system,
+        actions,
+        formula,
+        game,
+        _,
+        work,
+        fill,
+    ] = record.head;
+    let (labels, rest) = split(&record.handed, labels)?;
+    let (system, rest) = split(rest, system)?;
+    let (actions, rest) = split(rest, actions)?;
+    let (formula, _) = split(rest, formula)?;
+    let (game, work) = (game as usize, work as usize);
+    if 117 < game || 193 < work {
+        return None;
+    }
+    let input = Groups {
+        labels,
+        system,
+        actions,
+        formula,
+    };
+    let room = Room { vertices, edges };
+    Some(Build {
+        input,
+        room,
+        limit,
+        fill,
+        game,
+        work,
+    })
+}
+
+fn restriction_of(record: &Record) -> Option<Call<'_>> {
+    let [_, _, _, _, game, _, _, _, out, map, work, fill] = record.head;
+    let (game, _) = split(&record.handed, game)?;
+    let lent = Lent {
+        fill,
+        out: lent_length(out),
+        map: lent_length(map),
+        work: lent_length(work),
+    };
+    Some(Call::Restrict(game, lent))
+}
+
+// The call that a record stands for: word 0 says which. None for a bad record.
+fn call_of(record: &Record) -> Option<Call<'_>> {
+    match record.head[0] {
+        0 => build_of(record).map(Call::Build),
+        1 => restriction_of(record),
+        _ => None,
+    }
+}
+
+fn lend_build(rt: &impl Print, call: Build<'_>) -> io::Result<()> {
+    let mut game = stored_runs::filled::<u32, 117>(call.fill);
+    let mut work = stored_runs::filled::<u32, 193>(call.fill);
+    let (game, work) = (&mut game[..call.game], &mut work[..call.work]);
+    let answer = translate::translate(
+        call.input.labels,
+        call.input.system,
+        call.input.actions,
+        call.input.formula,
+        call.room.vertices,
+        call.room.edges,
+        call.limit,
         game,
         work,
     );
     stored_runs::outcome_line(rt, answer, game, &[], work)
 }
 
-// The length at a place; one above 4,096 counts as 4,096, which is too long for all words of a record.
-fn length_at(stored: &[u32], place: usize) -> usize
-    requires { place < length stored.now }
-    ensures { result ≤ 4096 }
-{
-    stored_runs::length_of(stored[place], 4096)
-}
-
-// The four groups of words stand one after the other from word 12 on.
-fn replay_build(rt: &impl Print, stored: &[u32]) -> io::Result<()>
-    requires { length stored.now ≡ 76 }
-{
-    let labels_end = 12 + length_at(stored, 4);
-    let system_end = labels_end + length_at(stored, 5);
-    let actions_end = system_end + length_at(stored, 6);
-    let end = actions_end + length_at(stored, 7);
-    let game_length = length_at(stored, 8);
-    let work_length = length_at(stored, 10);
-    if end > 76 || game_length > 117 || work_length > 193 {
-        return bad_record(rt);
-    }
-    let input = Groups {
-        labels: &stored[12..labels_end],
-        system: &stored[labels_end..system_end],
-        actions: &stored[system_end..actions_end],
-        formula: &stored[actions_end..end],
-    };
-    let room = Room {
-        vertices: stored[1],
-        edges: stored[2],
-    };
-    lend_build(
-        rt,
-        input,
-        room,
-        stored[3],
-        stored[11],
-        game_length,
-        work_length,
-    )
-}
-
-// The game's words stand from word 12 on.
-fn replay_restrict(rt: &impl Print, stored: &[u32]) -> io::Result<()>
-    requires { length stored.now ≡ 76 }
-{
-    let end = 12 + length_at(stored, 4);
-    if end > 76 {
-        return bad_record(rt);
-    }
-    let out_length = length_at(stored, 8);
-    let map_length = length_at(stored, 9);
-    let work_length = length_at(stored, 10);
-    stored_runs::restrict(
-        rt,
-        &stored[12..end],
-        stored[11],
-        out_length,
-        map_length,
-        work_length,
-    )
-}
-
-// One record: word 0 says which call.
-fn replay(rt: &impl Print, stored: &[u32]) -> io::Result<()>
-    requires { length stored.now ≡ 76 }
-{
-    match stored[0] {
-        0 => replay_build(rt, stored),
-        1 => replay_restrict(rt, stored),
-        _ => bad_record(rt),
+fn replay(rt: &impl Print, record: &Record) -> io::Result<()> {
+    match call_of(record) {
+        Some(Call::Build(call)) => lend_build(rt, call),
+        Some(Call::Restrict(game, lent)) => stored_runs::restrict(rt, game, lent),
+        None => println!(rt; "bad record"),
     }
 }
 
-// At most a million records, so that the program ends whatever it reads.
 fn main(rt: HostRuntime) -> io::Result<()> {
-    let mut input = rt.stdin();
-    for _ in 0..1000000 {
-        let Some(text) = stored_runs::read_array::<_, 304>(&mut input)? else {
-            return Ok(());
-        };
-        let mut stored = [0u32; 76];
-        stored_runs::read_words(&text, 0, &mut stored);
-        replay(&rt, &stored)?;
-    }
+    stored_runs::each_record(
+        &mut rt.stdin(),
+        |_stdin, record: Record| replay(&rt, &record),
+    )?;
     Ok(())
 }

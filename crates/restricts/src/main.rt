@@ -3,43 +3,55 @@
 // length above 4,096 counts as 4,096.
 #![tactic(auto)]
 
-ghost use Rattle.std.specs.Prelude.{◌≡◌, ◌+◌, ◌≤◌, length};
+ghost use Rattle.std.specs.Prelude.{◌≤◌};
 
 use std::io;
 use std::io::Read;
+use stored_runs::{Lent, lent_length};
 
-// The length that stands at a place.
-fn length_at(head: &[u8], place: usize) -> usize
-    requires { place + 4 ≤ length head.now }
-    ensures { result ≤ 4096 }
-{
-    stored_runs::length_of(words::word_at(head, place), 4096)
+// How long the game is, and what is lent for it.
+#[derive(Clone, Copy)]
+struct Head {
+    game: usize,
+    lent: Lent,
+    ghost few: { game ≤ 4096 },
 }
 
-// The game whose lengths are these is read and restricted, or nothing is printed where the input ends before.
-fn restrict_next<R: Read>(rt: &impl Print, stdin: &mut R, head: &[u8]) -> io::Result<()>
-    requires { length head.now ≡ 16 }
-{
-    let mut text = stored_runs::filled::<u8, 16384>(0);
-    let mut game = stored_runs::filled::<u32, 4096>(0);
-    let game = &mut game[..length_at(head, 0)];
-    let size = 4 * game.len();
-    if stored_runs::read_full(stdin, &mut text[..size])? < size {
+impl From<[u8; 16]> for Head {
+    fn from(bytes: [u8; 16]) -> Head {
+        let mut lengths = [0u32; 4];
+        words::read_words(&bytes, &mut lengths);
+        let [game, out, map, work] = lengths;
+        let lent = Lent {
+            fill: 7,
+            out: lent_length(out),
+            map: lent_length(map),
+            work: lent_length(work),
+        };
+        Head {
+            game: lent_length(game),
+            lent,
+        }
+    }
+}
+
+// The game is read and restricted, or nothing is printed where the input ends before.
+fn restrict_next<R: Read>(rt: &impl Print, stdin: &mut R, head: Head) -> io::Result<()> {
+    let mut bytes = stored_runs::filled::<u8, 16384>(0);
+    let bytes = &mut bytes[..4 * head.game];
+    if reading::read_full(stdin, bytes)? < bytes.len() {
         return Ok(());
     }
-    stored_runs::read_words(&text, 0, game);
-    let (out, map, work) = (length_at(head, 4), length_at(head, 8), length_at(head, 12));
-    stored_runs::restrict(rt, game, 7, out, map, work)
+    let mut game = stored_runs::filled::<u32, 4096>(0);
+    let game = &mut game[..head.game];
+    words::read_words(bytes, game);
+    stored_runs::restrict(rt, game, head.lent)
 }
 
-// At most a million games, so that the program ends whatever it reads.
 fn main(rt: HostRuntime) -> io::Result<()> {
-    let mut stdin = rt.stdin();
-    for _ in 0..1000000 {
-        let Some(head) = stored_runs::read_array::<_, 16>(&mut stdin)? else {
-            return Ok(());
-        };
-        restrict_next(&rt, &mut stdin, &head)?;
-    }
+    stored_runs::each_record(
+        &mut rt.stdin(),
+        |stdin, head: Head| restrict_next(&rt, stdin, head),
+    )?;
     Ok(())
 }

@@ -15,11 +15,12 @@ use lib.Seq.{get_or-set_same, get_or-set_other, get_or-take, get_or-drop}
 use Rattle.rules.specs.Lists.{word, from}
 use Rattle.lists.proofs.Members.{map_at, map-append}
 use Rattle.lists.proofs.Ranges.{from-length, from_at, from_snoc}
-use Rattle.words.specs.Regions.{region, put_word}
-use Rattle.words.proofs.Regions.{rise, word_at, region_past, rest_put, rest_later}
+use Rattle.work_slice.specs.Regions.{region, put_word}
+use Rattle.words.proofs.Regions.{rise}
+use Rattle.work_slice.proofs.Regions.{word_at, region_past, rest_put, rest_later}
 use Rattle.pairs.specs.Table.{Table}
 use Rattle.settling.specs.declared.Counters.{Counters}
-use Rattle.settling.specs.Stand.{waiting_in, edges_of, counts_of, marks_of, put_edge, put_count, put_mark}
+use Rattle.settling.specs.Stand.{waiting_in, edges_of, counts_of, marks_of, put_edge, put_count}
 use Rattle.settling.specs.Stand.{settled_in, degree_in}
 use Rattle.settling.specs.Made.{Ready}
 
@@ -282,28 +283,27 @@ counts_raised v e i count n w h room whole =
 
 -- ---- as the code puts them: a count e words behind its target, and a count that rises by one
 
-pub edge_stored : (v e i x count : ℕ) (w : List ℕ) → i < e
-    → set (set w (8 * v + (e - 1 - i)) x) (8 * v + (e - 1 - i) + e) count ≡ put_edge v e i x count w
+pub edge_stored : (v e i x count j : ℕ) (w : List ℕ) → i < e → j ≡ 8 * v + (e - 1 - i)
+    → set (set w j x) (j + e) count ≡ put_edge v e i x count w
 unfolding put_edge
-edge_stored v e i x count w h =
-    let y : 8 * v + (e - 1 - i) ≡ 8 * v + e - suc i = omega arith in
-    let z : 8 * v + (e - 1 - i) + e ≡ 8 * v + 2 * e - suc i = omega arith in
-    ap₂ (λ (j k : ℕ). set (set w j x) k count) y z
+edge_stored v e i x count j w h g =
+    let y : j ≡ 8 * v + e - suc i = omega (arith, g) in
+    let z : j + e ≡ 8 * v + 2 * e - suc i = omega (arith, g) in
+    ap₂ (λ (k m : ℕ). set (set w k x) m count) y z
 
 -- the word of a count, as the code says it
-pub count_word : (v e i : ℕ) (w : List ℕ) → i < e
-    → word w (8 * v + e + (e - 1 - i)) ≡ word (counts_of w v e e) i
-count_word v e i w h =
-    let z : 8 * v + e + (e - 1 - i) ≡ 8 * v + 2 * e - suc i = omega arith in
+pub count_word : (v e i j : ℕ) (w : List ℕ) → i < e → j ≡ 8 * v + (e - 1 - i)
+    → word w (j + e) ≡ word (counts_of w v e e) i
+count_word v e i j w h g =
+    let z : j + e ≡ 8 * v + 2 * e - suc i = omega (arith, g) in
     ap (word w) z ∙ count_at v e e i w h
 
-pub count_stored : (v e i : ℕ) (w : List ℕ) → i < e
-    → set w (8 * v + e + (e - 1 - i)) (word w (8 * v + e + (e - 1 - i)) + 1)
-    ≡ put_count v e i (word (counts_of w v e e) i + 1) w
+pub count_stored : (v e i j : ℕ) (w : List ℕ) → i < e → j ≡ 8 * v + (e - 1 - i)
+    → set w (j + e) (word w (j + e) + 1) ≡ put_count v e i (word (counts_of w v e e) i + 1) w
 unfolding put_count
-count_stored v e i w h =
-    let z : 8 * v + e + (e - 1 - i) ≡ 8 * v + 2 * e - suc i = omega arith in
-    ap₂ (λ (k n : ℕ). set w k (n + 1)) z (count_word v e i w h)
+count_stored v e i j w h g =
+    let z : j + e ≡ 8 * v + 2 * e - suc i = omega (arith, g) in
+    ap₂ (λ (k n : ℕ). set w k (n + 1)) z (count_word v e i j w h g)
 
 -- ---- the marks
 
@@ -311,16 +311,12 @@ pub length_marks : (v n : ℕ) (w : List ℕ) → 7 * v + n ≤ length w → len
 unfolding marks_of
 length_marks v n w h = simp (length-take, length-drop) (omega arith)
 
-pub length-put_mark : (v i x : ℕ) (w : List ℕ) → length (put_mark v i x w) ≡ length w
-unfolding put_mark
-length-put_mark v i x w = length-set w (7 * v + i) x
-
 pub mark_at : (v n i : ℕ) (w : List ℕ) → i < n → word (marks_of w v n) i ≡ word w (7 * v + i)
 unfolding marks_of
 mark_at v n i w h = get_or-take n (drop (7 * v) w) i 0 h ∙ get_or-drop (7 * v) w i 0
 
-pub mark_put : (v i x n : ℕ) (w : List ℕ) → i < n → marks_of (put_mark v i x w) v n ≡ set (marks_of w v n) i x
-unfolding marks_of put_mark
+pub mark_put : (v i x n : ℕ) (w : List ℕ) → i < n → marks_of (put_word 7 v i x w) v n ≡ set (marks_of w v n) i x
+unfolding marks_of put_word
 mark_put v i x n w h = ap (take n) (drop-set-add (7 * v) w i x) ∙ take-set-lt n (drop (7 * v) w) i x h
 
 -- the first v of them are their region
@@ -338,8 +334,8 @@ marks_same v n w w' size same =
     ap (word w') z ∙ same (q - 7 * v) (omega arith) ∙ ap (word w) (sym z))
 
 -- a mark changes no other region
-pub region_mark : (r v i x : ℕ) (w : List ℕ) → r < 7 → region r v (put_mark v i x w) ≡ region r v w
-unfolding put_mark
+pub region_mark : (r v i x : ℕ) (w : List ℕ) → r < 7 → region r v (put_word 7 v i x w) ≡ region r v w
+unfolding put_word
 region_mark r v i x w h = region_past r v (7 * v + i) x w (omega (arith, rise r 7 v h))
 
 -- marks that do not reach the word of the target at place p end before it
@@ -383,8 +379,8 @@ past_marks v e n many p free room l = go (dec_lt v many)
 
 -- then a mark changes neither them nor their counts
 pub edges_mark : (v e n i x many : ℕ) (w : List ℕ) → (v < many → many + n ≤ v + e) → i < many → n ≤ e
-    → edges_of (put_mark v i x w) v e n ≡ edges_of w v e n
-unfolding put_mark
+    → edges_of (put_word 7 v i x w) v e n ≡ edges_of w v e n
+unfolding put_word
 edges_mark v e n i x many w free h room =
     edges_same v e n w (set w (7 * v + i) x)
     (λ p a b.
@@ -393,8 +389,8 @@ edges_mark v e n i x many w free h room =
     room
 
 pub counts_mark : (v e n i x many : ℕ) (w : List ℕ) → (v < many → many + n ≤ v + e) → i < many → n ≤ e
-    → counts_of (put_mark v i x w) v e n ≡ counts_of w v e n
-unfolding put_mark
+    → counts_of (put_word 7 v i x w) v e n ≡ counts_of w v e n
+unfolding put_word
 counts_mark v e n i x many w free h room =
     counts_same v e n w (set w (7 * v + i) x)
     (λ p a b.

@@ -6,8 +6,8 @@ use native.Mathlib.Numerals.{add-one}
 use native.Mathlib.Omega.{arith}
 use lib.Dec.{lit<}
 use lib.ListN.{length, set}
-use Rattle.words.specs.Regions.{region, put_word}
-use Rattle.words.proofs.Regions.{region_same, region_other, length-put_word}
+use Rattle.work_slice.specs.Regions.{region, put_word}
+use Rattle.work_slice.proofs.Regions.{region_same, region_other, length-put_word}
 use Rattle.pairs.proofs.Uses.{keys_kept, table_kept}
 use Rattle.settling.specs.declared.Counters.{Counters}
 use Rattle.settling.specs.Stand.{edges_of, counts_of, put_edge}

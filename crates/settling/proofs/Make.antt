@@ -18,8 +18,8 @@ use Rattle.lists.specs.Shapes.{Begins, positions}
 use Rattle.lists.proofs.Shapes.{begins_length}
 use Rattle.lists.proofs.Inserts.{inserts_none, inserts_append, inserts_begins, inserts_holds, positions-append, positions_begins}
 use Rattle.lists.proofs.Equalities.{number_equality}
-use Rattle.words.specs.Regions.{region}
-use Rattle.words.proofs.Regions.{rest_region, word_at}
+use Rattle.work_slice.specs.Regions.{region}
+use Rattle.work_slice.proofs.Regions.{rest_region, word_at}
 use Rattle.pairs.specs.Table.{keys_of}
 use Rattle.pairs.proofs.Uses.{keys_kept, table_kept}
 use Rattle.settling.specs.declared.Counters.{Counters}
@@ -153,13 +153,13 @@ many_early w v e c ts us f =
 
 -- ---- one target
 
--- the counters after the vertex of a pair got an edge
-abbrev pub with_edge : Counters → ℕ → ℕ → Counters
-with_edge c n m = record { known = n; settled = c.settled; edges = c.edges + 1; waiting = m }
+-- the counters with so many edges
+abbrev pub with_edges : Counters → ℕ → Counters
+with_edges c n = record { known = c.known; settled = c.settled; edges = n; waiting = c.waiting }
 
 -- met, then perhaps marked, then given an edge, behind which so many transitions stand
-module _ (v e : ℕ) (w w₁ w₂ w₃ : List ℕ) (c : Counters) (t u n m count : ℕ) (r : Ready w v e c)
-    (p : Meeting w w₁ v c.known c.waiting t u n m) (room : c.edges < e) (long : length w₂ ≡ length w)
+module _ (v e : ℕ) (w w₁ w₂ w₃ : List ℕ) (c : Counters) (t u count : ℕ) (c₁ : Counters) (r : Ready w v e c)
+    (p : Meeting w w₁ v c t u c₁) (room : c.edges < e) (long : length w₂ ≡ length w)
     (kept : (a : ℕ) → a < 7 → region a v w₂ ≡ region a v w₁)
     (same : edges_of w₂ v e c.edges ≡ edges_of w₁ v e c.edges)
     (same-counts : counts_of w₂ v e c.edges ≡ counts_of w₁ v e c.edges)
@@ -173,19 +173,19 @@ module _ (v e : ℕ) (w w₁ w₂ w₃ : List ℕ) (c : Counters) (t u n m count
   first : (a : ℕ) → a < 4 → region a v w₃ ≡ region a v w₁
   first a h = here a (omega arith)
 
-  edge_ready : Ready w₃ v e (with_edge c n m)
+  edge_ready : Ready w₃ v e (with_edges c₁ (c.edges + 1))
   edge_ready =
-      ready_on v e w w₃ c (with_edge c n m) r (ap length g ∙ length-put_edge v e c.edges u count w₂ ∙ long)
-      (table_kept w₁ w₃ v n first p.table) (omega (arith, r.stack, p.balance)) (omega arith)
+      ready_on v e w w₃ c (with_edges c₁ (c.edges + 1)) r (ap length g ∙ length-put_edge v e c.edges u count w₂ ∙ long)
+      (table_kept w₁ w₃ v c₁.known first p.table) (omega (arith, r.stack, p.balance, p.same_settled)) (omega arith)
 
-  pub edge_made : Made w v e c w₃ (with_edge c n m) (t ∷ []) (count ∷ [])
+  pub edge_made : Made w v e c w₃ (with_edges c₁ (c.edges + 1)) (t ∷ []) (count ∷ [])
   unfolding insert_all positions
   edge_made =
-      let ks : keys_of w₃ v n ≡ keys_of w₁ v n = keys_kept w₁ w₃ v n first in
+      let ks : keys_of w₃ v c₁.known ≡ keys_of w₁ v c₁.known = keys_kept w₁ w₃ v c₁.known first in
       record {
         ready = edge_ready;
         keys = ks ∙ p.keys;
-        waits = ap (λ (s : List ℕ). waiting_in s m) (here 4 (lit< tt)) ∙ p.waits;
+        waits = ap (λ (s : List ℕ). waiting_in s c₁.waiting) (here 4 (lit< tt)) ∙ p.waits;
         row =
             ap (λ (l : List ℕ). edges_of l v e (c.edges + 1)) g
             ∙ edges_more v e c.edges u count w₂ room (omega (arith, r.whole))
@@ -199,7 +199,7 @@ module _ (v e : ℕ) (w w₁ w₂ w₃ : List ℕ) (c : Counters) (t u n m count
             (same-counts ∙ counts_rest v e c.edges w w₁ r.buffer p.rest);
         balance = p.balance;
         grows = p.grows;
-        same_settled = refl;
+        same_settled = p.same_settled;
         starts = later 5 (lit≤ tt) (lit< tt);
         degrees = later 6 (lit≤ tt) (lit< tt);
         marks = λ a i h.

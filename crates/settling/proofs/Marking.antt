@@ -26,8 +26,8 @@ use Rattle.lists.proofs.Inserts.{inserts_begins, inserts_snoc, insert_old, inser
 use Rattle.lists.proofs.Inserts.{inserts_holds, once_in, once_distinct, once_append}
 use Rattle.lists.proofs.Occurrences.{occurs_not, occurs_most, occurs_append}
 use Rattle.lists.proofs.Equalities.{number_equality}
-use Rattle.words.specs.Regions.{region}
-use Rattle.words.proofs.Regions.{rest_region}
+use Rattle.work_slice.specs.Regions.{region, put_word}
+use Rattle.work_slice.proofs.Regions.{rest_region, length-put_word}
 use Rattle.pairs.specs.Slot.{key_of}
 use Rattle.pairs.specs.Table.{keys_of}
 use Rattle.pairs.proofs.Uses.{keys_kept, table_kept, length-keys}
@@ -36,14 +36,14 @@ use Rattle.settling.specs.declared.Counters.{Counters}
 use Rattle.settling.specs.declared.MarkedBy.{MarkedBy}
 use Rattle.settling.specs.declared.MarkedBy.TheVariants.{State, Vertex}
 use Rattle.settling.specs.declared.Operand.{Operand}
-use Rattle.settling.specs.Stand.{waiting_in, waiting_of, edges_of, counts_of, marks_of, put_edge, put_count, put_mark}
+use Rattle.settling.specs.Stand.{waiting_in, waiting_of, edges_of, counts_of, marks_of, put_edge, put_count}
 use Rattle.settling.specs.Made.{Ready, Meeting, Made, TooMany, MarkedIn, Marked, tallies, Gathering, Gathered}
 use Rattle.settling.specs.Made.{Apart, Raisable, marker}
 use Rattle.settling.proofs.Buffer.{region_edge, region_count, length-put_count, length_counts}
 use Rattle.settling.proofs.Buffer.{edges_rest, counts_rest, edges_raised, counts_raised, counts_word, ready_on}
-use Rattle.settling.proofs.Buffer.{length_marks, length-put_mark, mark_at, mark_put, first_marks, marks_rest}
+use Rattle.settling.proofs.Buffer.{length_marks, mark_at, mark_put, first_marks, marks_rest}
 use Rattle.settling.proofs.Buffer.{marks_count, marks_edge, region_mark, edges_mark, counts_mark}
-use Rattle.settling.proofs.Make.{made_none, made_more, many_more, many_early, many_one, with_edge, edge_made}
+use Rattle.settling.proofs.Make.{made_none, made_more, many_more, many_early, many_one, with_edges, edge_made}
 
 -- ---- how often each key was met
 
@@ -211,15 +211,13 @@ marked_none Vertex item marks ks many n s k =
     record { only = λ i l p. absurd (omega (arith, k i l)); every = λ i l p. absurd p }
 
 -- nothing was met
-pub gathering_none : (w : List ℕ) (v e : ℕ) (c : Counters) (o : Operand) → Ready w v e c
-    → ((i : ℕ) → i < o.marks → word (marks_of w v o.marks) i ≤ c.edges) → Gathering w v e c o [] w c
+pub gathering_none : (w : List ℕ) (v e many : ℕ) (c : Counters) (o : Operand) → Ready w v e c
+    → ((i : ℕ) → i < many → word (marks_of w v many) i ≤ c.edges) → Gathering w v e many c o [] w c
 unfolding once insert_all tallies
-gathering_none w v e c o r k =
+gathering_none w v e many c o r k =
     record {
       made = made_none w v e c r;
-      marked =
-          marked_none o.marked_by o.item.number (marks_of w v o.marks) (keys_of w v c.known) o.marks c.known
-          c.edges k;
+      marked = marked_none o.marked_by o.item.number (marks_of w v many) (keys_of w v c.known) many c.known c.edges k;
     }
 
 -- all targets are known
@@ -253,22 +251,20 @@ marked_most marks name many n s ts m i h = go (dec_lt s (word marks i))
         omega (arith, m.every i o.0 o.1, position_below number_equality (name i) ts o.1)
     go (no d) = omega arith
 
-pub gathering_marks : (w : List ℕ) (v e : ℕ) (c : Counters) (o : Operand) (ks w' : List ℕ) (c' : Counters)
-    → v ≤ o.marks → (o.marked_by ≡ Vertex → o.marks ≡ v) → Gathering w v e c o ks w' c'
-    → (i : ℕ) → i < o.marks → word (marks_of w' v o.marks) i ≤ c'.edges
-gathering_marks w v e c o ks w' c' wide own g i h =
-    omega (arith, g.made.row_length, go o.marked_by g.marked)
+pub gathering_marks : (w : List ℕ) (v e many : ℕ) (c : Counters) (o : Operand) (ks w' : List ℕ) (c' : Counters)
+    → Gathering w v e many c o ks w' c' → (i : ℕ) → i < many → word (marks_of w' v many) i ≤ c'.edges
+gathering_marks w v e many c o ks w' c' g i h = omega (arith, g.made.row_length, go o.marked_by g.marked)
   where
     marks : List ℕ
-    marks = marks_of w' v o.marks
+    marks = marks_of w' v many
 
     known : List ℕ
     known = keys_of w' v c'.known
 
-    go : (b : MarkedBy) → Marked b o.item.number marks known o.marks c'.known c.edges (once eqb ks)
+    go : (b : MarkedBy) → Marked b o.item.number marks known many c'.known c.edges (once eqb ks)
         → word marks i ≤ c.edges + length (once eqb ks)
-    go State m = marked_most marks (λ s. key_of s o.item.number) o.marks o.marks c.edges (once eqb ks) m i h
-    go Vertex m = marked_most marks (word known) o.marks c'.known c.edges (once eqb ks) m i h
+    go State m = marked_most marks (λ s. key_of s o.item.number) many many c.edges (once eqb ks) m i h
+    go Vertex m = marked_most marks (word known) many c'.known c.edges (once eqb ks) m i h
 
 -- too many are too many at the end, whatever is met later
 pub gathered_many : (w : List ℕ) (v e : ℕ) (c : Counters) (ks later : List ℕ) → TooMany w v e c (once eqb ks)
@@ -280,10 +276,6 @@ gathered_many w v e c ks later f =
 
 -- ---- one target
 
--- the counters after a pair was met that has its edge
-abbrev pub with_pair : Counters → ℕ → ℕ → Counters
-with_pair c n m = record { known = n; settled = c.settled; edges = c.edges; waiting = m }
-
 -- so many marks stand in the words
 marks_within : (v e : ℕ) (w : List ℕ) (c : Counters) (many : ℕ) → Ready w v e c → Apart v e c.edges many
     → 7 * v + many ≤ length w
@@ -294,21 +286,21 @@ marks_within v e w c many r apart = go (dec_lt v many)
     go (no d) = omega (arith, r.whole)
 
 -- where nothing from region 5 on has changed, a mark is a word of the slice
-module _ (v e : ℕ) (w w₁ : List ℕ) (c : Counters) (operand : Operand) (i : ℕ) (r : Ready w v e c)
-    (a : Raisable w v e operand c) (rest : drop (5 * v) w₁ ≡ drop (5 * v) w) (size : length w₁ ≡ length w)
-    (below : i < operand.marks) where
-  pub mark_inside : (v ≤ most_vertices) × (7 * v + i < length w₁)
-  mark_inside = (r.most, omega (arith, marks_within v e w c operand.marks r a.apart))
+module _ (v e many : ℕ) (w w₁ : List ℕ) (c : Counters) (operand : Operand) (i : ℕ) (r : Ready w v e c)
+    (a : Raisable w v e many operand c) (rest : drop (5 * v) w₁ ≡ drop (5 * v) w) (size : length w₁ ≡ length w)
+    (below : i < many) where
+  pub mark_inside : 7 * v + i < length w₁
+  mark_inside = omega (arith, marks_within v e w c many r a.apart)
 
   -- above the start, the edge that it tells has a count, which can rise
   pub mark_raises : (mark : ℕ) → mark ≡ word w₁ (7 * v + i) → operand.start < mark
       → ((v ≤ most_vertices) × (e ≤ most_edges) × (mark - 1 < e) × (8 * v + 2 * e ≤ length w₁))
       × (word (counts_of w₁ v e e) (mark - 1) < 4_294_967_295)
   mark_raises mark at h =
-      let back : mark ≡ word (marks_of w v operand.marks) i =
+      let back : mark ≡ word (marks_of w v many) i =
       at
-      ∙ sym (mark_at v operand.marks i w₁ below)
-      ∙ ap (λ (l : List ℕ). word l i) (marks_rest v operand.marks w w₁ rest) in
+      ∙ sym (mark_at v many i w₁ below)
+      ∙ ap (λ (l : List ℕ). word l i) (marks_rest v many w w₁ rest) in
       let top : mark ≤ c.edges = omega (arith, back, a.marks i below) in
       let z : word (counts_of w₁ v e e) (mark - 1) ≡ word (counts_of w v e c.edges) (mark - 1) =
       counts_word v e e c.edges (mark - 1) w₁ (omega (arith, r.buffer)) (omega arith)
@@ -327,8 +319,14 @@ pub mark_of : (by : MarkedBy) (item many s u i : ℕ) → i ≡ marker by s u �
     → MarkOf by item many s (key_of s item) u i
 mark_of by item many s u i told inside = record { key = refl; told = told; inside = inside }
 
-module _ (v e : ℕ) (w w₁ : List ℕ) (c : Counters) (t u n m : ℕ) (r : Ready w v e c)
-    (p : Meeting w w₁ v c.known c.waiting t u n m) (size : length w₁ ≡ length w) where
+module _ (v e : ℕ) (w w₁ : List ℕ) (c : Counters) (t u : ℕ) (c₁ : Counters) (r : Ready w v e c)
+    (p : Meeting w w₁ v c t u c₁) (size : length w₁ ≡ length w) where
+  abbrev n : ℕ
+  n = c₁.known
+
+  abbrev m : ℕ
+  m = c₁.waiting
+
   long : length (keys_of w v c.known) ≡ c.known
   long = length-keys w v c.known
 
@@ -430,26 +428,26 @@ module _ (v e : ℕ) (w w₁ : List ℕ) (c : Counters) (t u n m : ℕ) (r : Rea
             (omega (arith, length_marks v many w within, met_below_mark Vertex o)) d k
 
   -- t is met once more, after ks
-  module _ (operand : Operand) (apart : Apart v e c.edges operand.marks) (s i : ℕ)
-      (o : MarkOf operand.marked_by operand.item.number operand.marks s t u i) (w₀ : List ℕ) (c₀ : Counters)
-      (ks : List ℕ) (g : Gathering w₀ v e c₀ operand ks w c) where
+  module _ (operand : Operand) (many : ℕ) (apart : Apart v e c.edges many) (s i : ℕ)
+      (o : MarkOf operand.marked_by operand.item.number many s t u i) (w₀ : List ℕ) (c₀ : Counters)
+      (ks : List ℕ) (g : Gathering w₀ v e many c₀ operand ks w c) where
     -- all that were met are known
     all : (q : ℕ) → In q (once eqb ks) → In q (keys_of w v c.known)
     all = made_known w₀ v e c₀ w c (once eqb ks) (tallies ks) g.made
 
-    below : i < operand.marks
-    below = met_below_mark operand.marks apart.0 operand.item.number s i operand.marked_by o
+    below : i < many
+    below = met_below_mark many apart.0 operand.item.number s i operand.marked_by o
 
     -- its mark is as it was before t was met
-    mark_kept : word w₁ (7 * v + i) ≡ word (marks_of w v operand.marks) i
+    mark_kept : word w₁ (7 * v + i) ≡ word (marks_of w v many) i
     mark_kept =
-        sym (mark_at v operand.marks i w₁ below) ∙ ap (λ (l : List ℕ). word l i) (marks-kept operand.marks)
+        sym (mark_at v many i w₁ below) ∙ ap (λ (l : List ℕ). word l i) (marks-kept many)
 
     marked_edge : (mark : ℕ) → mark ≡ word w₁ (7 * v + i) → c₀.edges < mark
         → In t (once eqb ks) × (mark ≡ suc (c₀.edges + position eqb t (once eqb ks)))
     marked_edge mark at h =
-        let back : mark ≡ word (marks_of w v operand.marks) i = at ∙ mark_kept in
-        let a = met_above operand.marks apart.0 operand.item.number s i c₀.edges (once eqb ks)
+        let back : mark ≡ word (marks_of w v many) i = at ∙ mark_kept in
+        let a = met_above many apart.0 operand.item.number s i c₀.edges (once eqb ks)
         operand.marked_by o g.marked (subst (λ (k : ℕ). c₀.edges < k) back h) in
         (a.0, back ∙ a.1)
 
@@ -462,7 +460,7 @@ module _ (v e : ℕ) (w w₁ : List ℕ) (c : Counters) (t u n m : ℕ) (r : Rea
         → ((a : ℕ) → a < 8 → region a v w₂ ≡ region a v w₁)
         → edges_of w₂ v e c.edges ≡ edges_of w₁ v e c.edges
         → counts_of w₂ v e c.edges ≡ counts_of w₀ v e c₀.edges ++ cs
-        → Made w₀ v e c₀ w₂ (with_pair c n m) (once eqb ks) cs
+        → Made w₀ v e c₀ w₂ (with_edges c₁ c.edges) (once eqb ks) cs
     again w₂ cs i long₂ kept same counts =
         let d = g.made in
         let known = same_keys w₂ i kept in
@@ -470,8 +468,8 @@ module _ (v e : ℕ) (w w₁ : List ℕ) (c : Counters) (t u n m : ℕ) (r : Rea
         λ a b l. kept a l ∙ rest_region 5 a v w w₁ p.rest b in
         record {
           ready =
-              ready_on v e w w₂ c (with_pair c n m) r (long₂ ∙ size)
-              (table_kept w₁ w₂ v n (λ a b. kept a (omega arith)) p.table) (omega (arith, r.stack, p.balance))
+              ready_on v e w w₂ c (with_edges c₁ c.edges) r (long₂ ∙ size)
+              (table_kept w₁ w₂ v n (λ a b. kept a (omega arith)) p.table) (omega (arith, r.stack, p.balance, p.same_settled))
               r.buffer;
           keys = known ∙ d.keys;
           waits =
@@ -488,7 +486,7 @@ module _ (v e : ℕ) (w w₁ : List ℕ) (c : Counters) (t u n m : ℕ) (r : Rea
           counts = counts;
           balance = omega (arith, d.balance, p.balance);
           grows = omega (arith, d.grows, p.grows);
-          same_settled = d.same_settled;
+          same_settled = p.same_settled ∙ d.same_settled;
           starts = later 5 (lit≤ tt) (lit< tt) ∙ d.starts;
           degrees = later 6 (lit≤ tt) (lit< tt) ∙ d.degrees;
           marks = λ a j h.
@@ -498,7 +496,7 @@ module _ (v e : ℕ) (w w₁ : List ℕ) (c : Counters) (t u n m : ℕ) (r : Rea
     -- marked: it has its edge, whose count rises
     pub once_old : (w₂ : List ℕ) (mark : ℕ) → mark ≡ word w₁ (7 * v + i) → c₀.edges < mark
         → w₂ ≡ put_count v e (mark - 1) (word (counts_of w₁ v e e) (mark - 1) + 1) w₁
-        → Gathering w₀ v e c₀ operand (ks ++ (t ∷ [])) w₂ (with_pair c n m)
+        → Gathering w₀ v e many c₀ operand (ks ++ (t ∷ [])) w₂ c₁
     once_old w₂ mark at h g₂ =
         let edge = marked_edge mark at h in
         let met = edge.0 in
@@ -521,16 +519,18 @@ module _ (v e : ℕ) (w w₁ : List ℕ) (c : Counters) (t u n m : ℕ) (r : Rea
         ∙ raise_at front ks t (mark - 1) met place in
         let kept : (a : ℕ) → a < 8 → region a v w₂ ≡ region a v w₁ =
         λ a b. ap (region a v) g₂ ∙ region_count a v e (mark - 1) count w₁ b room in
-        let marks : marks_of w₂ v operand.marks ≡ marks_of w v operand.marks =
-        ap (λ (l : List ℕ). marks_of l v operand.marks) g₂
-        ∙ marks_count v e (mark - 1) count operand.marks w₁ (λ l. omega (arith, within, apart.1 l)) room
-        ∙ marks-kept operand.marks in
+        let marks : marks_of w₂ v many ≡ marks_of w v many =
+        ap (λ (l : List ℕ). marks_of l v many) g₂
+        ∙ marks_count v e (mark - 1) count many w₁ (λ l. omega (arith, within, apart.1 l)) room
+        ∙ marks-kept many in
         record {
           made =
               rw (once_same ks t met)
+              (subst (λ (b : ℕ). Made w₀ v e c₀ w₂ (with_edges c₁ b) (once eqb ks) (tallies (ks ++ (t ∷ []))))
+              (sym p.same_edges)
               (again w₂ (tallies (ks ++ (t ∷ []))) met (ap length g₂ ∙ length-put_count v e (mark - 1) count w₁) kept
               (ap (λ (l : List ℕ). edges_of l v e c.edges) g₂
-              ∙ edges_raised v e (mark - 1) count c.edges w₁ room r.buffer) raised);
+              ∙ edges_raised v e (mark - 1) count c.edges w₁ room r.buffer) raised));
           marked =
               rw (once_same ks t met, marks, same_keys w₂ met kept, (was_known (all t met)).1) g.marked;
         }
@@ -538,16 +538,15 @@ module _ (v e : ℕ) (w w₁ : List ℕ) (c : Counters) (t u n m : ℕ) (r : Rea
     -- not marked: it was not met
     fresh : word w₁ (7 * v + i) ≤ c₀.edges → ¬ In t (once eqb ks)
     fresh h =
-        met_not_above operand.marks apart.0 operand.item.number s i c₀.edges (once eqb ks) all
+        met_not_above many apart.0 operand.item.number s i c₀.edges (once eqb ks) all
         operand.marked_by o g.marked (subst (λ (k : ℕ). k ≤ c₀.edges) mark_kept h)
 
     pub once_new : (w₂ w₃ : List ℕ) → word w₁ (7 * v + i) ≤ c₀.edges → c.edges < e
-        → w₂ ≡ put_mark v i (c.edges + 1) w₁ → w₃ ≡ put_edge v e c.edges u 1 w₂
-        → Gathering w₀ v e c₀ operand (ks ++ (t ∷ [])) w₃ (with_edge c n m)
+        → w₂ ≡ put_word 7 v i (c.edges + 1) w₁ → w₃ ≡ put_edge v e c.edges u 1 w₂
+        → Gathering w₀ v e many c₀ operand (ks ++ (t ∷ [])) w₃ (with_edges c₁ (c.edges + 1))
     once_new w₂ w₃ h room g₂ g₃ =
         let ts = once eqb ks in
         let d = fresh h in
-        let many = operand.marks in
         let mark = c.edges + 1 in
         let place : mark ≡ suc (c₀.edges + length ts) = omega (arith, g.made.row_length) in
         let kept : (a : ℕ) → a < 7 → region a v w₂ ≡ region a v w₁ =
@@ -567,8 +566,8 @@ module _ (v e : ℕ) (w w₁ : List ℕ) (c : Counters) (t u n m : ℕ) (r : Rea
         let keys : keys_of w₃ v n ≡ keys_of w₁ v n =
         keys_kept w₁ w₃ v n
         (λ a b. ap (region a v) g₃ ∙ region_edge a v e c.edges u 1 w₂ (omega arith) room ∙ kept a (omega arith)) in
-        let edge : Made w v e c w₃ (with_edge c n m) (t ∷ []) (1 ∷ []) =
-        edge_made v e w w₁ w₂ w₃ c t u n m 1 r p room (ap length g₂ ∙ length-put_mark v i mark w₁ ∙ size) kept
+        let edge : Made w v e c w₃ (with_edges c₁ (c.edges + 1)) (t ∷ []) (1 ∷ []) =
+        edge_made v e w w₁ w₂ w₃ c t u 1 c₁ r p room (ap length g₂ ∙ length-put_word 7 v i mark w₁ ∙ size) kept
         (ap (λ (l : List ℕ). edges_of l v e c.edges) g₂
         ∙ edges_mark v e c.edges i mark many w₁ free below r.buffer)
         (ap (λ (l : List ℕ). counts_of l v e c.edges) g₂
@@ -581,7 +580,7 @@ module _ (v e : ℕ) (w w₁ : List ℕ) (c : Counters) (t u n m : ℕ) (r : Rea
         record {
           made =
               rw (once_longer ks t d, tallies_new ks t d)
-              (made_more v e w₀ w w₃ c₀ c (with_edge c n m) ts (t ∷ []) (tallies ks) (1 ∷ []) g.made edge);
+              (made_more v e w₀ w w₃ c₀ c (with_edges c₁ (c.edges + 1)) ts (t ∷ []) (tallies ks) (1 ∷ []) g.made edge);
           marked =
               rw (once_longer ks t d, marks₃, keys)
               (met_marked many apart.0 operand.item.number s i c₀.edges ts all operand.marked_by within o d
@@ -603,21 +602,18 @@ module _ (v e : ℕ) (w w₁ : List ℕ) (c : Counters) (t u n m : ℕ) (r : Rea
         ))
 
 -- marked by its state: that the pair is known need not be looked up, since to meet it again would change nothing
-pub once_early : (v e : ℕ) (w : List ℕ) (c : Counters) (t : ℕ) → Ready w v e c → (operand : Operand)
-    → Apart v e c.edges operand.marks → (s : ℕ) → t ≡ key_of s operand.item.number → operand.marked_by ≡ State
-    → s < operand.marks → (w₀ : List ℕ) (c₀ : Counters) (ks : List ℕ) → Gathering w₀ v e c₀ operand ks w c
+pub once_early : (v e : ℕ) (w : List ℕ) (c : Counters) (t : ℕ) → Ready w v e c → (operand : Operand) (many : ℕ)
+    → Apart v e c.edges many → (s : ℕ) → t ≡ key_of s operand.item.number → operand.marked_by ≡ State
+    → s < many → (w₀ : List ℕ) (c₀ : Counters) (ks : List ℕ) → Gathering w₀ v e many c₀ operand ks w c
     → (w₂ : List ℕ) (mark : ℕ) → mark ≡ word w (7 * v + s) → c₀.edges < mark
     → w₂ ≡ put_count v e (mark - 1) (word (counts_of w v e e) (mark - 1) + 1) w
-    → Gathering w₀ v e c₀ operand (ks ++ (t ∷ [])) w₂ c
-once_early v e w c t r operand apart s key chosen inside w₀ c₀ ks g w₂ mark at h g₂ =
+    → Gathering w₀ v e many c₀ operand (ks ++ (t ∷ [])) w₂ c
+once_early v e w c t r operand many apart s key chosen inside w₀ c₀ ks g w₂ mark at h g₂ =
     let u = position eqb t (keys_of w v c.known) in
-    once_old v e w w c t u c.known c.waiting r again refl operand apart s s
+    once_old v e w w c t u c r again refl operand many apart s s
     (record { key = key; told = ap (λ (b : MarkedBy). marker b s u) (sym chosen); inside = λ z. inside })
     w₀ c₀ ks g w₂ mark at h g₂
   where
-    many : ℕ
-    many = operand.marks
-
     known : In t (keys_of w v c.known)
     known =
         made_known w₀ v e c₀ w c (once eqb ks) (tallies ks) g.made t
@@ -626,7 +622,7 @@ once_early v e w c t r operand apart s key chosen inside w₀ c₀ ks g w₂ mar
         Marked b operand.item.number (marks_of w v many) (keys_of w v c.known) many c.known c₀.edges (once eqb ks))
         chosen g.marked) inside (omega (arith, at, mark_at v many s w inside))).0
 
-    again : Meeting w w v c.known c.waiting t (position eqb t (keys_of w v c.known)) c.known c.waiting
+    again : Meeting w w v c t (position eqb t (keys_of w v c.known)) c
     again =
         record {
           table = r.table;
@@ -635,6 +631,8 @@ once_early v e w c t r operand apart s key chosen inside w₀ c₀ ks g w₂ mar
           waits = sym (push_none c.known (waiting_of w v c.waiting));
           balance = refl;
           grows = omega arith;
+          same_settled = refl;
+          same_edges = refl;
           rest = refl;
         }
 
@@ -652,7 +650,7 @@ once_crowded v e w c t w₀ c₀ ks room l made =
     (many_more v e w₀ w w c₀ c c (once eqb ks) (t ∷ []) (tallies ks) [] made (many_one w v e c t l))
 
 -- where meeting it answers that there is no room
-pub gathered_failed : (w : List ℕ) (v e : ℕ) (c : Counters) (o : Operand) (ks w' : List ℕ) (r : Result Counters NoRoom)
-    → IsErr r → TooMany w v e c (once eqb ks) → Gathered w v e c o ks w' r
-gathered_failed w v e c o ks w' (Ok c') h f = absurd (false≢true h)
-gathered_failed w v e c o ks w' (Err x) h f = f
+pub gathered_failed : (w : List ℕ) (v e many : ℕ) (c : Counters) (o : Operand) (ks w' : List ℕ) (r : Result Counters NoRoom)
+    → IsErr r → TooMany w v e c (once eqb ks) → Gathered w v e many c o ks w' r
+gathered_failed w v e many c o ks w' (Ok c') h f = absurd (false≢true h)
+gathered_failed w v e many c o ks w' (Err x) h f = f

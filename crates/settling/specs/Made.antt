@@ -5,7 +5,7 @@ use Rattle.rules.specs.Lists.{word, In, occurrences, position, insert, insert_al
 use Rattle.rules.specs.Walk.{push_new}
 use Rattle.rules.specs.Words.{most_states, most_vertices, most_edges}
 use Rattle.lists.specs.Shapes.{positions}
-use Rattle.words.specs.Regions.{region}
+use Rattle.work_slice.specs.Regions.{region}
 use Rattle.pairs.specs.Slot.{key_of}
 use Rattle.pairs.specs.Table.{Table, keys_of}
 use Rattle.pairs.specs.declared.NoRoom.{NoRoom}
@@ -41,18 +41,20 @@ abbrev pub AllFit : ℕ → List ℕ → Type 0
 AllFit state items = (q : ℕ) → In q items → Fitting state q
 
 -- the key t was met: it is vertex u, numbered and pushed if it was new
-pub record Meeting (w w' : List ℕ) (v n m t u n' m' : ℕ) : Type 0 where
-  pub table : Table w' v n'
-  pub keys : keys_of w' v n' ≡ insert eqb (keys_of w v n) t
-  pub vertex : u ≡ position eqb t (keys_of w' v n')
-  pub waits : waiting_of w' v m' ≡ push_new n (n' - n) (waiting_of w v m)
-  pub balance : n' + m ≡ n + m'
-  pub grows : n ≤ n'
+pub record Meeting (w w' : List ℕ) (v : ℕ) (c : Counters) (t u : ℕ) (c' : Counters) : Type 0 where
+  pub table : Table w' v c'.known
+  pub keys : keys_of w' v c'.known ≡ insert eqb (keys_of w v c.known) t
+  pub vertex : u ≡ position eqb t (keys_of w' v c'.known)
+  pub waits : waiting_of w' v c'.waiting ≡ push_new c.known (c'.known - c.known) (waiting_of w v c.waiting)
+  pub balance : c'.known + c.waiting ≡ c.known + c'.waiting
+  pub grows : c.known ≤ c'.known
+  pub same_settled : c'.settled ≡ c.settled
+  pub same_edges : c'.edges ≡ c.edges
   pub rest : drop (5 * v) w' ≡ drop (5 * v) w
 
-abbrev pub MeetAnswer : List ℕ → List ℕ → ℕ → ℕ → ℕ → ℕ → Result Met NoRoom → Type 0
-MeetAnswer w w' v n m t (Ok met) = Meeting w w' v n m t met.vertex.0 met.known met.waiting
-MeetAnswer w w' v n m t (Err x) = v < length (insert eqb (keys_of w v n) t)
+abbrev pub MeetAnswer : List ℕ → List ℕ → ℕ → Counters → ℕ → Result Met NoRoom → Type 0
+MeetAnswer w w' v c t (Ok met) = Meeting w w' v c t met.vertex.0 met.counters
+MeetAnswer w w' v c t (Err x) = v < length (insert eqb (keys_of w v c.known) t)
 
 -- the targets ts were met in order and each got an edge, behind which as many transitions stand as cs says
 pub record Made (w : List ℕ) (v e : ℕ) (c : Counters) (w' : List ℕ) (c' : Counters) (ts cs : List ℕ) : Type 0 where
@@ -100,24 +102,25 @@ unfoldable pub tallies : List ℕ → List ℕ
 tallies ks = map (λ t. occurrences eqb t ks) (once eqb ks)
 
 -- From words w and counters c on the keys ks were met, one for each transition: each got one edge, whose count says how
--- often it was met, and its mark says where that edge is. o: what the targets share
-pub record Gathering (w : List ℕ) (v e : ℕ) (c : Counters) (o : Operand) (ks w' : List ℕ) (c' : Counters) : Type 0 where
+-- often it was met, and its mark, of so many, says where that edge is. o: what the targets share
+pub record Gathering (w : List ℕ) (v e many : ℕ) (c : Counters) (o : Operand) (ks w' : List ℕ) (c' : Counters) : Type 0 where
   pub made : Made w v e c w' c' (once eqb ks) (tallies ks)
-  pub marked : Marked o.marked_by o.item.number (marks_of w' v o.marks) (keys_of w' v c'.known) o.marks c'.known
-      c.edges (once eqb ks)
+  pub marked : Marked o.marked_by o.item.number (marks_of w' v many) (keys_of w' v c'.known) many c'.known c.edges
+      (once eqb ks)
 
-abbrev pub Gathered : List ℕ → ℕ → ℕ → Counters → Operand → (ks w' : List ℕ) → Result Counters NoRoom → Type 0
-Gathered w v e c o ks w' (Ok c') = Gathering w v e c o ks w' c'
-Gathered w v e c o ks w' (Err x) = TooMany w v e c (once eqb ks)
+abbrev pub Gathered : List ℕ → ℕ → ℕ → ℕ → Counters → Operand → (ks w' : List ℕ) → Result Counters NoRoom → Type 0
+Gathered w v e many c o ks w' (Ok c') = Gathering w v e many c o ks w' c'
+Gathered w v e many c o ks w' (Err x) = TooMany w v e c (once eqb ks)
 
 -- so many marks and one edge more have different words: the marks of the region, or more where there are few edges
 abbrev pub Apart : (v e edges many : ℕ) → Type 0
 Apart v e edges many = (v ≤ many) × (v < many → many + edges < v + e)
 
--- no mark is past the edges, no mark has the word of the next edge, and each count of an edge of this step can rise
-pub record Raisable (w : List ℕ) (v e : ℕ) (o : Operand) (c : Counters) : Type 0 where
-  pub marks : (i : ℕ) → i < o.marks → word (marks_of w v o.marks) i ≤ c.edges
-  pub apart : Apart v e c.edges o.marks
+-- none of so many marks is past the edges, none has the word of the next edge, and each count of an edge of this step
+-- can rise
+pub record Raisable (w : List ℕ) (v e many : ℕ) (o : Operand) (c : Counters) : Type 0 where
+  pub marks : (i : ℕ) → i < many → word (marks_of w v many) i ≤ c.edges
+  pub apart : Apart v e c.edges many
   pub counts : (i : ℕ) → o.start ≤ i → i < c.edges → word (counts_of w v e c.edges) i < 4_294_967_295
 
 -- the marks past the region are 0, and all other words are as they were

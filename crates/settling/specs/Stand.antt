@@ -8,7 +8,7 @@ use Rattle.rules.specs.Lists.{word, from}
 use Rattle.rules.specs.Walk.{Stand}
 use Rattle.lists.specs.Shapes.{positions}
 use Rattle.walks.specs.Sums.{stand_with}
-use Rattle.words.specs.Regions.{region}
+use Rattle.work_slice.specs.Regions.{region}
 use Rattle.pairs.specs.Table.{keys_of}
 use Rattle.settling.specs.declared.Counters.{Counters}
 
@@ -40,10 +40,6 @@ put_count v e i count w = set w (8 * v + 2 * e - suc i) count
 -- the first n marks: where there are more than v they go on behind their region
 unfoldable pub marks_of : List ℕ → (v n : ℕ) → List ℕ
 marks_of w v n = take n (drop (7 * v) w)
-
--- the words with another mark i
-unfoldable pub put_mark : (v i x : ℕ) → List ℕ → List ℕ
-put_mark v i x w = set w (7 * v + i) x
 
 -- where the walk stands
 abbrev pub stand_of : List ℕ → ℕ → Counters → Stand ℕ

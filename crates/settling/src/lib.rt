@@ -1,13 +1,17 @@
 // The parts of a step that are the same whatever a pair's targets come from: a target is numbered, pushed if it is new,
 // and given an edge in the lent work slice.
+// Kept (no plainer): the work slice and its room are two parameters. This differs from the structs over a lent slice in
+// crates `text_writer` and `reachability`: what is asked here holds between the parts of a step, and not between the
+// writes of one, so it could not be the invariant of a struct, and each contract would have to say besides that slice
+// and room are still the same.
 #![tactic(auto)]
 
-ghost use Rattle.std.specs.Prelude.{◌≡◌, List, [], ◌∷◌, ◌++◌, map, ℕ, ◌+◌, ◌*◌, ◌≤◌, ◌<◌, length};
+ghost use Rattle.std.specs.Prelude.{◌≡◌, List, [], ◌∷◌, ◌++◌, map, ℕ, ◌+◌, ◌-◌, ◌*◌, ◌≤◌, ◌<◌, length};
 ghost use Rattle.rules.specs.Words.{most_vertices, most_edges};
 ghost use Rattle.rules.specs.Lists.{word, zeros};
 ghost use Rattle.pairs.specs.Slot.{key_of};
 ghost use Rattle.settling.specs.declared.Counters.{Counters};
-ghost use Rattle.settling.specs.Stand.{counts_of, put_edge, put_count, put_mark};
+ghost use Rattle.settling.specs.Stand.{counts_of, put_edge, put_count};
 ghost use Rattle.settling.specs.declared.MarkedBy.TheVariants.{State};
 ghost use Rattle.settling.specs.Made.{Ready, Fitting, AllFit, MeetAnswer, Answer, Gathering, Gathered, Raisable};
 ghost use Rattle.settling.specs.Made.{marker, MarksCleared, CloseAnswer};
@@ -15,7 +19,7 @@ ghost use Rattle.settling.specs.Made.{marker, MarksCleared, CloseAnswer};
 use pairs::{ByteMultiples, NoRoom, Numbered, ScaledItem};
 use player::VertexIndex;
 use rules::Room;
-use words::{DEGREES, MARKS, REGIONS, STACK};
+use work_slice::{REGIONS, Region, put_word, region_word};
 
 // Where a walk stands, in numbers.
 #[derive(Clone, Copy)]
@@ -26,12 +30,19 @@ pub struct Counters {
     pub waiting: u32,
 }
 
-// What meeting a pair answers: its vertex, and how many are known and how many wait now.
+// What meeting a pair answers: its vertex, and where the walk stands now.
 #[derive(Clone, Copy)]
 pub struct Met {
     pub vertex: VertexIndex,
-    pub known: u32,
-    pub waiting: u32,
+    pub counters: Counters,
+}
+
+// Where the target of the edge at a place stands. Its count stands behind it by as many words as edges fit.
+fn edge_word(room: Room, place: u32) -> usize
+    requires { (room.vertices ≤ most_vertices) × (room.edges ≤ most_edges) × (place < room.edges) }
+    ensures { result ≡ 8 * room.vertices + (room.edges - 1 - place) }
+{
+    REGIONS * (room.vertices as usize) + (room.edges as usize - 1 - (place as usize))
 }
 
 // An edge is put at a place of the edge buffer, behind which so many transitions stand.
@@ -41,23 +52,21 @@ fn put_edge(work: &mut [u32], room: Room, place: u32, target: VertexIndex, count
     ensures { work.new
         ≡ put_edge room.vertices room.edges place target.0 count work.old }
 {
-    let edges = room.edges as usize;
-    let edge = REGIONS * (room.vertices as usize) + (edges - 1 - (place as usize));
+    let edge = edge_word(room, place);
     work[edge] = target.0;
-    work[edge + edges] = count;
+    work[edge + room.edges as usize] = count;
 }
 
 // One more transition stands behind the edge at a place.
 fn raise_count(work: &mut [u32], room: Room, place: u32)
-    requires vertices_le_most_vertices { (room.vertices ≤ most_vertices) × (room.edges ≤ most_edges)
-        × (place < room.edges) × (8 * room.vertices + 2 * room.edges ≤ length work.old) }
-    requires place_bound { word (counts_of work.old room.vertices room.edges room.edges) place < 4294967295 }
+    requires inside { (room.vertices ≤ most_vertices) × (room.edges ≤ most_edges) × (place < room.edges)
+        × (8 * room.vertices + 2 * room.edges ≤ length work.old) }
+    requires can_rise { word (counts_of work.old room.vertices room.edges room.edges) place < 4294967295 }
     ensures { work.new ≡ put_count room.vertices room.edges place
         (word (counts_of work.old room.vertices room.edges room.edges) place + 1)
         work.old }
 {
-    let edges = room.edges as usize;
-    let count = REGIONS * (room.vertices as usize) + edges + (edges - 1 - (place as usize));
+    let count = edge_word(room, place) + room.edges as usize;
     work[count] += 1;
 }
 
@@ -70,25 +79,21 @@ pub fn meet(
     item: ScaledItem<'_>,
 ) -> Result<Met, NoRoom>
     requires { Ready work.old room.vertices room.edges counters × Fitting state item.number }
-    ensures { MeetAnswer work.old work.new room.vertices counters.known
-        counters.waiting (key_of state item.entry.number) result }
+    ensures { MeetAnswer work.old work.new room.vertices counters (key_of state item.entry.number) result }
 {
     let before = counters.known;
     let waiting = counters.waiting;
     let Numbered { vertex, known } = pairs::number(work, room.vertices, before, state, item)?;
     if known == before {
-        return Ok(Met {
-            vertex,
-            known,
-            waiting,
-        });
+        return Ok(Met { vertex, counters });
     }
-    words::put_word(work, room.vertices, STACK, waiting, vertex.0);
-    Ok(Met {
-        vertex,
+    put_word(work, room.vertices, Region::Stack, waiting, vertex.0);
+    let counters = Counters {
         known,
         waiting: waiting + 1,
-    })
+        ..counters
+    };
+    Ok(Met { vertex, counters })
 }
 
 // One target is met and gets an edge.
@@ -110,27 +115,9 @@ fn number_target(
     }
     put_edge(work, room, edges, met.vertex, 0);
     Ok(Counters {
-        known: met.known,
-        settled: counters.settled,
         edges: edges + 1,
-        waiting: met.waiting,
+        ..met.counters
     })
-}
-
-// The mark at an index, which may stand behind their region.
-fn mark_word(work: &[u32], vertices: u32, index: u32) -> u32
-    requires { (vertices ≤ most_vertices) × (7 * vertices + index < length work.now) }
-    ensures { result ≡ word work.now (7 * vertices + index) }
-{
-    work[(MARKS as usize) * (vertices as usize) + (index as usize)]
-}
-
-// It becomes another.
-fn put_mark(work: &mut [u32], vertices: u32, index: u32, value: u32)
-    requires { (vertices ≤ most_vertices) × (7 * vertices + index < length work.old) }
-    ensures { work.new ≡ put_mark vertices index value work.old }
-{
-    work[(MARKS as usize) * (vertices as usize) + (index as usize)] = value;
 }
 
 // The marks past their region become 0, where a step has so many.
@@ -138,8 +125,8 @@ pub fn clear_marks(work: &mut [u32], room: Room, marks: u32)
     requires { (room.vertices ≤ most_vertices) × (7 * room.vertices + marks ≤ length work.old) }
     ensures { MarksCleared work.old work.new room.vertices marks }
 {
-    for index in room.vertices..marks {
-        put_mark(work, room.vertices, index, 0);
+    if room.vertices < marks {
+        work_slice::clear(work, room.vertices, Region::Marks, room.vertices, marks);
     }
 }
 
@@ -160,19 +147,20 @@ fn mark_index(marked_by: MarkedBy, state: u32, vertex: VertexIndex) -> u32
     }
 }
 
-// What the targets of a modality share: the item of its operand, the place where their edges begin, what tells their
-// marks, and how many marks there are.
+// What the targets of a modality share: the item of its operand, the place where their edges begin, and what tells
+// their marks.
 #[derive(Clone, Copy)]
 pub struct Operand<'a> {
     pub item: ScaledItem<'a>,
     pub start: u32,
     pub marked_by: MarkedBy,
-    pub marks: u32,
 }
 
 // One target of a modality is met, by one transition. The first time it gets an edge, and its mark holds the place of
 // that edge: so one word shows whether it has its edge and where, and a later transition raises the edge's count
 // without a search.
+// Kept (no plainer): the mark is asked here as in `target_once`, which asks it before the pair is looked up. A function of
+// both would answer a flag, whether a count was raised, with a clause for what it left in either case.
 fn meet_once(
     counters: Counters,
     work: &mut [u32],
@@ -180,39 +168,31 @@ fn meet_once(
     state: u32,
     operand: Operand<'_>,
 ) -> Result<Counters, NoRoom>
+    ghost marks: { ℕ }
     requires ready { Ready work.old room.vertices room.edges counters × Fitting state operand.item.number
-        × Raisable work.old room.vertices room.edges operand counters }
-    requires state_lt_marks { operand.marked_by ≡ State → state < operand.marks }
+        × Raisable work.old room.vertices room.edges marks operand counters }
+    requires has_mark { operand.marked_by ≡ State → state < marks }
     ensures { (w : List ℕ) (c : Counters) (ks : List ℕ) → operand.entry.start ≡ c.edges
-        → Gathering w room.vertices room.edges c operand.entry ks work.old counters
-        → Gathered w room.vertices room.edges c operand.entry (ks ++ key_of state operand.entry.item.number ∷ [])
-        work.new result }
+        → Gathering w room.vertices room.edges marks c operand.entry ks work.old counters
+        → Gathered w room.vertices room.edges marks c operand.entry
+        (ks ++ key_of state operand.entry.item.number ∷ []) work.new result }
 {
-    let Met {
-        vertex,
-        known,
-        waiting,
-    } = meet(counters, work, room, state, operand.item)?;
-    let next = Counters {
-        known,
-        waiting,
-        ..counters
-    };
+    let edges = counters.edges;
+    let Met { vertex, counters } = meet(counters, work, room, state, operand.item)?;
     let index = mark_index(operand.marked_by, state, vertex);
-    let mark = mark_word(work, room.vertices, index);
+    let mark = region_word(work, room.vertices, Region::Marks, index);
     if operand.start < mark {
         raise_count(work, room, mark - 1);
-        return Ok(next);
+        return Ok(counters);
     }
-    let edges = counters.edges;
     if edges == room.edges {
         return Err(NoRoom);
     }
-    put_mark(work, room.vertices, index, edges + 1);
+    put_word(work, room.vertices, Region::Marks, index, edges + 1);
     put_edge(work, room, edges, vertex, 1);
     Ok(Counters {
         edges: edges + 1,
-        ..next
+        ..counters
     })
 }
 
@@ -225,16 +205,17 @@ pub fn target_once(
     state: u32,
     operand: Operand<'_>,
 ) -> Result<Counters, NoRoom>
+    ghost marks: { ℕ }
     requires ready { Ready work.old room.vertices room.edges counters × Fitting state operand.item.number
-        × Raisable work.old room.vertices room.edges operand counters }
-    requires state_lt_marks { operand.marked_by ≡ State → state < operand.marks }
+        × Raisable work.old room.vertices room.edges marks operand counters }
+    requires has_mark { operand.marked_by ≡ State → state < marks }
     ensures { (w : List ℕ) (c : Counters) (ks : List ℕ) → operand.entry.start ≡ c.edges
-        → Gathering w room.vertices room.edges c operand.entry ks work.old counters
-        → Gathered w room.vertices room.edges c operand.entry (ks ++ key_of state operand.entry.item.number ∷ [])
-        work.new result }
+        → Gathering w room.vertices room.edges marks c operand.entry ks work.old counters
+        → Gathered w room.vertices room.edges marks c operand.entry
+        (ks ++ key_of state operand.entry.item.number ∷ []) work.new result }
 {
     if let MarkedBy::State = operand.marked_by {
-        let mark = mark_word(work, room.vertices, state);
+        let mark = region_word(work, room.vertices, Region::Marks, state);
         if operand.start < mark {
             raise_count(work, room, mark - 1);
             return Ok(counters);
@@ -286,14 +267,15 @@ pub fn close(
             return Err(NoRoom);
         }
         put_edge(work, room, edges, vertex, 0);
-        words::put_word(work, room.vertices, DEGREES, vertex.0, 2);
+        put_word(work, room.vertices, Region::Degrees, vertex.0, 2);
         return Ok(Counters {
             settled,
             edges: edges + 1,
             ..counters
         });
     }
-    words::put_word(work, room.vertices, DEGREES, vertex.0, edges - start + 1);
+    let degree = edges - start + 1;
+    put_word(work, room.vertices, Region::Degrees, vertex.0, degree);
     Ok(Counters {
         settled,
         ..counters

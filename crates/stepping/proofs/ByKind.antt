@@ -8,7 +8,7 @@ use native.Mathlib.Decide.{dec_lt}
 use native.Mathlib.Omega.{arith}
 use lib.Dec.{eqb}
 use lib.ListN.{length, replicate, length-map}
-use Rattle.match_table.specs.declared.MatchBytes.{MatchBytes}
+use Rattle.match_table.specs.declared.MatchRows.{MatchRows}
 use Rattle.rules.specs.Lists.{word, zeros, occurrences}
 use Rattle.compiled.specs.declared.Compiled.{Compiled}
 use Rattle.compiled.specs.Tables.{kinds_in, lefts_in, rights_in}
@@ -27,7 +27,7 @@ use Rattle.settling.specs.Keys.{pair_key}
 use Rattle.settling.specs.Made.{Fitting, AllFit}
 use Rattle.modalities.specs.declared.Modality.{Modality}
 use Rattle.modalities.specs.Matched.{Inside as InsideModality, modality_keys, modality_counts}
-use Rattle.modalities.specs.Tables.{Tables}
+use Rattle.stepping.specs.Tables.{Tables}
 use Rattle.stepping.specs.Parts.{operands_of, ModalityIn}
 use Rattle.stepping.proofs.Operands.{operands_none, operands_two, operands_one}
 
@@ -40,7 +40,7 @@ all-zero : (f : Pair → ℕ) (ps : List Pair) → ((p : Pair) → f p ≡ 0) �
 all-zero f [] none = refl
 all-zero f (p ∷ ps) none = ap₂ (λ (n : ℕ) (l : List ℕ). n ∷ l) (none p) (all-zero f ps none)
 
-module _ (x : Input) (compiled : Compiled) (matched : MatchBytes) (t : Tables x compiled matched) (s q : ℕ) (i : Inside x (s, q)) where
+module _ (x : Input) (compiled : Compiled) (matched : MatchRows) (t : Tables x compiled matched) (s q : ℕ) (i : Inside x (s, q)) where
   abbrev kinds : List ℕ
   kinds = kinds_in compiled
 

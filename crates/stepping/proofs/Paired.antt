@@ -24,7 +24,7 @@ use Rattle.walks.proofs.Steps.{sound}
 use Rattle.walks.proofs.Rename.{renamed, walk_map, sum_renamed}
 use Rattle.arena.specs.Arena.{Inside}
 use Rattle.theorems.proofs.Vertices.{length_vertices, count-edges}
-use Rattle.words.specs.Regions.{region}
+use Rattle.work_slice.specs.Regions.{region}
 use Rattle.pairs.specs.Table.{key_at, state_at, item_at, keys_of}
 use Rattle.pairs.proofs.Uses.{length-keys, key_same, key-pair, key_item_below, key_word}
 use Rattle.settling.specs.declared.Counters.{Counters}

@@ -22,8 +22,8 @@ use Rattle.walks.specs.Sums.{stand_with, Settled, sum_settled}
 use Rattle.walks.proofs.Push.{push_before, push_holds, push_only}
 use Rattle.walks.proofs.Steps.{Sound, sound_settle, step_idle}
 use Rattle.walks.proofs.Sums.{sum_settle}
-use Rattle.words.specs.Regions.{region, put_word}
-use Rattle.words.proofs.Regions.{region_same, region_other, length-region, length-put_word}
+use Rattle.work_slice.specs.Regions.{region, put_word}
+use Rattle.work_slice.proofs.Regions.{region_same, region_other, length-region, length-put_word}
 use Rattle.pairs.specs.Slot.{key_of}
 use Rattle.pairs.specs.Table.{key_at, state_at, item_at, keys_of}
 use Rattle.pairs.proofs.Uses.{key-pair, key_item_below, keys_kept, table_kept, length-keys, key_word}

@@ -1,21 +1,27 @@
 -- Steps one after another: the loop of the function `walk`. Assumes nothing.
-use mathlib.Core.Path.{◌≡◌, sym, ◌∙◌, ap, subst}
+use mathlib.Core.Path.{◌≡◌, refl, sym, ◌∙◌, ap, subst}
 use mathlib.Core.List.{List, []}
-use mathlib.Core.Bool.{false}
+use mathlib.Core.Bool.{false≢true}
 use mathlib.Core.Logic.{inl, inr, ⊎_elim}
-use Prim.Native.Nat.{ℕ, ◌+◌, ◌-◌, ◌≤◌, ◌<◌}
+use Prim.Native.Nat.{ℕ, zero, suc, ◌+◌, ◌-◌, ◌≤◌, ◌<◌}
 use native.Mathlib.Numerals.{add-one}
+use native.Mathlib.Decide.{ℕ_discrete}
 use native.Mathlib.Omega.{arith}
+use Rattle.pairs.proofs.Uses.{length-keys}
 use lib.Dec.{eqb}
+use lib.ListN.{length}
+use Rattle.std.specs.Prelude.{Result, IsErr}
+use Rattle.std.specs.declared.result.Result.TheVariants.{Ok, Err}
+use Rattle.pairs.specs.declared.NoRoom.{NoRoom}
 use Rattle.rules.specs.Walk.{Stand, step, walk}
 use Rattle.lists.proofs.Shapes.{begins_length}
 use Rattle.lists.proofs.Equalities.{number_equality}
-use Rattle.walks.proofs.Steps.{walk_step, idle_walk}
+use Rattle.walks.proofs.Steps.{walk_step, idle_walk, step_idle}
 use Rattle.walks.proofs.Facts.{walk_keeps, walk_grows}
-use Rattle.words.specs.Regions.{region}
+use Rattle.work_slice.specs.Regions.{region}
 use Rattle.settling.specs.declared.Counters.{Counters}
-use Rattle.settling.specs.Stand.{stand_of}
-use Rattle.settling.specs.Good.{edges_due, Exceeding, StepMade, WalkMade}
+use Rattle.settling.specs.Stand.{waiting_in, waiting_of, stand_of}
+use Rattle.settling.specs.Good.{edges_due, Exceeding, Good, StepMade, WalkMade, WalkAnswer}
 use Rattle.settling.proofs.Buffer.{none_waits}
 use Rattle.stepping.specs.Answers.{TriedAnswer}
 
@@ -61,15 +67,44 @@ module _ (targets : ℕ → List ℕ) (behind : ℕ → ℕ → ℕ) (root v e k
         let z : i ≡ k = omega (arith, s.until) in
         record { stands = s.made.stands ∙ ap (walk eqb targets root) z; good = s.made.good }
 
-  -- one more try from where i steps are done, after which there is no other
-  module _ (w : List ℕ) (c : Counters) (i : ℕ) (s : Walking targets behind root v e k w c i) (h : i < k)
-      (w' : List ℕ) (c' : Counters) where
-    pub tried_last : TriedAnswer targets behind root w v e c w' c' false → c'.waiting ≤ 0
-        → WalkMade targets behind root v e k w' c'
-    tried_last (inl m) p = walking_idle w' c' (i + 1) (walking_on w c i s w' c' h m.1) m.0
-    tried_last (inr m) p = absurd (omega (arith, p, m.0))
+-- where a walk answers that there is no room
+pub walk_failed : (targets : ℕ → List ℕ) (behind : ℕ → ℕ → ℕ) (root v e k : ℕ) (w : List ℕ) (r : Result Counters NoRoom)
+    → IsErr r → Exceeding targets root v e (walk eqb targets root k) → WalkAnswer targets behind root v e k w r
+walk_failed targets behind root v e k w (Ok c) h f = absurd (false≢true h)
+walk_failed targets behind root v e k w (Err x₀) h f = f
 
-    pub tried_many : TriedAnswer targets behind root w v e c w' c' false → 0 < c'.waiting
-        → Exceeding targets root v e (walk eqb targets root k)
-    tried_many (inl m) p = absurd (omega (arith, p, m.0))
-    tried_many (inr m) p = walking_many w c i s h m.1
+-- ---- a step in place
+
+nothing_waits : (stack : List ℕ) (n : ℕ) → waiting_in stack n ≡ [] → n ≡ 0
+unfolding waiting_in
+nothing_waits stack zero h = refl
+nothing_waits stack (suc n) h = absurd (omega (arith, ap length h))
+
+-- a step after which none waits, where none did
+pub still_none : (targets : ℕ → List ℕ) (behind : ℕ → ℕ → ℕ) (root v e : ℕ) (w : List ℕ) (c : Counters) (w' : List ℕ)
+    (c' : Counters) → StepMade targets behind root w v e c w' c' → c.waiting ≡ 0 → c'.waiting ≡ 0
+still_none targets behind root v e w c w' c' m h =
+    let none : waiting_of w v c.waiting ≡ [] = none_waits (region 4 v w) c.waiting h in
+    nothing_waits (region 4 v w') c'.waiting
+    (ap (λ (st : Stand ℕ). st.waiting) (m.stands ∙ step_idle eqb targets root (stand_of w v c) none) ∙ none)
+
+-- too much is a step only of a vertex that waits
+pub some_waits : (targets : ℕ → List ℕ) (behind : ℕ → ℕ → ℕ) (root v e : ℕ) (w : List ℕ) (c : Counters)
+    → Good targets behind root w v e c → Exceeding targets root v e (step eqb targets root (stand_of w v c)) → 0 < c.waiting
+some_waits targets behind root v e w c g f = go (ℕ_discrete c.waiting 0)
+  where
+    fits : Exceeding targets root v e (stand_of w v c) → ⊥
+    fits (inl l) = omega (arith, length-keys w v c.known, g.ready.table.slots.room)
+    fits (inr l) = omega (arith, g.total, g.ready.buffer)
+
+    go : Dec (c.waiting ≡ 0) → 0 < c.waiting
+    go (yes h) =
+        let idle = step_idle eqb targets root (stand_of w v c) (none_waits (region 4 v w) c.waiting h) in
+        absurd (fits (subst (Exceeding targets root v e) idle f))
+    go (no h) = omega arith
+
+pub tried_failed : (targets : ℕ → List ℕ) (behind : ℕ → ℕ → ℕ) (root v e : ℕ) (w : List ℕ) (c : Counters) (w' : List ℕ)
+    (c' : Counters) (r : Result Unit NoRoom) → IsErr r → Good targets behind root w v e c → c' ≡ c
+    → Exceeding targets root v e (step eqb targets root (stand_of w v c)) → TriedAnswer targets behind root w v e c w' c' r
+tried_failed targets behind root v e w c w' c' (Ok x) h g z f = absurd (false≢true h)
+tried_failed targets behind root v e w c w' c' (Err x) h g z f = (z, some_waits targets behind root v e w c g f, f)

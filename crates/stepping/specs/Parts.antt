@@ -3,7 +3,7 @@
 use Rattle.std.specs.Prelude.{◌≡◌, cond, List, [], ◌∷◌, ℕ, ◌-◌, ltb}
 use Rattle.rules.specs.Lists.{word}
 use Rattle.rules.specs.Pairs.{Pair as RulesPair}
-use Rattle.words.specs.Regions.{region, put_word}
+use Rattle.work_slice.specs.Regions.{region, put_word}
 use Rattle.compiled.specs.declared.Compiled.{Compiled}
 use Rattle.compiled.specs.Tables.{lefts_in, rights_in}
 use Rattle.pairs.specs.Table.{state_at, item_at}

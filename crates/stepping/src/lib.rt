@@ -1,10 +1,10 @@
 // One step of the walk over the pairs of an input, and the walk of at most k steps, in the lent work slice. The
 // functions that are `pub` are parts of a run and are called by it alone: what holds of a whole run is said where the
 // run is.
+// Kept (no plainer): the work slice and its room are two parameters, as crate `settling` says.
 #![tactic(auto)]
 
-ghost use Rattle.std.specs.Prelude.{◌≡◌, map, ◌*◌, ◌≤◌, ◌<◌, ltb, length};
-ghost use Rattle.rules.specs.Words.{most_vertices};
+ghost use Rattle.std.specs.Prelude.{◌≡◌, map, ◌*◌, ◌<◌};
 ghost use Rattle.rules.specs.Lists.{zeros};
 ghost use Rattle.rules.specs.Pairs.{targets, transitions_behind};
 ghost use Rattle.arena.specs.Arena.{Inside};
@@ -13,60 +13,63 @@ ghost use Rattle.node_kinds.specs.Codes.{formula_code};
 ghost use Rattle.pairs.specs.Slot.{key_of};
 ghost use Rattle.pairs.specs.Table.{state_at, item_at};
 ghost use Rattle.settling.specs.Keys.{pair_key, key_targets, key_behind, root_key};
-ghost use Rattle.settling.specs.Made.{AllFit, Answer, Cleared, Ready, Sized};
+ghost use Rattle.settling.specs.Made.{AllFit, Answer, Ready, Sized};
 ghost use Rattle.modalities.specs.Matched.{Unmarked};
 ghost use Rattle.settling.specs.Good.{Good, StepAnswer, WalkMade, WalkAnswer};
 ghost use Rattle.stepping.specs.Parts.{pair_in, top_of, PopAnswer, operands_in, ModalityIn};
 ghost use Rattle.stepping.specs.Answers.{TriedAnswer};
 
+mod walk_tables;
+
 use compiled::Compiled;
 use lent_input::Input;
-use modalities::{Modality, WalkTables};
+use modalities::Modality;
 use node_kinds::FormulaKind;
-use pairs::{ByteMultiples, NoRoom};
+use pairs::{ByteMultiples, NoRoom, Slots};
 use player::VertexIndex;
 use rules::Room;
 use settling::Counters;
-use words::{DEGREES, MARKS, STACK, STARTS};
+pub use walk_tables::WalkTables;
+use work_slice::Region;
 
 // A state and the number of an item.
 #[derive(Clone, Copy)]
-pub struct Pair {
-    pub state: u32,
-    pub item: u32,
+struct Pair {
+    state: u32,
+    item: u32,
 }
 
 // The pair that a vertex stands for.
-fn pair_of(work: &[u32], vertices: u32, vertex: VertexIndex) -> Pair
-    requires { (8 * vertices ≤ length work.now) × (vertex.0 < vertices) }
-    ensures { (result.state ≡ state_at work.now vertices vertex.0)
-        × (result.item ≡ item_at work.now vertices vertex.0) }
+fn pair_of(slots: &Slots<'_>, vertex: VertexIndex) -> Pair
+    requires { vertex.0 < slots.now.vertices }
+    ensures { (result.state ≡ state_at slots.now.work.now slots.now.vertices vertex.0)
+        × (result.item ≡ item_at slots.now.work.now slots.now.vertices vertex.0) }
 {
     Pair {
-        state: pairs::state_of(work, vertices, vertex),
-        item: pairs::item_of(work, vertices, vertex),
+        state: slots.state_of(vertex),
+        item: slots.item_of(vertex),
     }
 }
 
 // A vertex taken off the stack: the counters without it, and the pair that it stands for.
 #[derive(Clone, Copy)]
-pub struct Popped {
-    pub counters: Counters,
-    pub vertex: VertexIndex,
-    pub pair: Pair,
+struct Popped {
+    counters: Counters,
+    vertex: VertexIndex,
+    pair: Pair,
 }
 
 // Takes the vertex that was numbered last off the stack. Its edges start behind those that there are.
 fn pop(counters: Counters, work: &mut [u32], room: Room) -> Popped
     requires ready { Ready work.old room.vertices room.edges counters }
-    requires waiting_nonzero { (0 < counters.waiting) × (top_of work.old room.vertices counters < room.vertices) }
+    requires one_waits { (0 < counters.waiting) × (top_of work.old room.vertices counters < room.vertices) }
     ensures { PopAnswer work.old room.vertices counters work.new result }
 {
     let vertices = room.vertices;
     let top = counters.waiting - 1;
-    let vertex = VertexIndex(words::region_word(work, vertices, STACK, top));
-    let pair = pair_of(work, vertices, vertex);
-    words::put_word(work, vertices, STARTS, vertex.0, counters.edges);
+    let vertex = VertexIndex(work_slice::region_word(work, vertices, Region::Stack, top));
+    let pair = pair_of(&Slots { work, vertices }, vertex);
+    work_slice::put_word(work, vertices, Region::Starts, vertex.0, counters.edges);
     Popped {
         counters: Counters {
             waiting: top,
@@ -75,13 +78,6 @@ fn pop(counters: Counters, work: &mut [u32], room: Room) -> Popped
         vertex,
         pair,
     }
-}
-
-// Has an item of the kind no operands?
-fn is_constant(kind: FormulaKind) -> bool
-    ensures { result ≡ ltb (formula_code kind) 2 }
-{
-    matches!(kind, FormulaKind::True | FormulaKind::False)
 }
 
 // The targets of a pair whose item is no modality are met and get their edges: they stay at its state.
@@ -99,14 +95,21 @@ fn settle_at_state(
         Answer work.old room.vertices room.edges counters (map (key_of pair.state) items) (zeros items)
         work.new result }
 {
-    if is_constant(kind) {
+    if kind.is_constant() {
         return Ok(counters);
     }
     let left = tables.compiled.left_of(pair.item);
     let right = tables.compiled.right_of(pair.item);
     let operands = [left, right];
     let items = &operands[..kinds::operand_count(kind)];
-    settling::settle_operands(counters, tables.multiples(), work, room, pair.state, items)
+    settling::settle_operands(
+        counters,
+        tables.model().multiples(),
+        work,
+        room,
+        pair.state,
+        items,
+    )
 }
 
 // The modality that a pair stands for, where its item is one.
@@ -138,9 +141,9 @@ fn settle(
     let counters = popped.counters;
     let pair = popped.pair;
     let kind = tables.compiled.kind_of(pair.item);
-    if kinds::is_modality(kind) {
+    if kind.is_modality() {
         let modality = modality_of(tables.compiled, pair);
-        return modalities::settle_modality(counters, tables, work, room, modality);
+        return modalities::settle_modality(counters, &tables.model(), work, room, modality);
     }
     settle_at_state(counters, tables, work, room, pair, kind)
 }
@@ -166,31 +169,23 @@ pub fn step(
     settling::close(made, work, room, popped.vertex, counters.edges)
 }
 
-// A step where the counters stand, if a vertex waits and there is room for its targets: elsewhere they stay as they
-// are. It answers whether there may be another step.
+// A step where the counters stand: at a refusal they stay as they are.
 // Kept (rule): document 01 asks that each step updates the counters where they stand, thin over a step by value.
 pub fn step_in_place(
     counters: &mut Counters,
     tables: &WalkTables<'_>,
     work: &mut [u32],
     room: Room,
-) -> bool
+) -> Result<(), NoRoom>
     requires { let x = input_in tables.now.input in
         Good (key_targets x) (key_behind x) (root_key x) work.old room.vertices room.edges counters.old }
     ensures { let x = input_in tables.now.input in
         TriedAnswer (key_targets x) (key_behind x) (root_key x) work.old room.vertices
         room.edges counters.old work.new counters.new result }
 {
-    if counters.waiting == 0 {
-        return false;
-    }
-    match step(*counters, tables, work, room) {
-        Ok(next) => {
-            *counters = next;
-            true
-        }
-        Err(NoRoom) => false,
-    }
+    let next = step(*counters, tables, work, room)?;
+    *counters = next;
+    Ok(())
 }
 
 // What a run may use: room for vertices and edges, and so many steps.
@@ -215,25 +210,12 @@ pub fn walk(
 {
     let mut counters = begun;
     for _done in 0..bounds.limit {
-        if step_in_place(&mut counters, tables, work, bounds.room) {
-            continue;
+        if counters.waiting == 0 {
+            return Ok(counters);
         }
-        if 0 < counters.waiting {
-            return Err(NoRoom);
-        }
-        return Ok(counters);
+        step_in_place(&mut counters, tables, work, bounds.room)?;
     }
     Ok(counters)
-}
-
-// Every word of a region becomes 0.
-fn clear_region(work: &mut [u32], vertices: u32, area: u32)
-    requires { (vertices ≤ most_vertices) × (8 * vertices ≤ length work.old) × (area < 8) }
-    ensures { Cleared work.old work.new vertices area }
-{
-    for index in 0..vertices {
-        words::put_word(work, vertices, area, index, 0);
-    }
 }
 
 // The walk before its first step, whatever the work words hold.
@@ -250,8 +232,8 @@ pub fn begin(
 {
     let vertices = room.vertices;
     pairs::start(work, vertices);
-    clear_region(work, vertices, MARKS);
-    clear_region(work, vertices, DEGREES);
+    work_slice::clear(work, vertices, Region::Marks, 0, vertices);
+    work_slice::clear(work, vertices, Region::Degrees, 0, vertices);
     let initial = input.system[2];
     let none = Counters {
         known: 0,
@@ -260,9 +242,5 @@ pub fn begin(
         waiting: 0,
     };
     let met = settling::meet(none, work, room, initial, multiples.scale(0))?;
-    Ok(Counters {
-        known: met.known,
-        waiting: met.waiting,
-        ..none
-    })
+    Ok(met.counters)
 }

@@ -1,11 +1,9 @@
-// What the programs that run stored inputs share: words and lengths read from bytes, outcomes printed, games restricted
-// in slices of any lengths.
+// What the programs that run stored inputs share: records read, outcomes printed, games restricted in slices of any
+// lengths.
 #![tactic(auto)]
 
-ghost use Rattle.std.specs.Prelude.{◌≡◌, ◌+◌, ◌*◌, ◌≤◌, ◌<◌, min, length, take, count_by, nat_lt, IfNone, IfOk, IfSome, All};
-ghost use Rattle.std.specs.Io.{ReadsAtMost};
+ghost use Rattle.std.specs.Prelude.{◌≡◌, ◌≤◌, ◌<◌, min, length, count_by, nat_lt, IfNone, IfOk, IfSome, All};
 ghost use Rattle.std.specs.Io.KnownBytes.{Consumes, IsAtEnd};
-ghost use Rattle.stored_runs.specs.Stored.{words_at};
 
 use rules::Answer;
 use std::io::Read;
@@ -13,47 +11,45 @@ use std::{fmt, io};
 
 // ---- reading
 
-// Reads until the buffer is full or the input ends. Answers how many bytes it then holds of the input, at its front.
-// Kept (rule): the thin program has the same function, since it is delivered and stands on nothing of the stored runs;
-// read_exact refuses an input that ends earlier.
-pub fn read_full<R: Read>(input: &mut R, buffer: &mut [u8]) -> io::Result<usize>
-    ensures bound { ReadsAtMost result buffer.new }
-    ensures bytes { IfOk result
-        (λ n. Consumes (R.remaining input.old) (R.remaining input.new) (take n buffer.new)) }
-    ensures end { IfOk result (λ n. n < length buffer.new → IsAtEnd (R.remaining input.new)) }
-{
-    let mut count = 0;
-    while count < buffer.len() {
-        let more = input.read(&mut buffer[count..])?;
-        if more == 0 {
-            return Ok(count);
-        }
-        count += more;
-    }
-    Ok(count)
-}
-
 // The next bytes, or None where the input ends before there are as many.
-pub fn read_array<R: Read, const N: usize>(input: &mut R) -> io::Result<Option<[u8; N]>>
+#[tactic(auto, using(crate::proofs::Ends::rest_short))]
+fn read_array<R: Read, const N: usize>(input: &mut R) -> io::Result<Option<[u8; N]>>
     ensures whole { IfOk result (λ read. IfSome read (λ bytes.
         (length bytes ≡ N) × Consumes (R.remaining input.old) (R.remaining input.new) bytes)) }
     ensures end { IfOk result (λ read. IfNone read (IsAtEnd (R.remaining input.new))) }
+    ensures few { IfOk result (λ read. IfNone read
+        (IfSome (R.remaining input.old) (λ bytes. length bytes < N))) }
 {
     let mut bytes = filled::<u8, N>(0);
-    if read_full(input, &mut bytes)? < N {
+    if reading::read_full(input, &mut bytes)? < N {
         return Ok(None);
     }
     Ok(Some(bytes))
 }
 
-// As many words as `stored` holds; the first begins at byte `from`.
-pub fn read_words(text: &[u8], from: usize, stored: &mut [u32])
-    requires { from + 4 * length stored.old ≤ length text.now }
-    ensures { stored.new ≡ words_at (length stored.old) text.now from }
+// The most records that a program reads, so that it ends whatever is handed to it.
+const MOST_RECORDS: u32 = 1_000_000;
+
+// Runs each record: it is given by its head, and the reader stands behind that. Answers how many there were.
+// Kept (no plainer): no caller uses the count, but by it the contract says that the input was read to its end. More it
+// cannot say, as what `run` reads and does is not known here.
+pub fn each_record<
+    R: Read,
+    const N: usize,
+    H: From<[u8; N]>,
+    F: FnMut(&mut R, H) -> io::Result<()>,
+>(input: &mut R, mut run: F) -> io::Result<u32>
+    requires short { N ≤ 4096 }
+    requires callable { F.IsAlwaysCallable run }
+    ensures { IfOk result (λ n. (n ≤ 1000000) × (n < 1000000 → IsAtEnd (R.remaining input.new))) }
 {
-    for (i, word) in stored.iter_mut().enumerate() {
-        *word = words::word_at(text, from + 4 * i);
+    for number in 0..MOST_RECORDS {
+        let Some(head) = read_array::<R, N>(input)? else {
+            return Ok(number);
+        };
+        run(input, H::from(head))?;
     }
+    Ok(MOST_RECORDS)
 }
 
 // A stored length; one above `most` counts as `most`.
@@ -61,6 +57,13 @@ pub fn length_of(word: u32, most: usize) -> usize
     ensures { (result ≡ min word most) × (result ≤ most) }
 {
     (word as usize).min(most)
+}
+
+// The length of a slice that is handed over or lent; one above 4,096 counts as 4,096.
+pub fn lent_length(word: u32) -> usize
+    ensures { (result ≡ min word 4096) × (result ≤ 4096) }
+{
+    length_of(word, 4096)
 }
 
 // The four groups of words of an input, which nothing has checked.
@@ -72,7 +75,7 @@ pub struct Groups<'a> {
     pub formula: &'a [u32],
 }
 
-// ---- printing: no contract can say what is written
+// ---- printing: nothing is promised of what is written
 
 // An answer, as the thin program prints it.
 #[derive(Clone, Copy)]
@@ -136,24 +139,25 @@ pub fn filled<T: Copy, const N: usize>(value: T) -> [T; N]
     [value; N]
 }
 
-// Restricts a game and prints the outcome. The lent slices have these lengths, each word `fill` before the call.
-pub fn restrict(
-    rt: &impl Print,
-    game: &[u32],
-    fill: u32,
-    out_length: usize,
-    map_length: usize,
-    work_length: usize,
-) -> io::Result<()>
-    requires { (out_length ≤ 4096) × (map_length ≤ 4096) × (work_length ≤ 4096) }
-{
-    let mut out = filled::<u32, 4096>(fill);
-    let mut map = filled::<u32, 4096>(fill);
-    let mut work = filled::<u32, 4096>(fill);
+// How long the slices lent for a restriction are, and the word that each holds before the call.
+#[derive(Clone, Copy)]
+pub struct Lent {
+    pub fill: u32,
+    pub out: usize,
+    pub map: usize,
+    pub work: usize,
+    ghost few: { (out ≤ 4096) × (map ≤ 4096) × (work ≤ 4096) },
+}
+
+// Restricts a game and prints the outcome.
+pub fn restrict(rt: &impl Print, game: &[u32], lent: Lent) -> io::Result<()> {
+    let mut out = filled::<u32, 4096>(lent.fill);
+    let mut map = filled::<u32, 4096>(lent.fill);
+    let mut work = filled::<u32, 4096>(lent.fill);
     let (out, map, work) = (
-        &mut out[..out_length],
-        &mut map[..map_length],
-        &mut work[..work_length],
+        &mut out[..lent.out],
+        &mut map[..lent.map],
+        &mut work[..lent.work],
     );
     let answer = reachability::compute_reachable(game, out, map, work);
     outcome_line(rt, answer, out, map, work)

@@ -8,6 +8,7 @@ ghost use Rattle.rules.specs.Answers.{first_fault};
 ghost use Rattle.rules.specs.System.{state_count, transition_count};
 ghost use Rattle.rules.specs.Refusal.{refusal21, refusal22, refusal23, refusal24, refusal25, refusal26};
 
+use faults::fault_if;
 use rules::Fault;
 
 // The sum of `count` words from `first` on: at most 65,535 words, so it does not wrap.
@@ -28,49 +29,31 @@ const MOST_STATES: usize = 65_535;
 const MOST_TRANSITIONS: usize = 262_144;
 
 // 21, 22: the length and the sizes.
-#[tactic(auto, unfolding(rules::specs::Answers::first_fault, rules::specs::Answers::and_then, rules::specs::Answers::fault_if, rules::specs::Refusal::differ, rules::specs::Refusal::outside, rules::specs::Refusal::refusal21, rules::specs::Refusal::refusal22))]
+#[tactic(auto, using(tables::proofs::Faults::if_passed), unfolding(rules::specs::Answers::first_fault, rules::specs::Answers::and_then, rules::specs::Refusal::differ, rules::specs::Refusal::outside, rules::specs::Refusal::refusal21, rules::specs::Refusal::refusal22))]
 fn check_sizes(system: &[u32]) -> Result<(), Fault>
     ensures { result ≡ first_fault (refusal21 system.now ∷ refusal22 system.now ∷ []) }
 {
-    if system.len() < 3 || system.len() != 3 + words::at(system, 0) + 2 * words::at(system, 1) {
-        return Err(Fault {
-            number: 21,
-            place: 0,
-        });
-    }
+    let wrong_length = system.len() < 3
+        || system.len() != 3 + words::at(system, 0) + 2 * words::at(system, 1);
+    fault_if(21, 0, wrong_length)?;
     let states = words::at(system, 0);
-    if states < 1 || MOST_STATES < states || MOST_TRANSITIONS < words::at(system, 1) {
-        return Err(Fault {
-            number: 22,
-            place: 0,
-        });
-    }
-    Ok(())
+    let wrong_sizes = states < 1 || MOST_STATES < states || MOST_TRANSITIONS < words::at(system, 1);
+    fault_if(22, 0, wrong_sizes)
 }
 
 // 23 to 26, of words with the right sizes.
-#[tactic(auto, unfolding(rules::specs::Answers::first_fault, rules::specs::Answers::and_then, rules::specs::Answers::fault_if, rules::specs::Refusal::differ, rules::specs::Refusal::refusal23, rules::specs::Refusal::refusal24, rules::specs::Refusal::refusal25, rules::specs::Refusal::refusal26))]
+#[tactic(auto, unfolding(rules::specs::Answers::first_fault, rules::specs::Answers::and_then, rules::specs::Refusal::differ, rules::specs::Refusal::refusal23, rules::specs::Refusal::refusal24, rules::specs::Refusal::refusal25, rules::specs::Refusal::refusal26))]
 fn check_transitions(labels: &[u32], system: &[u32]) -> Result<(), Fault>
-    requires labels_nonzero { (0 < length labels.now)
+    requires sized { (0 < length labels.now)
         × (length system.now ≡ 3 + state_count system.now + 2 * transition_count system.now) }
-    requires system_bound { (state_count system.now ≤ most_states) × (transition_count system.now ≤ most_transitions) }
+    requires few { (state_count system.now ≤ most_states) × (transition_count system.now ≤ most_transitions) }
     ensures { result ≡ first_fault (refusal23 system.now ∷ refusal24 system.now
         ∷ refusal25 labels.now system.now ∷ refusal26 system.now ∷ []) }
 {
     let states = words::at(system, 0);
     let transitions = words::at(system, 1);
-    if states <= words::at(system, 2) {
-        return Err(Fault {
-            number: 23,
-            place: 2,
-        });
-    }
-    if sum_words(system, 3, states) != transitions {
-        return Err(Fault {
-            number: 24,
-            place: 1,
-        });
-    }
+    fault_if(23, 2, states <= words::at(system, 2))?;
+    fault_if(24, 1, sum_words(system, 3, states) != transitions)?;
     let numbers = 3 + states;
     let targets = numbers + transitions;
     faults::check_below(system, numbers, targets, words::at(labels, 0), 25)?;

@@ -20,6 +20,10 @@ children_of shapes ws v = (shapes ws v).children
 abbrev pub Ends : (ℕ → ℕ) → ℕ → List ℕ → Type 0
 Ends children n es = (v : ℕ) → v ≤ n + 1 → get_or es v 0 ≡ end_of children n v
 
+-- so it is for some numbers of children
+abbrev pub SomeEnds : ℕ → List ℕ → Type 0
+SomeEnds n es = (children : ℕ → ℕ) × Ends children n es
+
 -- the list says of each node whether it is the first one of a tree of the row, and at n whether the row's last tree is
 -- finished
 abbrev pub Firsts : (ℕ → ℕ) → ℕ → List Bool → Type 0

@@ -1,4 +1,4 @@
-// Tables of trees as words: m, m kinds, m operands. All tables of a run are read here.
+// Tables of trees as words: m, m kinds, m operands. What the checks of both tables of a run ask of one stands here.
 #![tactic(auto)]
 
 ghost use Rattle.std.specs.Prelude.{◌≡◌, ◌<◌, ltb};
@@ -10,9 +10,10 @@ ghost use Rattle.table_words.specs.Tables.{Sized, table_checks};
 mod shapes;
 mod trees;
 
+use faults::fault_if;
 use rules::Fault;
 pub use shapes::{NodeKind, OperandRule, Shape};
-pub use trees::{FirstNodes, Row, TreeEnds, Trees};
+pub use trees::{FirstNodes, Row, TreeEnds, Trees, first_nodes};
 use words::NODES;
 
 // Fault `number` at the first node whose kind is above `most`.
@@ -25,26 +26,21 @@ fn check_kinds(ws: &[u32], most: usize, number: u32) -> Result<(), Fault>
         number,
         0,
         words::at(ws, 0),
-        |node| most < words::kind_at(ws, node),
+        |node| most < words::kind_at(ws, node) as usize,
     )
 }
 
 // The checks that both tables begin with, of the length, of the number of nodes, which is `fewest` at least, and of the
 // kinds, which are `most` at most. Their faults have the numbers from `number` on.
-#[tactic(auto, unfolding(rules::specs::Answers::first_fault, rules::specs::Answers::and_then, rules::specs::Answers::fault_if, rules::specs::Refusal::differ, rules::specs::Refusal::outside))]
+#[tactic(auto, using(tables::proofs::Faults::if_passed), unfolding(rules::specs::Answers::first_fault, rules::specs::Answers::and_then, rules::specs::Refusal::differ, rules::specs::Refusal::outside))]
 pub fn check_table(ws: &[u32], fewest: usize, most: usize, number: u32) -> Result<(), Fault>
     requires { number < 100 }
     ensures { result ≡ first_fault (table_checks number fewest most ws.now) }
 {
-    if ws.is_empty() || ws.len() != 1 + 2 * words::at(ws, 0) {
-        return Err(Fault { number, place: 0 });
-    }
+    let wrong_length = ws.is_empty() || ws.len() != 1 + 2 * words::at(ws, 0);
+    fault_if(number, 0, wrong_length)?;
     let count = words::at(ws, 0);
-    if count < fewest || NODES < count {
-        return Err(Fault {
-            number: number + 1,
-            place: 0,
-        });
-    }
+    let wrong_count = count < fewest || NODES < count;
+    fault_if(number + 1, 0, wrong_count)?;
     check_kinds(ws, most, number + 2)
 }

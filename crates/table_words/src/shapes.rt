@@ -64,17 +64,15 @@ impl NodeKind for ActionKind {
     ghost reads = { action_reads };
 
     fn read(word: u32) -> Result<Self, UnknownKind> {
-        Self::try_from(word)
+        ActionKind::try_from(word)
     }
 
     #[tactic(auto, unfolding(rules::specs::Table::decode_action, rules::specs::Table::action_shape))]
     fn shape(self) -> Shape {
         let (arity, rule) = match self {
-            ActionKind::True => (Arity::Leaf, OperandRule::Zero),
-            ActionKind::False => (Arity::Leaf, OperandRule::Zero),
+            ActionKind::True | ActionKind::False => (Arity::Leaf, OperandRule::Zero),
             ActionKind::MultiAction => (Arity::Leaf, OperandRule::OutsideName),
-            ActionKind::Union => (Arity::Pair, OperandRule::RightChild),
-            ActionKind::Intersection => (Arity::Pair, OperandRule::RightChild),
+            ActionKind::Union | ActionKind::Intersection => (Arity::Pair, OperandRule::RightChild),
             ActionKind::Negation => (Arity::Single, OperandRule::Zero),
         };
         Shape { arity, rule }
@@ -91,20 +89,16 @@ impl NodeKind for FormulaKind {
     ghost reads = { formula_reads };
 
     fn read(word: u32) -> Result<Self, UnknownKind> {
-        Self::try_from(word)
+        FormulaKind::try_from(word)
     }
 
     #[tactic(auto, unfolding(rules::specs::Table::decode_formula, rules::specs::Table::formula_shape))]
     fn shape(self) -> Shape {
         let (arity, rule) = match self {
-            FormulaKind::True => (Arity::Leaf, OperandRule::Zero),
-            FormulaKind::False => (Arity::Leaf, OperandRule::Zero),
-            FormulaKind::And => (Arity::Pair, OperandRule::RightChild),
-            FormulaKind::Or => (Arity::Pair, OperandRule::RightChild),
-            FormulaKind::Box => (Arity::Single, OperandRule::OutsideName),
-            FormulaKind::Diamond => (Arity::Single, OperandRule::OutsideName),
-            FormulaKind::Least => (Arity::Single, OperandRule::Zero),
-            FormulaKind::Greatest => (Arity::Single, OperandRule::Zero),
+            FormulaKind::True | FormulaKind::False => (Arity::Leaf, OperandRule::Zero),
+            FormulaKind::And | FormulaKind::Or => (Arity::Pair, OperandRule::RightChild),
+            FormulaKind::Box | FormulaKind::Diamond => (Arity::Single, OperandRule::OutsideName),
+            FormulaKind::Least | FormulaKind::Greatest => (Arity::Single, OperandRule::Zero),
             FormulaKind::Reference => (Arity::Leaf, OperandRule::NotJudged),
         };
         Shape { arity, rule }

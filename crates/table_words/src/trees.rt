@@ -1,10 +1,11 @@
 // A table of trees with the ends of its trees, and which of its nodes begin a tree of the row.
 
-ghost use Rattle.std.specs.Prelude.{◌≡◌, Bool, true, false, ℕ, ◌+◌, ◌≤◌, ◌<◌, length, get_or};
+ghost use Rattle.std.specs.Prelude.{◌≡◌, Bool, true, false, ℕ, ◌+◌, ◌≤◌, ◌<◌, get_or};
 ghost use Rattle.rules.specs.Table.{size, operand, tree_end, is_not_end, on_row};
 ghost use Rattle.tables.specs.Ends.{end_of};
 ghost use Rattle.table_words.specs.Shapes.{shape_in};
-ghost use Rattle.table_words.specs.Tables.{Sized, children_of, bad_in, Ends, Firsts};
+ghost use Rattle.rules.specs.Words.{most_nodes};
+ghost use Rattle.table_words.specs.Tables.{Sized, children_of, bad_in, Ends, SomeEnds, Firsts};
 
 use crate::shapes::{Arity, NodeKind, OperandRule, Shape};
 use std::marker::PhantomData;
@@ -109,17 +110,21 @@ impl<'a, 'b, K: NodeKind> Trees<'a, 'b, K> {
         end <= self.size() && right != end
     }
 
-    // The operand of a node is wrong, by the rule of its kind. `unnamed` says that as a name it is that of nothing.
-    pub fn bad_operand(&self, node: usize, unnamed: bool) -> bool
-        requires { node < size self.now.words.now }
-        ensures { (unnamed_at : ℕ → Bool) → unnamed ≡ unnamed_at (operand self.now.words.now node)
+    // The operand of a node is wrong, by the rule of its kind. `unnamed` says of a name that it is that of nothing, and
+    // is asked only where the operand is a name.
+    pub fn bad_operand<F: Fn(usize) -> bool>(&self, node: usize, unnamed: F) -> bool
+        requires node_bound { node < size self.now.words.now }
+        requires callable { F.pre unnamed (operand self.now.words.now node) }
+        ensures { (unnamed_at : ℕ → Bool)
+            → ((r : Bool) → F.post unnamed (operand self.now.words.now node) r
+            → r ≡ unnamed_at (operand self.now.words.now node))
             → result ≡ bad_in K.node_shape unnamed_at self.now.words.now node }
     {
         let operand = words::operand_at(self.words, node);
         match shape_at::<K>(self.words, node).rule {
             OperandRule::Zero => operand != 0,
             OperandRule::RightChild => self.is_not_right_child(node, operand),
-            OperandRule::OutsideName => unnamed,
+            OperandRule::OutsideName => unnamed(operand),
             OperandRule::NotJudged => false,
         }
     }
@@ -128,7 +133,7 @@ impl<'a, 'b, K: NodeKind> Trees<'a, 'b, K> {
     pub fn row<'c>(&self, firsts: &'c mut FirstNodes) -> Row<'a, 'c, K>
         ensures { result.words.now ≡ self.now.words.now }
     {
-        mark_firsts(self, firsts);
+        first_nodes(self.ends, self.size(), firsts);
         Row {
             words: self.words,
             firsts,
@@ -137,18 +142,19 @@ impl<'a, 'b, K: NodeKind> Trees<'a, 'b, K> {
     }
 }
 
-// Marks the nodes that begin a tree of the row, and, at the place past the nodes, whether the row's last tree is
-// finished.
-fn mark_firsts<K: NodeKind>(trees: &Trees<'_, '_, K>, firsts: &mut FirstNodes)
-    ensures { Firsts (children_of K.node_shape trees.now.words.now) (size trees.now.words.now) firsts.new }
+// Marks which of `count` nodes begin a tree of the row, and, at the place past the nodes, whether the row's last tree
+// is finished. Only the ends of their trees are read, whatever numbers of children the nodes have.
+pub fn first_nodes(ends: &TreeEnds, count: usize, firsts: &mut FirstNodes)
+    requires few { count ≤ most_nodes }
+    requires ends_known { SomeEnds count ends.now }
+    ensures { (c : ℕ → ℕ) → Ends c count ends.now → Firsts c count firsts.new }
 {
     firsts.fill(false);
-    let count = trees.size();
     let mut node = 0;
     // Kept (no plainer): each node is told by the end of the tree before it; no range has them.
     while node <= count {
         firsts[node] = true;
-        node = trees.end(node);
+        node = ends[node];
     }
 }
 
@@ -167,7 +173,7 @@ impl<'a, 'c, K: NodeKind> Row<'a, 'c, K> {
     pub fn size(&self) -> usize
         ensures { result ≡ size self.now.words.now }
     {
-        words::at(self.words, 0)
+        self.words[0] as usize
     }
 
     // A tree of the row begins at a node.

@@ -11,7 +11,7 @@ use Rattle.rules.specs.declared.Answer.TheVariants.{Done, Cut, Refused}
 use Rattle.rules.specs.Game.{padded}
 use Rattle.rules.specs.Texts.{Written, text_into}
 use Rattle.text_writer.specs.declared.Text.{Text}
-use Rattle.text_writer.specs.Appending.{written, Appended}
+use Rattle.text_writer.specs.Appending.{lent_bytes, written_size, written, Appended}
 
 module _ (least : ℕ) (s slice : List ℕ) where
   -- a slice that is too short is left as it is
@@ -28,8 +28,8 @@ module _ (least : ℕ) (s slice : List ℕ) where
 
   -- the text is written from the first byte on, then finished
   pub text_finished : {empty full : Text} {text : List ℕ} {a : Answer} → least ≤ length slice
-      → (empty.size ≡ 0) × (empty.bytes.now ≡ slice) → Appended s empty full → a ≡ Done full.size 0 0
-      → text ≡ padded (length full.bytes.now) (written full)
+      → (written_size empty ≡ 0) × (lent_bytes empty ≡ slice) → Appended s empty full → a ≡ Done (written_size full) 0 0
+      → text ≡ padded (length (lent_bytes full)) (written full)
       → ◌≡◌ {A = Written} (record { answer = a; text = text }) (text_into least s slice)
   text_finished {empty} {full} {text} {a} h new w e f =
       let m : full.size ≡ length s = omega (arith, w.wrote.past, new.0) in

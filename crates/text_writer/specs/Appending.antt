@@ -1,13 +1,26 @@
 -- What a text holds, and what is appended to it. Assumes nothing: these are definitions.
 use Rattle.std.specs.Prelude.{◌≡◌, List, ℕ, ◌+◌, ◌≤◌, length, take}
+use Rattle.std.specs.Borrow.{GName}
 use Rattle.words.specs.Stretches.{Wrote}
 use Rattle.text_writer.specs.declared.Text.{Text}
+
+-- which slice is lent to it
+abbrev pub loan : Text → GName
+loan text = text.bytes.ghost_name
+
+-- the bytes of that slice
+abbrev pub lent_bytes : Text → List ℕ
+lent_bytes text = text.bytes.now
+
+-- how many bytes of it stand in front of what comes next
+abbrev pub written_size : Text → ℕ
+written_size text = text.size
 
 -- what is written so far
 abbrev pub written : Text → List ℕ
 written text = take text.size text.bytes.now
 
--- so many bytes are left behind it
+-- the bytes fit behind it
 abbrev pub Room : Text → List ℕ → Type 0
 Room text bytes = text.size + length bytes ≤ length text.bytes.now
 

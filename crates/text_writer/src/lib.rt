@@ -5,25 +5,20 @@ ghost use Rattle.std.specs.Prelude.{◌≡◌, [], ◌∷◌, ◌≤◌, ◌<◌
 ghost use Rattle.rules.specs.declared.Answer.TheVariants.{Done};
 ghost use Rattle.rules.specs.Game.{padded};
 ghost use Rattle.rules.specs.Texts.{decimal, spaced, line};
-ghost use Rattle.text_writer.specs.Appending.{written, Room, Appended};
+ghost use Rattle.text_writer.specs.Appending.{loan, lent_bytes, written_size, written, Room, Appended};
 
 use rules::Answer;
 
 // How many digits a number has.
-// Kept (no plainer): the loop divides and counts the divisions; it goes over nothing that a `for` could.
+#[tactic(auto, using(crate::proofs::Digits::count_length))]
 pub fn digit_count(number: usize) -> usize
     ensures { (result ≡ length (decimal number)) × (result ≤ 20) }
 {
-    let mut rest = number;
-    let mut count = 1;
-    while 9 < rest {
-        rest /= 10;
-        count += 1;
-    }
-    count
+    1 + number.checked_ilog10().unwrap_or(0) as usize
 }
 
 // The slice, of which the first `size` bytes are written.
+// Kept (rule): there is no heap, so no `Vec`: the lent slice is filled from its front.
 #[derive(Drop)]
 pub struct Text<'a> {
     bytes: &'a mut [u8],
@@ -33,10 +28,18 @@ pub struct Text<'a> {
 impl<'a> Text<'a> {
     // Nothing is written yet.
     pub fn new(bytes: &'a mut [u8]) -> Text<'a>
-        ensures same { result.bytes.ghost_name ≡ bytes.entry.ghost_name }
-        ensures empty { (result.size ≡ 0) × (result.bytes.now ≡ bytes.old) }
+        ensures same { loan result ≡ bytes.entry.ghost_name }
+        ensures empty { (written_size result ≡ 0) × (lent_bytes result ≡ bytes.old) }
     {
-        Text { bytes, size: 0 }
+        Text::behind(bytes, 0)
+    }
+
+    // The first `size` bytes stand there already, and stay.
+    pub fn behind(bytes: &'a mut [u8], size: usize) -> Text<'a>
+        ensures same { loan result ≡ bytes.entry.ghost_name }
+        ensures begins { (written_size result ≡ size) × (lent_bytes result ≡ bytes.old) }
+    {
+        Text { bytes, size }
     }
 
     pub fn put_byte(&mut self, byte: u8)
@@ -57,6 +60,7 @@ impl<'a> Text<'a> {
     }
 
     // The digits of a number: first those in front of the last one.
+    // Kept (no plainer): the library's `itoa` writes the digits into a buffer of its own, to be copied from there.
     pub fn put_decimal(&mut self, number: usize)
         requires { Room self.old (decimal number) }
         ensures { Appended (decimal number) self.old self.new }
@@ -99,9 +103,9 @@ impl<'a> Text<'a> {
 
     // The text is at its end: zeros past it, and the answer.
     pub fn finish(self) -> Answer
-        requires { (self.size ≤ length self.bytes.now) × (self.size < 4294967296) }
-        ensures value { result ≡ Done self.entry.size 0 0 }
-        ensures text_after { self.exit.0.now ≡ padded (length self.entry.bytes.now) (written self.entry) }
+        requires { (written_size self ≤ length (lent_bytes self)) × (written_size self < 4294967296) }
+        ensures value { result ≡ Done (written_size self.entry) 0 0 }
+        ensures text_after { self.exit.0.now ≡ padded (length (lent_bytes self.entry)) (written self.entry) }
     {
         let Text { bytes, size } = self;
         bytes[size..].fill(0);

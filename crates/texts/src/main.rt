@@ -7,7 +7,7 @@
 
 ghost use Rattle.std.specs.Prelude.{◌≤◌, length, take, ◌≡◌};
 
-use gate_text::{Buffer, READ};
+use gate_text::READ;
 use rules::Answer;
 use std::io::Read;
 use std::{fmt, io};
@@ -44,115 +44,125 @@ impl fmt::Display for Difference {
     }
 }
 
-// Is the answer Done (size, 0, 0)?
-fn wrote(answer: Answer, size: usize) -> bool {
-    match answer {
-        Answer::Done(bytes, vertices, edges) => bytes as usize == size
-            && vertices == 0
-            && edges == 0,
-        Answer::Cut(_, _, _) | Answer::Refused(_, _) => false,
-    }
-}
-
 // Is a slice that is one byte too short refused by 2, and does it stay as it is?
 fn judge_short(input: &[u8]) -> Result<(), Difference> {
     let held = stored_runs::filled::<u8, 16383>(35);
     let mut text = stored_runs::filled::<u8, 16383>(35);
     let answer = gate_text::gate(input, &mut text);
-    if matches!(answer, Answer::Refused(2, 0)) && text == held {
+    if answer == Answer::Refused(2, 0) && text == held {
         Ok(())
     } else {
         Err(Difference::Short(answer))
     }
 }
 
-// What the thin program reads of an input: as many bytes as its buffer holds. Answers how many.
-fn read_front(input: &[u8], buffer: &mut Buffer) -> usize
-    ensures bound { result ≤ 8193 }
-    ensures front { take result buffer.new ≡ take 8193 input.now }
+// What the thin program reads of an input: as many bytes as its buffer holds.
+fn front(input: &[u8]) -> &[u8]
+    ensures { result.now ≡ take 8193 input.now }
 {
-    let count = input.len().min(READ);
-    buffer[..count].copy_from_slice(&input[..count]);
-    count
+    &input[..input.len().min(READ)]
 }
 
-// Are the bytes written those stored, with zeros past them, and does the answer say how many? `want` holds zeros past
-// the text, so that both slices are compared whole.
-fn judge_text(answer: Answer, text: &[u8], want: &[u8], stored: usize) -> Result<(), Difference> {
-    if wrote(answer, stored) && text == want {
+// Does the call write the bytes stored, with zeros past them, and does its answer say how many? Where nothing is
+// written, the slice holds bytes that stand in no text.
+fn judge_text<F: FnOnce(&mut [u8]) -> Answer>(call: F, stored: &[u8]) -> Result<(), Difference>
+    requires few { length stored.now ≤ 16384 }
+    requires callable { F.IsAlwaysCallable call }
+{
+    let mut text = stored_runs::filled::<u8, 16384>(35);
+    let answer = call(&mut text);
+    let (written, rest) = text.split_at(stored.len());
+    if answer == Answer::Done(stored.len() as u32, 0, 0)
+        && written == stored
+        && rest.iter().all(|byte| *byte == 0)
+    {
         Ok(())
     } else {
-        Err(Difference::Text(answer, stored))
+        Err(Difference::Text(answer, stored.len()))
     }
 }
 
-// That of the whole input. Where nothing is written, the slice holds bytes that stand in no text.
-fn judge_whole(input: &[u8], want: &[u8], stored: usize) -> Result<(), Difference> {
-    let mut text = stored_runs::filled::<u8, 16384>(35);
-    let answer = gate_text::gate(input, &mut text);
-    judge_text(answer, &text, want, stored)
-}
-
-// That of the input as the thin program reads it.
-fn judge_buffer(input: &[u8], want: &[u8], stored: usize) -> Result<(), Difference> {
-    let mut buffer = [0u8; READ];
-    let count = read_front(input, &mut buffer);
-    let mut text = stored_runs::filled::<u8, 16384>(35);
-    let answer = gate_text::gate_buffer(&buffer, count, &mut text);
-    judge_text(answer, &text, want, stored)
-}
-
-fn judge(input: &[u8], want: &[u8], stored: usize) -> Result<(), Difference> {
-    judge_whole(input, want, stored)?;
-    judge_buffer(input, want, stored)?;
+// That of the whole input, that of the input as the thin program reads it, and that in a slice that is too short.
+fn judge(input: &[u8], stored: &[u8]) -> Result<(), Difference>
+    requires { length stored.now ≤ 16384 }
+{
+    judge_text(|text| gate_text::gate(input, text), stored)?;
+    judge_text(|text| gate_text::gate_buffer(front(input), text), stored)?;
     judge_short(input)
 }
 
-// Reads an input and its text of so many bytes, and compares.
-fn compare<R: Read>(stdin: &mut R, size: usize, stored: usize) -> io::Result<Result<(), Difference>>
-    requires { (size ≤ 16384) × (stored ≤ 16384) }
-{
-    let mut input = stored_runs::filled::<u8, 16384>(0);
-    let input = &mut input[..size];
-    let mut want = stored_runs::filled::<u8, 16384>(0);
-    if stored_runs::read_full(stdin, input)? < size {
-        return Ok(Err(Difference::Broken));
-    }
-    if stored_runs::read_full(stdin, &mut want[..stored])? < stored {
-        return Ok(Err(Difference::Broken));
-    }
-    Ok(judge(input, &want, stored))
+// The lengths in bytes of an input and of its text.
+#[derive(Clone, Copy)]
+struct Lengths {
+    input: usize,
+    text: usize,
+    ghost few: { (input ≤ 16384) × (text ≤ 16384) },
 }
 
-// Reads a record and compares; None where no record is left. A length that is too large counts as one too many.
+// The lengths that a head says; None where it is cut short or one is too large.
+fn lengths_of(head: &[u8]) -> Option<Lengths> {
+    if head.len() < 8 {
+        return None;
+    }
+    let mut lengths = [0u32; 2];
+    words::read_words(head, &mut lengths);
+    let [input, text] = lengths;
+    if 16384 < input || 16384 < text {
+        return None;
+    }
+    Some(Lengths {
+        input: input as usize,
+        text: text as usize,
+    })
+}
+
+// Reads an input and its text, and compares.
+fn compare<R: Read>(stdin: &mut R, lengths: Lengths) -> io::Result<Result<(), Difference>> {
+    let mut input = stored_runs::filled::<u8, 16384>(0);
+    let input = &mut input[..lengths.input];
+    let mut stored = stored_runs::filled::<u8, 16384>(0);
+    let stored = &mut stored[..lengths.text];
+    if reading::read_full(stdin, input)? < input.len()
+        || reading::read_full(stdin, stored)? < stored.len()
+    {
+        return Ok(Err(Difference::Broken));
+    }
+    Ok(judge(input, stored))
+}
+
+// Reads a record and compares; None where no record is left.
 fn next_record<R: Read>(stdin: &mut R) -> io::Result<Option<Result<(), Difference>>> {
     let mut head = [0u8; 8];
-    let got = stored_runs::read_full(stdin, &mut head)?;
-    if got == 0 {
+    let size = reading::read_full(stdin, &mut head)?;
+    if size == 0 {
         return Ok(None);
     }
-    let size = stored_runs::length_of(words::word_at(&head, 0), 16385);
-    let stored = stored_runs::length_of(words::word_at(&head, 4), 16385);
-    if got < 8 || size > 16384 || stored > 16384 {
-        return Ok(Some(Err(Difference::Broken)));
+    match lengths_of(&head[..size]) {
+        Some(lengths) => compare(stdin, lengths).map(Some),
+        None => Ok(Some(Err(Difference::Broken))),
     }
-    Ok(Some(compare(stdin, size, stored)?))
 }
 
-// At most a million records, so that the program ends whatever it reads.
-fn main(rt: HostRuntime) -> io::Result<()> {
-    let mut stdin = rt.stdin();
-    let mut records = 0u64;
-    let mut differences = 0u64;
-    for number in 0..1000000u64 {
-        let Some(judged) = next_record(&mut stdin)? else {
-            break;
+// The most records that it reads, so that it ends whatever is handed to it.
+const MOST_RECORDS: u64 = 1_000_000;
+
+// Compares each record and prints how it differs. Answers how many there were, and how many of them differ.
+// Kept (no plainer): `each_record` passes over a head that is cut short, which counts here as a record that differs.
+fn compare_all<R: Read>(rt: &impl Print, stdin: &mut R) -> io::Result<(u64, u64)> {
+    let mut differences = 0;
+    for number in 0..MOST_RECORDS {
+        let Some(judged) = next_record(stdin)? else {
+            return Ok((number, differences));
         };
         if let Err(difference) = judged {
             println!(rt; "record {number} {difference}")?;
             differences += 1;
         }
-        records += 1;
     }
+    Ok((MOST_RECORDS, differences))
+}
+
+fn main(rt: HostRuntime) -> io::Result<()> {
+    let (records, differences) = compare_all(&rt, &mut rt.stdin())?;
     println!(rt; "{records} records, {differences} differences")
 }

@@ -28,6 +28,8 @@ pub fn sample_transitions(system: &[u32], samples: &mut [u32])
 }
 
 // The first transition of a state: the sample before it and the out-degrees from there on.
+// Kept (no plainer): the system and its samples are two parameters, for one caller, whose own struct holds both and
+// says of them what is asked here.
 pub fn first_transition(system: &[u32], samples: &[u32], state: usize) -> usize
     requires system { System system.now }
     requires samples { Samples system.now samples.now }

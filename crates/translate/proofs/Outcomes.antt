@@ -1,6 +1,6 @@
 -- What each return of a run has to show: the answer and the two slices are those of the rules' run. Assumes nothing.
 use mathlib.Core.Path.{◌≡◌, refl, sym, ap, ◌∙◌, subst}
-use mathlib.Core.Bool.{Bool, true, false, true≢false, false≢true}
+use mathlib.Core.Bool.{Bool, true, false, true≢false}
 use mathlib.Core.List.{List, [], ◌∷◌}
 use mathlib.Core.Logic.{◌⊎◌, inl, inr}
 use Prim.Native.Nat.{ℕ, ◌+◌, ◌-◌, ◌≤◌, ◌<◌}
@@ -11,7 +11,6 @@ use lib.Dec.{eqb}
 use Rattle.rules.specs.declared.Answer.{Answer}
 use Rattle.rules.specs.declared.Answer.TheVariants.{Done, Cut, Refused}
 use Rattle.std.specs.declared.result.Result.TheVariants.{Ok, Err}
-use Rattle.std.specs.Result.{IsErr}
 use Rattle.rules.specs.declared.Fault.{Fault}
 use Rattle.rules.specs.Answers.{Check, fault}
 use Rattle.inputs.specs.Accepting.{checked}
@@ -250,12 +249,6 @@ whole_run x r k game work a g w e =
 -- the work slice after the walk is as long as before
 pub walked_passed : (x : Input) (r : Room) (game work other : ℕ) → other ≡ work → refusal x r game work ≡ Ok tt → refusal x r game other ≡ Ok tt
 walked_passed x r game work other e p = ap (refusal x r game) e ∙ p
-
--- where a walk answers that there is no room
-pub walk_failed : (targets : ℕ → List ℕ) (behind : ℕ → ℕ → ℕ) (root v e k : ℕ) (w : List ℕ) (r : Result Counters NoRoom)
-    → IsErr r → Exceeding targets root v e (walk eqb targets root k) → WalkAnswer targets behind root v e k w r
-walk_failed targets behind root v e k w (Ok c) h f = absurd (false≢true h)
-walk_failed targets behind root v e k w (Err x₀) h f = f
 
 -- ---- what accepting the words says of them
 

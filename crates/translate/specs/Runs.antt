@@ -1,5 +1,5 @@
 -- What the parts of a run promise one another. Assumes nothing: these are statements.
-use Rattle.match_table.specs.declared.MatchBytes.{MatchBytes}
+use Rattle.match_table.specs.declared.MatchRows.{MatchRows}
 use Rattle.std.specs.Prelude.{◌≡◌, List, ℕ, ◌≤◌, length}
 use Rattle.rules.specs.declared.Answer.{Answer}
 use Rattle.rules.specs.declared.Answer.TheVariants.{Done, Cut, Refused}
@@ -19,13 +19,13 @@ use Rattle.compiled.specs.declared.Compiled.{Compiled}
 use Rattle.compiled.specs.Tables.{classes_in}
 use Rattle.labels.specs.Classes.{Classes}
 use Rattle.match_table.specs.Rows.{MatchTable}
-use Rattle.modalities.specs.Tables.{Tables}
+use Rattle.stepping.specs.Tables.{Tables}
 
 -- the input is compiled: with any table of its matching labels these are the tables that the walk asks for
 pub record Prepared (x : Input) (compiled : Compiled) (items : ℕ) : Type 0 where
   pub multisets : Classes x.labels (classes_in compiled)
   pub few : items ≤ 2048
-  pub tables : (matched : MatchBytes) → MatchTable x.labels x.actions matched → Tables x compiled matched
+  pub tables : (matched : MatchRows) → MatchTable x.labels x.actions matched → Tables x compiled matched
 
 -- the game of the walk can be written out, where there was room for it
 abbrev pub Writable : Room → (size : ℕ) → List ℕ → Result Counters NoRoom → Type 0

@@ -20,12 +20,11 @@ ghost use Rattle.translate.specs.Runs.{Prepared, Writable, WroteOut, RunBy, RunB
 
 use compiled::Compiled;
 use lent_input::Input;
-use match_table::{ActionWords, MatchBytes};
-use modalities::WalkTables;
+use match_table::{ActionWords, MatchRows};
 use pairs::NoRoom;
 use rules::{Answer, Room};
 use settling::Counters;
-use stepping::Bounds;
+use stepping::{Bounds, WalkTables};
 
 // The walk of at most `bounds.limit` steps, whatever the work words hold.
 fn explore(tables: &WalkTables<'_>, work: &mut [u32], bounds: Bounds) -> Result<Counters, NoRoom>
@@ -34,7 +33,7 @@ fn explore(tables: &WalkTables<'_>, work: &mut [u32], bounds: Bounds) -> Result<
         WalkAnswer (key_targets x) (key_behind x) (root_key x) bounds.room.vertices bounds.room.edges
         bounds.limit work.new result }
 {
-    let begun = stepping::begin(&tables.input, tables.multiples(), work, bounds.room)?;
+    let begun = stepping::begin(&tables.input, tables.model().multiples(), work, bounds.room)?;
     stepping::walk(begun, tables, work, bounds)
 }
 
@@ -55,15 +54,15 @@ fn write_out(
             let known = counters.known;
             let edges = counters.edges;
             game_writer::write_game(game, work, compiled, room, known, edges);
-            words::clear(work); // nothing of the walk stays
+            work.fill(0); // nothing of the walk stays
             if counters.waiting == 0 {
                 return Answer::Done(counters.settled, known, edges);
             }
             Answer::Cut(counters.settled, known, edges)
         }
         Err(NoRoom) => {
-            words::clear(game);
-            words::clear(work);
+            game.fill(0);
+            work.fill(0);
             Answer::Refused(60, 0)
         }
     }
@@ -84,7 +83,7 @@ fn build_game(
     ensures { RunByRanks (priorities_in compiled.now) (input_in input.now) bounds.room bounds.limit
         game.old work.old result game.new work.new }
 {
-    let mut matched = MatchBytes::blank();
+    let mut matched = MatchRows::blank();
     let words = ActionWords {
         labels: input.labels,
         actions: input.actions,
@@ -147,15 +146,9 @@ pub fn translate(
 {
     let room = Room { vertices, edges };
     let bounds = Bounds { room, limit };
-    match inputs::accept(
-        labels,
-        system,
-        actions,
-        formula,
-        room,
-        game.len(),
-        work.len(),
-    ) {
+    let (game_len, work_len) = (game.len(), work.len());
+    // Kept (rule): the answer is an enum of the rules and no `Result`, so a refusal is handed on by this match.
+    match inputs::accept(labels, system, actions, formula, room, game_len, work_len) {
         Ok(input) => build(&input, bounds, game, work),
         Err(fault) => Answer::from(fault),
     }

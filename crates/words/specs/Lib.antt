@@ -1,4 +1,3 @@
 pub mod Bytes
 pub mod Node
-pub mod Regions
 pub mod Stretches

@@ -15,9 +15,9 @@ returns-then-not-encloses c =
 
 pub is_fixpoint-requires : goal.is_fixpoint-requires
 is_fixpoint-requires c =
-    let f = c.args.trees.now.words.now in
-    let before = inside_after f c.operand_at-named.result c.args.node (sym c.encloses.ensures ∙ c.if-not-encloses.false) in
-    (c.args.trees.now.sized, omega (arith, before, c.requires))
+    let before = inside_after c.args.trees.now.words.now c.operand_at-named.result c.args.node
+    (sym c.encloses.ensures ∙ c.if-not-encloses.false) in
+    omega (arith, before, c.requires)
 
 pub returns : goal.returns
 returns c =

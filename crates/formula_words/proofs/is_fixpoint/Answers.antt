@@ -1,14 +1,9 @@
-use native.Mathlib.Omega.{arith}
-use mathlib.Core.Path.{sym, ◌∙◌}
-use Rattle.tables.proofs.Decode.{fixpoint_high}
-use Rattle.formula_words.proofs.References.{fixpoint_by_kind}
+use mathlib.Core.Path.{◌∙◌, ap}
+use Prim.Native.Nat.{min}
+use Rattle.formula_words.proofs.References.{fixpoint_named}
 use Rattle.formula_words.proofs.is_fixpoint.Goals as goal
 
-pub returns-in-Ok : goal.returns-in-Ok
-returns-in-Ok c =
-    c.is_fixpoint_kind.ensures ∙ fixpoint_by_kind c.args.formula.now c.args.node c.requires.1 c.in-Ok.kind c.in-Ok.ensures
-
-pub returns-in-Err : goal.returns-in-Err
-returns-in-Err c =
-    let large = c.in-Err.ensures.1 in
-    sym (fixpoint_high c.args.formula.now c.args.node c.requires.1 (omega arith))
+pub returns : goal.returns
+returns c =
+    c.is_fixpoint.ensures
+    ∙ fixpoint_named c.args.trees.now.words.now c.args.node c.requires _ (c.of.ensures ∙ ap (λ k. min k 8) c.kind_at.ensures)

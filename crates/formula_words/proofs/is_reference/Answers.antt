@@ -1,16 +1,10 @@
-use native.Mathlib.Omega.{arith}
-use mathlib.Core.Path.{sym, ap, ◌∙◌}
-use Rattle.rules.specs.Table.{is_some}
-use Rattle.tables.proofs.Decode.{reference_none}
-use Rattle.formula_words.proofs.References.{reference_by_kind}
+use borrow.Author.Rules.{rules}
+use borrow.Author.Tests.{tests}
+use Rattle.std.proofs.lemmas.Result.{MatchResult-weaker}
+use Rattle.formula_words.proofs.References.{reference_read}
 use Rattle.formula_words.proofs.is_reference.Goals as goal
 
-pub returns-in-Ok : goal.returns-in-Ok
-returns-in-Ok c =
-    c.is_reference_kind.ensures
-    ∙ reference_by_kind c.args.formula.now c.args.node c.requires.1 c.in-Ok.kind c.in-Ok.ensures
-
-pub returns-in-Err : goal.returns-in-Err
-returns-in-Err c =
-    let large = c.in-Err.ensures.1 in
-    sym (ap is_some (reference_none c.args.formula.now c.args.node c.requires.1 (λ e. omega arith)))
+pub returns : goal.returns
+returns c =
+    reference_read c.args.trees.now.words.now c.args.node c.requires _ c.kind_at.ensures c.try_from.result c.try_from.ensures
+    c.is_ok_and.result (MatchResult-weaker c.try_from.result c.is_ok_and.ensures (λ k p. search (rules, tests)) (λ e p. p))

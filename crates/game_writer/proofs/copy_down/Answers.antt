@@ -1,20 +1,17 @@
 -- One more word stands behind those that were copied.
-use Prim.Native.Nat.{suc, ◌-◌}
-use native.Mathlib.Omega.{arith}
-use mathlib.Core.Path.{◌≡◌, ap}
-use Rattle.rules.specs.Lists.{word}
-use Rattle.game_writer.proofs.Rows.{row_put, row_done}
-use Rattle.game_writer.proofs.copy_down.Invariants.{below}
+use Rattle.std.proofs.Common.{rules}
+use Rattle.game_writer.proofs.Rows.{down_start, down_put, down_done}
 use Rattle.game_writer.proofs.copy_down.Goals as goal
 
-pub loop-index-preserved : goal.loop-index-preserved
-loop-index-preserved c =
-    let i = c.loop-index.index in
-    let same : c.args.past - 1 - i ≡ c.args.past - suc i = omega arith in
-    row_put (below c.args.src.now c.args.past) c.args.count i c.args.start _ (ap (word c.args.src.now) same)
-    c.loop-index-test.true c.requires.2 c.loop-index.invariant
+pub loop-i-init : goal.loop-i-init
+loop-i-init c =
+    let it = c.into_iter-i-iterator.result in
+    down_start c.args.words.now it.iter.iter.rest.now it.count c.args.start _ (search rules) (search rules)
+
+pub loop-i-preserved : goal.loop-i-preserved
+loop-i-preserved c =
+    let step = c.in-Some.ensures.steps in
+    down_put c.args.words.now _ _ _ c.args.start _ step.0 c.loop-i.invariant _ _ step.1 step.2 c.requires
 
 pub returns : goal.returns
-returns c =
-    row_done (below c.args.src.now c.args.past) c.args.count c.loop-index.index c.args.start (omega arith)
-    c.loop-index-test.false c.loop-index.invariant
+returns c = down_done _ _ c.args.start _ c.in-None.ensures.steps.0.0 c.loop-i.invariant

@@ -1,13 +1,10 @@
--- The words that are appended stand below `past`.
-use Prim.Native.Nat.{ℕ, suc, ◌-◌}
-use mathlib.Core.List.{List}
-use Rattle.rules.specs.Lists.{word}
-use Rattle.game_writer.proofs.Rows.{Row}
+-- The words that the iterator has left are left to write.
+use Prim.Native.Nat.{◌+◌}
+use Rattle.std.proofs.Common.{reverse}
+use Rattle.words.proofs.Stretches.{Writing}
 use Rattle.game_writer.proofs.copy_down.Given as goal
 
--- the words below the place
-abbrev pub below : List ℕ → ℕ → ℕ → ℕ
-below src past i = word src (past - suc i)
-
-abbrev pub invariant-loop-index : goal.invariant-loop-index
-invariant-loop-index l = Row (below l.src l.past) l.count l.index l.start l.out l.initial.out
+abbrev pub invariant-loop-i : goal.invariant-loop-i
+invariant-loop-i l =
+    Writing (l.start + l.i-iterator.count) (reverse l.i-iterator.iter.iter.rest.now) l.out l.start (reverse l.words)
+    l.initial.out

@@ -1,5 +1,5 @@
 -- The buffer holds what the program reads of the input, so what is printed of it is what is printed of the input.
-use Rattle.std.proofs.Common.{rules, arith, take}
+use Rattle.std.proofs.Common.{rules, arith, take, length-take}
 use Rattle.std.proofs.lemmas.Option.{IfSome_then}
 use Rattle.rules.specs.Program.{printed, gate_text_length}
 use Rattle.gate.proofs.Whole.{read_whole, written_whole}
@@ -7,7 +7,7 @@ use Rattle.gate.proofs.run.Goals as goal
 
 pub put_text-size-requires : goal.put_text-size-requires
 unfolding gate_text_length
-put_text-size-requires g c = (omega (arith, c.in_ok-count.ensures.bound.0, c.read_full.auto.buffer), omega arith)
+put_text-size-requires g c = (omega (arith, length-take c.in_ok-count.count c.read_full.new.buffer, c.read_full.auto.buffer), omega arith)
 
 pub returns : goal.returns
 returns g c =

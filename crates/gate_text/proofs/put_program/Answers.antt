@@ -1,6 +1,5 @@
 -- `put_program` meets its contract: the words run, or the refusal. Assumes nothing.
 use mathlib.Core.Path.{sym}
-use lib.ListN.{take}
 use Rattle.rules.specs.Program.{refused_text}
 use Rattle.text_writer.proofs.Appending.{room_as, appended_as}
 use Rattle.gate_text.proofs.Programs.{accepted_some, accepted_none}
@@ -8,7 +7,7 @@ use Rattle.gate_text.proofs.put_program.Goals as goal
 
 pub run_words-requires : goal.run_words-requires
 run_words-requires c =
-    let run = accepted_some c.args.bytes.now (take c.in-Some.count c.decode.new.words) c.in-Some.ensures.0 in
+    let run = accepted_some c.args.bytes.now c.in-Some.words.now c.in-Some.ensures in
     record { agree = run.0; room = room_as c.args.text.now (sym run.1) c.requires }
 
 pub put_line-requires : goal.put_line-requires
@@ -17,7 +16,7 @@ put_line-requires c = room_as c.args.text.now (accepted_none c.args.bytes.now c.
 
 pub returns-in-Some : goal.returns-in-Some
 returns-in-Some c =
-    let run = accepted_some c.args.bytes.now (take c.in-Some.count c.decode.new.words) c.in-Some.ensures.0 in
+    let run = accepted_some c.args.bytes.now c.in-Some.words.now c.in-Some.ensures in
     appended_as (sym run.1) c.run_words.ensures
 
 pub returns-in-None : goal.returns-in-None

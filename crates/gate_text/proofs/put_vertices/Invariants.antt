@@ -7,5 +7,5 @@ use Rattle.gate_text.proofs.put_vertices.Given as goal
 
 abbrev pub invariant-loop-vertex : goal.invariant-loop-vertex
 invariant-loop-vertex l =
-    Left (vertex_lines l.game l.vertex (vertex_count l.game - l.vertex)) l.text
-    (vertex_lines l.game 0 (vertex_count l.game)) l.initial.text
+    Left (vertex_lines l.game.words.now l.vertex (vertex_count l.game.words.now - l.vertex)) l.text
+    (vertex_lines l.game.words.now 0 (vertex_count l.game.words.now)) l.initial.text

@@ -10,14 +10,16 @@ pub run_input-requires : goal.run_input-requires
 run_input-requires c =
     room_as c.args.text.now
     (ap (λ (x : Input). reported (gate_run x))
-    (parts_are c.args.ws.now c.at-labels_end.result c.at.result
-    c.at-2.result c.at-labels_end.ensures.0 c.at.ensures.0 c.at-2.ensures.0))
+    (parts_are c.args.words.now _ _ _ c.at.ensures.0 c.at-2.ensures.0 c.at-3.ensures.0
+    (c.split_at.ensures.front, c.split_at.ensures.back) (c.split_at-2.ensures.front, c.split_at-2.ensures.back)
+    (c.split_at-3.ensures.front, c.split_at-3.ensures.back)))
     c.requires.room
 
 pub returns : goal.returns
 returns c =
     appended_as
     (ap (λ (x : Input). reported (gate_run x))
-    (parts_are c.args.ws.now c.at-labels_end.result c.at.result
-    c.at-2.result c.at-labels_end.ensures.0 c.at.ensures.0 c.at-2.ensures.0))
+    (parts_are c.args.words.now _ _ _ c.at.ensures.0 c.at-2.ensures.0 c.at-3.ensures.0
+    (c.split_at.ensures.front, c.split_at.ensures.back) (c.split_at-2.ensures.front, c.split_at-2.ensures.back)
+    (c.split_at-3.ensures.front, c.split_at-3.ensures.back)))
     c.run_input.ensures

@@ -28,4 +28,4 @@ returns-clause-ranks c =
     let x = input_in i in
     ranks_made x i.good by_depth (λ q. by_depth_words (formula_only x.formula) x q refl) c.list_equations-count.result _
     (priorities_in c.put_priorities.new.compiled) c.list_equations-count.ensures.value
-    (omega (arith, c.put_priorities.ensures.priorities_only.rooms.priorities)) c.put_priorities.ensures.ranked_by
+    (omega (arith, c.put_priorities.ensures.priorities_only.room)) c.put_priorities.ensures.ranked_by

@@ -1,35 +1,58 @@
+use mathlib.Core.Path.{refl, sym, ◌∙◌}
+use Prim.Native.Nat.{◌<◌}
 use native.Mathlib.Omega.{arith}
+use lib.ListN.{length}
+use borrow.Author.Tests.{eqb-true}
 use Rattle.settling.proofs.Make.{answer_failed}
-use Rattle.modalities.proofs.Gathering.{following_start, following_raisable, following_on, following_many}
+use Rattle.modalities.proofs.Gathering.{following_start, following_raisable, following_on, following_many, following_end}
 use Rattle.modalities.proofs.follow_all.Goals as goal
+use Rattle.modalities.proofs.follow_all.Goals.{then-index-targets, else-index-targets}
 
-pub loop-transition-init : goal.loop-transition-init
-loop-transition-init c = (
-  following_start _ _ _ _ _ _ _ _ c.args.moves.within.rises c.requires.ready.0 c.requires.ready.3,
-  c.target_of-ahead.ensures,
-)
+pub returns-then-is_empty : goal.returns-then-is_empty
+returns-then-is_empty g c =
+    let none = eqb-true _ 0 (sym c.is_empty.ensures ∙ c.if-is_empty.true) in
+    following_end _ _ _ _ _ _ _ _ _ _ 0 (following_start _ _ _ _ _ _ _ _ _ c.requires.0.0 c.requires.0.3) (sym none)
 
-pub follow-requires-clause-ready : goal.follow-requires-clause-ready
-follow-requires-clause-ready c =
+pub loop-index-init : goal.loop-index-init
+loop-index-init g c = (following_start _ _ _ _ _ _ _ _ _ c.requires.0.0 c.requires.0.3, λ h. refl)
+
+pub follow-requires : goal.follow-requires
+follow-requires g c =
+    let following = c.loop-index.invariant.0 in
     let within = c.args.moves.within in
-    let following = c.loop-transition.invariant.0 in (
-      following.gathering.made.ready,
-      c.requires.ready.2,
-      following_raisable _ _ _ _ _ _ _ _ _ _ _ following (omega (arith, within.inside, within.few_moves))
-          (λ i h. within.reach i (omega (arith, within.inside))) c.requires.ready.1 c.requires.ready.3,
+    let inside : c.loop-index.index < length c.args.moves.targets.now =
+    omega (arith, c.loop-index-test.true, within.paired) in
+    let target : c.loop-index.ahead < c.args.moves.states =
+    omega (arith, c.loop-index.invariant.1 inside, within.reach c.loop-index.index inside) in (
+      (
+        following.gathering.made.ready,
+        c.requires.0.2,
+        following_raisable _ _ _ _ _ _ _ _ _ within _ _ _ following (omega (arith, inside)) c.requires.0.1 c.requires.0.3,
+      ),
+      (
+        (omega (arith, target, within.few_states), λ by. omega (arith, target, c.requires.0.3.one-each by)),
+        c.requires.1 c.loop-index.index c.loop-index-test.true,
+      ),
     )
 
 pub returns-in_err-so_far : goal.returns-in_err-so_far
-returns-in_err-so_far c =
-    let following = c.loop-transition.invariant.0 in
+returns-in_err-so_far g c =
+    let following = c.loop-index.invariant.0 in
+    let inside : c.loop-index.index < length c.args.moves.targets.now =
+    omega (arith, c.loop-index-test.true, c.args.moves.within.paired) in
     answer_failed _ _ _ _ _ _ _ _ c.from_residual.ensures.0
-    (following_many _ _ _ _ _ _ _ _ _ c.follow.new.work _ _ following c.loop-transition-test.true c.in_err-so_far.field-0.0
-    (c.in_err-so_far.ensures _ _ _ c.requires.ready.1 following.gathering))
+    (following_many _ _ _ _ _ _ _ _ _ c.follow.new.work _ _ following _ (c.loop-index.invariant.1 inside) c.in_err-so_far.field-0.0 inside
+    (c.in_err-so_far.ensures _ _ _ c.requires.0.1 following.gathering))
 
-pub loop-transition-preserved : goal.loop-transition-preserved
-loop-transition-preserved c =
-    let following = c.loop-transition.invariant.0 in (
-      following_on _ _ _ _ _ _ _ _ _ _ _ _ following c.loop-transition-test.true _ c.follow.auto.work
-          (c.in_ok-so_far.ensures _ _ _ c.requires.ready.1 following.gathering),
-      c.target_of-ahead-in-loop-transition.ensures,
+pub loop-index-preserved : goal.loop-index-preserved
+loop-index-preserved g c =
+    let following = c.loop-index.invariant.0 in
+    let inside : c.loop-index.index < length c.args.moves.targets.now =
+    omega (arith, c.loop-index-test.true, c.args.moves.within.paired) in (
+      following_on _ _ _ _ _ _ _ _ _ _ _ _ following _ (c.loop-index.invariant.1 inside) _ c.follow.auto.work
+          (c.in_ok-so_far.ensures _ _ _ c.requires.0.1 following.gathering),
+      elim c.if-index-targets.branch [
+        | then-index-targets w ↦ λ h. w.ahead-is
+        | else-index-targets w ↦ λ h. absurd (omega (arith, h, w.if-index-targets.false))
+      ],
     )

@@ -2,12 +2,16 @@
 -- own target is read. Assumes nothing.
 use mathlib.Core.Path.{◌≡◌}
 use Prim.Native.Nat.{◌<◌}
-use Rattle.rules.specs.System.{transition_target}
+use lib.ListN.{length}
+use Rattle.rules.specs.Lists.{word}
 use Rattle.modalities.proofs.Gathering.{Following}
 use Rattle.modalities.proofs.follow_all.Given as goal
 
-abbrev pub invariant-loop-transition : goal.invariant-loop-transition
-invariant-loop-transition l =
-    Following l.moves.system.now l.answers l.room l.operand l.moves.first l.moves.end l.initial.work l.initial.so_far
-    l.work l.so_far l.transition
-    × (l.transition < l.moves.end → l.ahead ≡ transition_target l.moves.system.now l.transition)
+abbrev pub invariant-loop-index : goal.invariant-loop-index
+invariant-loop-index g l =
+    Following l.answers l.moves.labels.now l.moves.targets.now l.room g.marks l.operand l.initial.work l.initial.so_far
+    l.work l.so_far l.index
+    × (l.index < length l.moves.targets.now → l.ahead ≡ word l.moves.targets.now l.index)
+
+abbrev pub ghost-follow : goal.ghost-follow
+ghost-follow g a = g.marks

@@ -10,16 +10,19 @@ clear_marks-requires c =
     let ready = c.requires.unmarked.0.0 in
     (ready.most, marks_inside _ _ _ _ _ _ c.mark_count-marks.ensures ready)
 
-pub follow_all-requires-clause-ready : goal.follow_all-requires-clause-ready
-follow_all-requires-clause-ready c =
+pub follow_all-requires : goal.follow_all-requires
+follow_all-requires c =
     let unmarked = c.requires.unmarked.0 in
     let count = c.mark_count-marks.ensures in
-    let cleared = c.clear_marks.ensures in (
-      cleared_ready _ _ _ _ _ _ count _ unmarked cleared,
-      refl,
-      omega (arith, c.scale.ensures, c.requires.unmarked.1),
-      cleared_spacious _ _ _ _ _ _ count _ unmarked cleared c.args.moves.system.now refl c.scale.result _
-          c.marked_by.ensures,
+    let cleared = c.clear_marks.ensures in
+    let scaled = c.scale.ensures in (
+      (
+        cleared_ready _ _ _ _ _ _ count _ unmarked cleared,
+        refl,
+        omega (arith, scaled, c.requires.unmarked.1),
+        rw (← count) (cleared_spacious _ _ _ _ _ _ count _ unmarked cleared c.scale.result _ c.marked_by.ensures),
+      ),
+      c.requires.answers,
     )
 
 pub returns : goal.returns

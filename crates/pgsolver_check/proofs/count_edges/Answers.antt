@@ -40,7 +40,7 @@ returns-then-room-edges c =
     c.known_field-priority.result c.known_field-priority.ensures
     c.known_field-owner.result c.known_field-owner.ensures in
     edging_beyond c.requires.readable c.loop-place.invariant c.loop-place-test.true
-    c.known_field-owner.result.next listed.0 c.count_list-counted.ensures.count_value c.if-room-edges.true
+    c.known_field-owner.result.next listed.0 c.count_list-counted.ensures.counted c.if-room-edges.true
 
 pub loop-place-smaller : goal.loop-place-smaller
 loop-place-smaller c =
@@ -53,7 +53,7 @@ loop-place-smaller c =
       c.loop-place-test.true,
       walk_later c.requires.readable c.loop-place.invariant.walk c.loop-place-test.true,
       line,
-      c.count_list-counted.ensures.list_value,
+      c.count_list-counted.ensures.same_line,
       c.past_line-place.ensures,
     )
 
@@ -68,9 +68,9 @@ loop-place-preserved c =
     c.known_field-priority.result c.known_field-priority.ensures
     c.known_field-owner.result c.known_field-owner.ensures in
     edging_more c.requires.readable c.loop-place.invariant c.loop-place-test.true
-    c.known_field-owner.result.next listed.0 c.count_list-counted.ensures.count_value c.if-room-edges.false
-    (c.past_line-place.ensures ∙ sym (line ∙ c.count_list-counted.ensures.list_value))
-    c.count_list-counted.ensures.holds
+    c.known_field-owner.result.next listed.0 c.count_list-counted.ensures.counted c.if-room-edges.false
+    (c.past_line-place.ensures ∙ sym (line ∙ c.count_list-counted.ensures.same_line))
+    c.count_list-counted.ensures.emptied
 
 pub returns : goal.returns
 returns c = edging_done c.loop-place.invariant c.loop-place-test.false

@@ -1,12 +1,7 @@
--- `wipe_list` meets its contract. Assumes nothing.
-use Prim.Native.Nat.{◌-◌}
-use lib.ListN.{length}
+-- `wipe_list` meets its contract: only numbers that are left are marked. Assumes nothing.
 use Rattle.bitmap.specs.Marks.{Only}
-use Rattle.pgsolver_check.specs.Successors.{list_at, Listed}
+use Rattle.pgsolver_scan.specs.Successors.{left}
 use Rattle.pgsolver_check.proofs.wipe_list.Given as goal
 
-abbrev pub invariant-loop-number : goal.invariant-loop-number
-invariant-loop-number l = Listed l.text l.place × Only l.bits (list_at l.text l.place)
-
-abbrev pub decreases-loop-number : goal.decreases-loop-number
-decreases-loop-number l = length l.text - l.place
+abbrev pub invariant-loop-successor : goal.invariant-loop-successor
+invariant-loop-successor l = Only l.bits (left l.successor-iterator)

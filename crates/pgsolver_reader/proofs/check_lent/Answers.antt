@@ -1,6 +1,7 @@
 -- `check_lent` meets its contract. Assumes nothing.
 use mathlib.Core.Path.{sym, ◌∙◌}
-use Rattle.pgsolver_reader.proofs.Assembling.{handed_on, lent_fault, lent_other, lent_right}
+use Rattle.pgsolver_check.proofs.Checking.{handed_on}
+use Rattle.pgsolver_reader.proofs.Assembling.{lent_fault, lent_length}
 use Rattle.pgsolver_reader.proofs.check_lent.Goals as goal
 
 pub returns-in_err-check_room : goal.returns-in_err-check_room
@@ -9,11 +10,6 @@ returns-in_err-check_room c =
     handed_on _ fault c.from_residual.ensures.1
     ∙ lent_fault c.args.room fault c.args.game_len (sym c.in_err-check_room.ensures)
 
-pub returns-then-game_len-game_words : goal.returns-then-game_len-game_words
-returns-then-game_len-game_words c =
-    lent_other _ _ _ (sym c.in_ok-check_room.ensures)
-    (λ e. c.if-game_len-game_words.true (e ∙ sym c.game_words.ensures))
-
 pub returns : goal.returns
 returns c =
-    lent_right _ _ _ (sym c.in_ok-check_room.ensures) (c.if-game_len-game_words.false ∙ c.game_words.ensures)
+    c.fault_if.ensures ∙ lent_length _ _ _ _ (sym c.in_ok-check_room.ensures) c.game_words-length.ensures

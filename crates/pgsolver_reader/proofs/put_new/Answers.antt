@@ -13,13 +13,13 @@ pub bounds-game-end : goal.bounds-game-end
 bounds-game-end c =
     let e = unless_new (marked c.args.bits.now c.args.value) _ (c.args.value ∷ [])
     c.meet.ensures.0 c.if-meet.true in
-    omega (arith, c.requires.value_in_bounds, ap length e)
+    omega (arith, c.requires.fits, ap length e)
 
 pub returns-then-meet-clause-wrote : goal.returns-then-meet-clause-wrote
 returns-then-meet-clause-wrote c =
     let e = unless_new (marked c.args.bits.now c.args.value) _ (c.args.value ∷ [])
     c.meet.ensures.0 c.if-meet.true in
-    wrote_as (sym e) (done (put (omega (arith, c.requires.value_in_bounds, ap length e)) start))
+    wrote_as (sym e) (done (put (omega (arith, c.requires.fits, ap length e)) start))
 
 pub returns-clause-wrote : goal.returns-clause-wrote
 returns-clause-wrote c =

@@ -3,8 +3,9 @@ use Prim.Native.Nat.{◌+◌}
 use native.Mathlib.Omega.{arith}
 use mathlib.Core.Path.{refl, sym}
 use lib.ListN.{length}
-use Rattle.pgsolver_reader.proofs.Assembling.{room_sizes, plan_whole, plan_small, plan_ready, handed_on}
+use Rattle.pgsolver_reader.proofs.Assembling.{room_sizes, plan_whole, plan_small, plan_ready}
 use Rattle.pgsolver_reader.proofs.Assembling.{read_done, read_bad, read-refused}
+use Rattle.pgsolver_check.proofs.Checking.{handed_on}
 use Rattle.pgsolver_reader.proofs.read_text.Goals as goal
 
 pub returns-in_err-check_lent : goal.returns-in_err-check_lent
@@ -24,13 +25,17 @@ returns-in_err-plan c =
     rw e
     (read_bad c.args.text.now c.args.game.now c.args.room fault (sym c.in_ok-check_lent.ensures) c.in_err-plan.ensures)
 
+pub invariant_of-source : goal.invariant_of-source
+invariant_of-source c =
+    let sizes = room_sizes c.args.room.vertices c.args.room.edges (length c.args.game.now)
+    (sym c.in_ok-check_lent.ensures) in
+    record { whole = plan_whole c.in_ok-plan.ensures sizes.0 }
+
 pub write_game-edges-requires : goal.write_game-edges-requires
 write_game-edges-requires c =
     let sizes = room_sizes c.args.room.vertices c.args.room.edges (length c.args.game.now)
-    (sym c.in_ok-check_lent.ensures) in (
-      plan_whole c.in_ok-plan.ensures sizes.0,
-      plan_ready c.in_ok-plan.ensures (length c.args.game.now) sizes.0 sizes.1 sizes.2,
-    )
+    (sym c.in_ok-check_lent.ensures) in
+    plan_ready c.in_ok-plan.ensures (length c.args.game.now) sizes.0 sizes.1 sizes.2
 
 pub overflow_cast-result-3 : goal.overflow_cast-result-3
 overflow_cast-result-3 c =

@@ -1,6 +1,6 @@
 -- `read_header` meets its contract. Assumes nothing.
 use Rattle.rules.specs.Pgsolver.{parity_word}
-use Rattle.pgsolver_scan.proofs.Headers.{header_lost, header_not, header_bad, header_told}
+use Rattle.pgsolver_scan.proofs.Headers.{header_lost, header_not, header_followed}
 use Rattle.pgsolver_scan.proofs.read_header.Goals as goal
 
 pub returns-then-not-bytes_at : goal.returns-then-not-bytes_at
@@ -14,15 +14,8 @@ returns-in_err-number c =
     rw c.from_residual.ensures
     (header_not c.args.text.now c.bytes_at.ensures.place_value c.if-not-bytes_at.false c.in_err-number.ensures)
 
-pub returns-then-byte_at : goal.returns-then-byte_at
-unfolding parity_word
-returns-then-byte_at c =
-    header_told c.args.text.now c.bytes_at.ensures.place_value c.if-not-bytes_at.false
-    c.in_ok-number.number c.in_ok-number.ensures c.byte_at.ensures.place_value c.if-byte_at.true
-    (c.byte_at.ensures.place_in_bounds c.if-byte_at.true)
-
 pub returns : goal.returns
 unfolding parity_word
 returns c =
-    header_bad c.args.text.now c.bytes_at.ensures.place_value c.if-not-bytes_at.false
-    c.in_ok-number.number c.in_ok-number.ensures c.byte_at.ensures.place_value c.if-byte_at.false
+    header_followed c.args.text.now c.bytes_at.ensures.place_value c.if-not-bytes_at.false
+    c.in_ok-number.number c.in_ok-number.ensures _ c.followed.ensures

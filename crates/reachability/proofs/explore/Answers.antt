@@ -4,46 +4,51 @@ use native.Mathlib.Omega.{arith}
 use borrow.Author.Rules.{rules}
 use Rattle.reachability.proofs.Edges.{leads_at}
 use Rattle.reachability.proofs.Meeting.{none_known, knows_at, filled}
+use Rattle.reachability.proofs.Meets.{met_none, met_more}
 use Rattle.reachability.proofs.Turns.{search-start, search_step, search_done}
 use Rattle.reachability.proofs.explore.Goals as goal
 
-pub discover-count-requires-clause-knows : goal.discover-count-requires-clause-knows
-discover-count-requires-clause-knows c =
-    none_known _ _ (omega (arith, c.fill.auto.self, c.requires.mapping_len))
-    (omega (arith, c.fill.auto.self, c.requires.mapping_len, c.requires.good_game.few))
+pub discover-requires-clause-ready : goal.discover-requires-clause-ready
+discover-requires-clause-ready c =
+    none_known _ _ (omega (arith, c.fill.auto.self, c.requires.lengths))
+    (omega (arith, c.fill.auto.self, c.requires.lengths, c.requires.good_game.few))
     (filled 4_294_967_295 _ _ c.fill.ensures.len (c.fill.ensures.after (λ y e. search rules)))
 
 pub loop-i-init : goal.loop-i-init
-loop-i-init c = (
-  c.discover-count.ensures.knows_2,
-  omega (arith, c.discover-count.auto.mapping, c.fill.auto.self, c.requires.mapping_len),
-  search-start _ _ _ refl c.discover-count.ensures.work_after,
-)
+loop-i-init c = (met_none c.discover.ensures.ready, search-start _ _ _ refl c.discover.ensures.known)
 
-pub edge_words-targets-requires-clause-column_in_bounds : goal.edge_words-targets-requires-clause-column_in_bounds
-edge_words-targets-requires-clause-column_in_bounds c = (
+pub edge_words-targets-requires : goal.edge_words-targets-requires
+edge_words-targets-requires c = (
   omega arith,
-  omega (arith, knows_at c.loop-i.invariant.0 c.loop-i.i c.loop-i-test.true, c.loop-i.invariant.1),
+  omega (
+    arith,
+    knows_at c.loop-i.invariant.0.ready c.loop-i.i c.loop-i-test.true,
+    c.loop-i.invariant.0.long,
+    c.discover.ensures.long,
+    c.fill.auto.self,
+    c.requires.lengths,
+  ),
 )
 
-pub discover_all-count-requires-clause-by_index : goal.discover_all-count-requires-clause-by_index
-discover_all-count-requires-clause-by_index c =
-    let met = knows_at c.loop-i.invariant.0 c.loop-i.i c.loop-i-test.true in
+pub discover_all-requires-clause-are_vertices : goal.discover_all-requires-clause-are_vertices
+discover_all-requires-clause-are_vertices c =
+    let met = knows_at c.loop-i.invariant.0.ready c.loop-i.i c.loop-i-test.true in
+    let long = c.loop-i.invariant.0.long ∙ c.discover.ensures.long ∙ c.fill.auto.self ∙ c.requires.lengths.0 in
     λ p l. omega (
       arith,
-      leads_at c.args.game.now c.requires.good_game _ _ (omega (arith, met, c.loop-i.invariant.1))
-          c.edge_words-targets.ensures p l,
-      c.loop-i.invariant.1,
+      leads_at _ c.requires.good_game _ _ (omega (arith, met, long)) c.edge_words-targets.ensures p l,
+      long,
     )
 
 pub loop-i-preserved : goal.loop-i-preserved
-loop-i-preserved c = (
-  c.discover_all-count.ensures.knows_2,
-  c.discover_all-count.auto.mapping ∙ c.loop-i.invariant.1,
-  search_step _ _ _ _ _ _ _ _ c.loop-i.invariant.0 c.loop-i.invariant.1 c.loop-i-test.true
-      c.edge_words-targets.ensures c.discover_all-count.ensures.work_after c.loop-i.invariant.2,
-)
+loop-i-preserved c =
+    let long = c.loop-i.invariant.0.long ∙ c.discover.ensures.long ∙ c.fill.auto.self ∙ c.requires.lengths.0 in (
+      met_more c.loop-i.invariant.0 c.discover_all.ensures,
+      search_step _ _ _ _ _ _ _ _ c.loop-i.invariant.0.ready long c.loop-i-test.true c.edge_words-targets.ensures
+          c.discover_all.ensures.known c.loop-i.invariant.1,
+    )
 
-pub returns-clause-work_after : goal.returns-clause-work_after
-returns-clause-work_after c =
-    search_done _ _ _ _ _ _ c.loop-i.invariant.0 c.loop-i-test.false c.loop-i.invariant.2
+pub returns-clause-found : goal.returns-clause-found
+returns-clause-found c =
+    let found = search_done _ _ _ _ _ _ c.loop-i.invariant.0.ready c.loop-i-test.false c.loop-i.invariant.1 in
+    search rules

@@ -1,15 +1,16 @@
+-- The targets of the first i vertices that are met are met too.
 use Prim.Native.Nat.{◌-◌}
 use mathlib.Core.Path.{◌≡◌}
-use lib.ListN.{length, take}
 use Rattle.rules.specs.Game.{vertex_count}
 use Rattle.rules.specs.Restrict.{search_from, reached_vertices}
-use Rattle.reachability.specs.Search.{Knows}
+use Rattle.reachability.specs.Meets.{met_in, Met}
 use Rattle.reachability.proofs.explore.Given as goal
 
 abbrev pub invariant-loop-i : goal.invariant-loop-i
 invariant-loop-i l =
-    Knows l.count l.mapping l.work × (length l.mapping ≡ vertex_count l.game) ×
-    (reached_vertices l.game ≡ search_from l.game (vertex_count l.game - l.i) l.i (take l.count l.work))
+    Met (met_in l.search) l.initial.search l.search
+    × (reached_vertices l.game.words.now
+    ≡ search_from l.game.words.now (vertex_count l.game.words.now - l.i) l.i (met_in l.search))
 
 abbrev pub decreases-loop-i : goal.decreases-loop-i
-decreases-loop-i l = vertex_count l.game - l.i
+decreases-loop-i l = vertex_count l.game.words.now - l.i

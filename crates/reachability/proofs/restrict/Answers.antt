@@ -2,20 +2,24 @@
 use mathlib.Core.Path.{◌∙◌}
 use borrow.Author.Rules.{rules}
 use Rattle.restrictions.proofs.Accepted.{good_game, accepted_slices}
-use Rattle.reachability.proofs.Stretches.{chosen, numbered}
+use Rattle.reachability.proofs.Edges.{readable}
+use Rattle.reachability.proofs.Stretches.{chosen, numbered, few_edges, fits}
 use Rattle.reachability.proofs.Whole.{leaves, cleared}
 use Rattle.reachability.proofs.restrict.Goals as goal
+
+pub invariant_of-game : goal.invariant_of-game
+invariant_of-game c = record { readable = readable _ (good_game _ (accepted_slices _ _ _ _ c.requires).0) }
 
 pub explore-count-requires-clause-good_game : goal.explore-count-requires-clause-good_game
 explore-count-requires-clause-good_game c = good_game _ (accepted_slices _ _ _ _ c.requires).0
 
-pub explore-count-requires-clause-mapping_len : goal.explore-count-requires-clause-mapping_len
-explore-count-requires-clause-mapping_len c =
+pub explore-count-requires-clause-lengths : goal.explore-count-requires-clause-lengths
+explore-count-requires-clause-lengths c =
     let l = accepted_slices _ _ _ _ c.requires in
     (l.2, l.3)
 
-pub invariant_of-kept : goal.invariant_of-kept
-invariant_of-kept c =
+pub invariant_of-reached : goal.invariant_of-reached
+invariant_of-reached c =
     let l = accepted_slices _ _ _ _ c.requires in
     let good = good_game _ l.0 in
     let long = c.explore-count.auto.mapping ∙ l.2 in
@@ -24,12 +28,21 @@ invariant_of-kept c =
       numbered = numbered _ _ _ _ good c.explore-count.ensures.knows long;
     }
 
-pub write_game-edges-requires : goal.write_game-edges-requires
-write_game-edges-requires c = (accepted_slices _ _ _ _ c.requires).1
+pub count_edges-edges-requires : goal.count_edges-edges-requires
+count_edges-edges-requires c =
+    let l = accepted_slices _ _ _ _ c.requires in
+    let long = c.explore-count.auto.mapping ∙ l.2 in
+    record { few = few_edges _ _ (chosen _ _ _ _ (good_game _ l.0) c.explore-count.ensures.knows long) }
+
+pub write_game-requires-clause-room : goal.write_game-requires-clause-room
+write_game-requires-clause-room c =
+    let l = accepted_slices _ _ _ _ c.requires in
+    let long = c.explore-count.auto.mapping ∙ l.2 in
+    fits _ _ (chosen _ _ _ _ (good_game _ l.0) c.explore-count.ensures.knows long) _ _ l.1 c.count_edges-edges.ensures
 
 pub returns : goal.returns
 returns c =
     let l = accepted_slices _ _ _ _ c.requires in
     leaves _ _ _ _ _ _ _ _ _ c.explore-count.ensures.knows (c.explore-count.auto.mapping ∙ l.2)
-    c.explore-count.ensures.work_after c.write_game-edges.ensures.value c.write_game-edges.ensures.out_after
+    c.explore-count.ensures.found c.count_edges-edges.ensures c.write_game.ensures
     (cleared _ _ _ c.explore-count.auto.work (c.fill.ensures.after (λ y e. search rules)))

@@ -4,61 +4,61 @@ use Rattle.settling.proofs.Marking.{once_new, once_many, once_crowded, gathered_
 use Rattle.settling.proofs.meet_once.Goals as goal
 
 pub returns-in_err-vertex : goal.returns-in_err-vertex
-returns-in_err-vertex c =
-    λ w₀ c₀ ks same g.
-    gathered_failed _ _ _ _ _ _ _ _ c.from_residual.ensures.0
-    (once_crowded _ _ _ c.args.counters _ w₀ c₀ ks c.requires.ready.0.table.slots.room c.in_err-vertex.ensures g.made)
+returns-in_err-vertex g c =
+    λ w₀ c₀ ks same k.
+    gathered_failed _ _ _ _ _ _ _ _ _ c.from_residual.ensures.0
+    (once_crowded _ _ _ c.args.counters _ w₀ c₀ ks c.requires.0.0.table.slots.room c.in_err-vertex.ensures k.made)
 
-pub mark_word-mark-requires : goal.mark_word-mark-requires
-mark_word-mark-requires c =
+pub region_word-mark-requires : goal.region_word-mark-requires
+region_word-mark-requires g c =
     let p = c.in_ok-vertex.ensures in
-    let mark = mark_of _ c.args.operand.item.number _ _ _ _ c.mark_index-index.ensures c.requires.state_lt_marks in
-    mark_inside _ _ _ _ _ _ _ c.requires.ready.0 c.requires.ready.2 p.rest c.meet.auto.work
-    (met_below_mark _ _ _ _ _ _ _ _ _ c.requires.ready.0 p c.meet.auto.work _
-    c.requires.ready.2.apart.0 _ _ _ _ mark)
+    let mark = mark_of _ c.args.operand.item.number _ _ _ _ c.mark_index-index.ensures c.requires.1 in
+    mark_inside _ _ _ _ _ _ _ _ c.requires.0.0 c.requires.0.2 p.rest c.meet.auto.work
+    (met_below_mark _ _ _ _ _ _ _ _ c.requires.0.0 p c.meet.auto.work _
+    c.requires.0.2.apart.0 _ _ _ _ mark)
 
 pub raise_count-requires : goal.raise_count-requires
-raise_count-requires c =
+raise_count-requires g c =
     let p = c.in_ok-vertex.ensures in
-    let mark = mark_of _ c.args.operand.item.number _ _ _ _ c.mark_index-index.ensures c.requires.state_lt_marks in
+    let mark = mark_of _ c.args.operand.item.number _ _ _ _ c.mark_index-index.ensures c.requires.1 in
     let it =
-    mark_raises _ _ _ _ _ _ _ c.requires.ready.0 c.requires.ready.2 p.rest c.meet.auto.work
-    (met_below_mark _ _ _ _ _ _ _ _ _ c.requires.ready.0 p c.meet.auto.work _
-    c.requires.ready.2.apart.0 _ _ _ _ mark) _ c.mark_word-mark.ensures c.if-operand-mark.true in
-    record { vertices_le_most_vertices = it.0; place_bound = it.1 }
+    mark_raises _ _ _ _ _ _ _ _ c.requires.0.0 c.requires.0.2 p.rest c.meet.auto.work
+    (met_below_mark _ _ _ _ _ _ _ _ c.requires.0.0 p c.meet.auto.work _
+    c.requires.0.2.apart.0 _ _ _ _ mark) _ c.region_word-mark.ensures.at_place c.if-operand-mark.true in
+    record { inside = it.0; can_rise = it.1 }
 
 pub returns-then-operand-mark : goal.returns-then-operand-mark
-returns-then-operand-mark c =
+returns-then-operand-mark g c =
     let p = c.in_ok-vertex.ensures in
-    let mark = mark_of _ c.args.operand.item.number _ _ _ _ c.mark_index-index.ensures c.requires.state_lt_marks in
-    λ w₀ c₀ ks same g.
-    once_old _ _ _ _ _ _ _ _ _ c.requires.ready.0 p c.meet.auto.work _
-    c.requires.ready.2.apart _ _ mark w₀ c₀ ks g _ _
-    c.mark_word-mark.ensures (omega (arith, same, c.if-operand-mark.true)) c.raise_count.ensures
+    let mark = mark_of _ c.args.operand.item.number _ _ _ _ c.mark_index-index.ensures c.requires.1 in
+    λ w₀ c₀ ks same k.
+    once_old _ _ _ _ _ _ _ _ c.requires.0.0 p c.meet.auto.work _ _
+    c.requires.0.2.apart _ _ mark w₀ c₀ ks k _ _
+    c.region_word-mark.ensures.at_place (omega (arith, same, c.if-operand-mark.true)) c.raise_count.ensures
 
 pub returns-then-edges-room : goal.returns-then-edges-room
-returns-then-edges-room c =
+returns-then-edges-room g c =
     let p = c.in_ok-vertex.ensures in
-    let mark = mark_of _ c.args.operand.item.number _ _ _ _ c.mark_index-index.ensures c.requires.state_lt_marks in
-    λ w₀ c₀ ks same g.
-    once_many _ _ _ _ _ _ _ _ _ c.requires.ready.0 p c.meet.auto.work _
-    c.requires.ready.2.apart _ _ mark w₀ c₀ ks g
-    (omega (arith, same, c.mark_word-mark.ensures, c.if-operand-mark.false)) (omega (arith, c.if-edges-room.true))
+    let mark = mark_of _ c.args.operand.item.number _ _ _ _ c.mark_index-index.ensures c.requires.1 in
+    λ w₀ c₀ ks same k.
+    once_many _ _ _ _ _ _ _ _ c.requires.0.0 p c.meet.auto.work _ _
+    c.requires.0.2.apart _ _ mark w₀ c₀ ks k
+    (omega (arith, same, c.region_word-mark.ensures.at_place, c.if-operand-mark.false)) (omega (arith, c.if-edges-room.true))
 
-pub put_mark-requires : goal.put_mark-requires
-put_mark-requires c =
+pub put_word-requires : goal.put_word-requires
+put_word-requires g c =
     let p = c.in_ok-vertex.ensures in
-    let mark = mark_of _ c.args.operand.item.number _ _ _ _ c.mark_index-index.ensures c.requires.state_lt_marks in
-    mark_inside _ _ _ _ _ _ _ c.requires.ready.0 c.requires.ready.2 p.rest c.meet.auto.work
-    (met_below_mark _ _ _ _ _ _ _ _ _ c.requires.ready.0 p c.meet.auto.work _
-    c.requires.ready.2.apart.0 _ _ _ _ mark)
+    let mark = mark_of _ c.args.operand.item.number _ _ _ _ c.mark_index-index.ensures c.requires.1 in
+    mark_inside _ _ _ _ _ _ _ _ c.requires.0.0 c.requires.0.2 p.rest c.meet.auto.work
+    (met_below_mark _ _ _ _ _ _ _ _ c.requires.0.0 p c.meet.auto.work _
+    c.requires.0.2.apart.0 _ _ _ _ mark)
 
 pub returns : goal.returns
-returns c =
+returns g c =
     let p = c.in_ok-vertex.ensures in
-    let mark = mark_of _ c.args.operand.item.number _ _ _ _ c.mark_index-index.ensures c.requires.state_lt_marks in
-    λ w₀ c₀ ks same g.
-    once_new _ _ _ _ _ _ _ _ _ c.requires.ready.0 p c.meet.auto.work _
-    c.requires.ready.2.apart _ _ mark w₀ c₀ ks g _ _
-    (omega (arith, same, c.mark_word-mark.ensures, c.if-operand-mark.false))
-    (omega (arith, c.requires.ready.0.buffer, c.if-edges-room.false)) c.put_mark.ensures c.put_edge.ensures
+    let mark = mark_of _ c.args.operand.item.number _ _ _ _ c.mark_index-index.ensures c.requires.1 in
+    λ w₀ c₀ ks same k.
+    once_new _ _ _ _ _ _ _ _ c.requires.0.0 p c.meet.auto.work _ _
+    c.requires.0.2.apart _ _ mark w₀ c₀ ks k _ _
+    (omega (arith, same, c.region_word-mark.ensures.at_place, c.if-operand-mark.false))
+    (omega (arith, c.requires.0.0.buffer, c.if-edges-room.false)) c.put_word.ensures c.put_edge.ensures

@@ -11,6 +11,6 @@ returns-in_err-met c =
 pub returns : goal.returns
 returns c =
     let p = c.in_ok-met.ensures in
-    edge_made _ _ _ _ _ _ c.args.counters _ _ _ _ 0 c.requires.0 p
+    edge_made _ _ _ _ _ _ c.args.counters _ _ 0 _ c.requires.0 p
     (omega (arith, c.requires.0.buffer, c.if-edges-room.false)) c.meet.auto.work (λ a h. refl) refl refl
     (λ m. marks_rise _ _ _ _ (omega arith) (marks_rest _ _ _ _ p.rest m)) c.put_edge.ensures

@@ -8,10 +8,9 @@ overflow_add-work c =
     let e = c.args.room.edges in
     omega (
       arith,
-      c.requires.place_bound,
-      count_word v e c.args.place c.args.work.now
-          c.requires.vertices_le_most_vertices.2,
+      c.requires.can_rise,
+      count_word v e c.args.place c.edge_word.result c.args.work.now c.requires.inside.2 c.edge_word.ensures,
     )
 
 pub returns : goal.returns
-returns c = count_stored _ _ _ _ c.requires.vertices_le_most_vertices.2
+returns c = count_stored _ _ _ _ _ c.requires.inside.2 c.edge_word.ensures

@@ -4,6 +4,8 @@ use mathlib.Core.Path.{sym, ◌∙◌}
 use Prim.Native.Nat.{◌/◌}
 use native.Mathlib.Omega.{arith}
 use borrow.Author.Tests.{eqb-true, eqb-false}
+use Rattle.lent_input.specs.Inputs.{input_in}
+use Rattle.modalities.proofs.Matches.{model_keys, model_counts}
 use Rattle.node_kinds.specs.Codes.{formula_code}
 use Rattle.stepping.proofs.ByKind.{item_small, kind_operands, kind_counts, operands_fit}
 use Rattle.stepping.proofs.ByKind.{modality_inside, modality_targets, modality-counts}
@@ -21,8 +23,8 @@ pub settle_modality-requires : goal.settle_modality-requires
 settle_modality-requires c =
     let modal = eqb-true (formula_code c.kind_of-kind.result / 2) 2 (sym c.is_modality.ensures ∙ c.if-is_modality.true) in (
       c.requires.unmarked,
-      modality_inside _ _ _ c.args.tables.now.made _ _ c.requires.inside _ c.kind_of-kind.ensures _
-          c.modality_of-modality.ensures modal,
+      rw (c.model.ensures.words.1, c.model.ensures.words.2) (modality_inside _ _ _ c.args.tables.now.made _ _
+          c.requires.inside _ c.kind_of-kind.ensures _ c.modality_of-modality.ensures modal),
     )
 
 pub returns-then-is_modality : goal.returns-then-is_modality
@@ -34,7 +36,14 @@ returns-then-is_modality c =
     let of = c.modality_of-modality.ensures in
     let keys = modality_targets _ _ _ t _ _ c.requires.inside _ kind modality of modal in
     let counts = modality-counts _ _ _ t _ _ c.requires.inside _ kind modality of modal in
-    rw (keys, counts) c.settle_modality.ensures
+    let words = c.model.ensures.words in
+    let x = input_in c.args.tables.now.input in
+    rw (
+      keys,
+      counts,
+      ← model_keys c.model.result x words.0 words.1 words.2 modality,
+      ← model_counts c.model.result x words.0 words.1 words.2 modality,
+    ) c.settle_modality.ensures
 
 pub settle_at_state-requires : goal.settle_at_state-requires
 settle_at_state-requires c =

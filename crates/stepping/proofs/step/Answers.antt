@@ -15,7 +15,7 @@ pop-popped-requires c =
     let g = c.requires in
     record {
       ready = g.ready;
-      waiting_nonzero = (
+      one_waits = (
         omega (arith, c.if-counters-eq0.false),
         top_below _ _ _ _ _ _ _ g
             c.if-counters-eq0.false _ refl,

@@ -1,8 +1,11 @@
--- `step_in_place` meets its contract: it is a step, where a vertex waits. Assumes nothing.
-use mathlib.Core.Logic.{inl}
-use Rattle.stepping.proofs.Steps.{step-none}
+-- `step_in_place` meets its contract: it is a step, or one that would be too much. Assumes nothing.
+use mathlib.Core.Path.{refl}
+use Rattle.stepping.proofs.Walking.{still_none, tried_failed}
 use Rattle.stepping.proofs.step_in_place.Goals as goal
 
-pub returns-then-counters-eq0 : goal.returns-then-counters-eq0
-returns-then-counters-eq0 c =
-    inl (c.if-counters-eq0.true, step-none _ _ _ _ _ _ _ c.requires c.if-counters-eq0.true)
+pub returns-in_err-next : goal.returns-in_err-next
+returns-in_err-next c =
+    tried_failed _ _ _ _ _ _ _ _ _ _ c.from_residual.ensures.0 c.requires refl c.in_err-next.ensures
+
+pub returns : goal.returns
+returns c = (c.in_ok-next.ensures, still_none _ _ _ _ _ _ _ _ _ c.in_ok-next.ensures)

@@ -1,7 +1,6 @@
 -- `explore` meets its contract: the steps go on from where the walk begins. Assumes nothing.
 use native.Mathlib.Omega.{arith}
-use Rattle.stepping.proofs.Walking.{exceeding_later}
-use Rattle.translate.proofs.Outcomes.{walk_failed}
+use Rattle.stepping.proofs.Walking.{exceeding_later, walk_failed}
 use Rattle.translate.proofs.explore.Goals as goal
 
 pub returns-in_err-begun : goal.returns-in_err-begun

@@ -3,12 +3,12 @@ use Rattle.compiled.specs.Tables.{kinds_in, priorities_in}
 use Rattle.game_writer.proofs.Whole.{owner_shown, priority_shown}
 use Rattle.game_writer.proofs.Walked.column_word.Goals as goal
 
-pub returns-then-column-eq0 : goal.returns-then-column-eq0
-returns-then-column-eq0 c =
+pub returns-then-column-eq-OWNER : goal.returns-then-column-eq-OWNER
+returns-then-column-eq-OWNER c =
     owner_shown (kinds_in c.args.self.now.compiled.now) (priorities_in c.args.self.now.compiled.now) _ _ _
-    c.args.column c.args.vertex.0 _ c.if-column-eq0.true c.owner_word.ensures
+    c.args.column c.args.vertex.0 _ c.if-column-eq-OWNER.true c.owner_word.ensures
 
 pub returns : goal.returns
 returns c =
     priority_shown (kinds_in c.args.self.now.compiled.now) (priorities_in c.args.self.now.compiled.now) _ _ _
-    c.args.column c.args.vertex.0 _ c.requires.0 c.if-column-eq0.false c.shown_priority-shown.ensures
+    c.args.column c.args.vertex.0 _ c.requires.0 c.if-column-eq-OWNER.false c.shown_priority-shown.ensures

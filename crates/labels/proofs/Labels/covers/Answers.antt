@@ -1,22 +1,18 @@
-use Rattle.labels.proofs.Stretched.{covered_none, covered_more, covered_not}
-use native.Mathlib.Omega.{arith}
+use mathlib.Core.Path.{◌≡◌, refl}
+use mathlib.Core.Bool.{true, false}
+use borrow.Author.Rules.{rules}
+use borrow.Author.Tests.{tests}
+use Prim.Native.Nat.{ℕ}
+use Rattle.std.proofs.lemmas.Iterator.{cases_from_all, YieldsList-from_range}
+use Rattle.labels.proofs.Stretched.{EqualAt, covered_searched}
 use Rattle.labels.proofs.Labels.covers.Goals as goal
 
-pub loop-place-init : goal.loop-place-init
-loop-place-init c =
-    let x = c.args in
-    covered_none x.self.words.now x.own.from x.own.to x.other.from x.other.to x.own.from
-
-pub returns-then-here-there : goal.returns-then-here-there
-returns-then-here-there c =
-    let x = c.args in
-    covered_not x.self.words.now x.own.from x.own.to x.other.from x.other.to x.own.from c.loop-place.place _ _ _
-    (omega arith) c.action_at-action.ensures c.times_in-here.ensures c.times_in-there.ensures x.own.to
-    c.loop-place-test.true c.if-here-there.true
-
-pub loop-place-preserved : goal.loop-place-preserved
-loop-place-preserved c =
-    let x = c.args in
-    covered_more x.self.words.now x.own.from x.own.to x.other.from x.other.to x.own.from c.loop-place.place _ _ _
-    (omega arith) c.action_at-action.ensures c.times_in-here.ensures c.times_in-there.ensures c.loop-place.invariant
-    c.if-here-there.false
+pub returns : goal.returns
+returns c =
+    let ls = c.args.self.words.now in
+    let own = c.args.own in
+    let other = c.args.other in
+    covered_searched ls own.from own.to own.from own.to other.from other.to c.all.result
+    (cases_from_all _ _ c.all.result (λ (i : ℕ). EqualAt ls own.from own.to other.from other.to i ≡ true)
+    (λ (i : ℕ). EqualAt ls own.from own.to other.from other.to i ≡ false) c.all.ensures.ran
+    (YieldsList-from_range own.from own.to _ refl refl) (λ i q k. search (rules, tests)) (λ i q k. search (rules, tests)))

@@ -10,7 +10,7 @@ use Rattle.modal_equation_system.proofs.EquationTable.list_equations.Goals as go
 pub loop-node-init : goal.loop-node-init
 loop-node-init c =
     listing_first c.args.formula.now c.from-number.result c.args.self.now c.is_fixpoint_at.result c.from-number.ensures
-    c.is_fixpoint_at.ensures (search rules) (search rules)
+    c.is_fixpoint_at.ensures (search rules)
 
 pub returns-clause-value : goal.returns-clause-value
 returns-clause-value c =

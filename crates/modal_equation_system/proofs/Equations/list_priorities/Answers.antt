@@ -9,9 +9,9 @@ use Rattle.modal_equation_system.proofs.Equations.list_priorities.Goals as goal
 
 pub returns : goal.returns
 returns c =
-    let x = c.args.self.now in
+    let f = c.args.self.now.formula.now in
+    let ws = c.args.priorities.now in
     let l = c.loop-equation in
-    let e : l.equation ≡ x.count = omega (arith, length-take x.count c.args.priorities.now) in
-    ranked_lent by_depth x.formula.now x.count c.args.priorities.now l.priority-items c.requires
-    (subst (λ (n : ℕ). RankedBy by_depth x.formula.now n (take x.count c.args.priorities.now) l.priority-items) e
-    l.invariant)
+    let e : l.equation ≡ c.args.count = omega (arith, length-take c.args.count ws) in
+    ranked_lent by_depth f c.args.count ws l.priority-items c.requires.room
+    (subst (λ (n : ℕ). RankedBy by_depth f n (take c.args.count ws) l.priority-items) e l.invariant)

@@ -1,7 +1,0 @@
--- A word is written for each vertex below `vertex`.
-use Rattle.game_writer.specs.Walks.{word_in}
-use Rattle.game_writer.proofs.Rows.{Row}
-use Rattle.game_writer.proofs.Walked.write_column.Given as goal
-
-abbrev pub invariant-loop-vertex : goal.invariant-loop-vertex
-invariant-loop-vertex l = Row (word_in l.self l.column) l.self.known l.vertex l.start l.game l.initial.game

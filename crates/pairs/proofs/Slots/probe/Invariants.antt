@@ -1,0 +1,6 @@
+use Rattle.pairs.specs.Table.{slots_of}
+use Rattle.pairs.specs.Answers.{Others}
+use Rattle.pairs.proofs.Slots.probe.Given as goal
+
+abbrev pub invariant-loop-slot : goal.invariant-loop-slot
+invariant-loop-slot l = Others (slots_of l.self.work.now l.self.vertices) l.from l.slot l.key

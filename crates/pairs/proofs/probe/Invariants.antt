@@ -1,6 +1,0 @@
-use Rattle.pairs.specs.Table.{slots_of}
-use Rattle.pairs.specs.Answers.{Others}
-use Rattle.pairs.proofs.probe.Given as goal
-
-abbrev pub invariant-loop-slot : goal.invariant-loop-slot
-invariant-loop-slot l = Others (slots_of l.work l.vertices) l.from l.slot l.key

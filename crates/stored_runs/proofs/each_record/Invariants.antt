@@ -1,0 +1,5 @@
+use denote.Param.Always.{always_mut}
+use Rattle.stored_runs.proofs.each_record.Given as goal
+
+abbrev pub invariant-loop-number : goal.invariant-loop-number
+invariant-loop-number g l = always_mut g.F.FnMut l.initial.run → always_mut g.F.FnMut l.run
