@@ -1,7 +1,7 @@
 /* Hingrezh: parity games from a labelled transition system and a modal formula, by a proved library.
  *
  * Link with libhingrezh.a, which `make host` makes; `make install` puts it beside a pkg-config file. The
- * archive has no variables, and of the C library it needs memset (a later one may need memcpy, memmove or memcmp too).
+ * archive has no variables, and of the C library it needs memcpy, memmove and memset (a later one may need memcmp too).
  *
  * How a game is won: the largest priority that is seen for ever decides; if it is even, Even wins. If Even wins vertex
  * 0 of a finished game, with reasons that check out, the formula holds in the initial state: proved. If Odd wins, the
@@ -125,8 +125,8 @@
  *
  * hingrezh_refusal_text gives the middle column for a number.
  *
- * Stack: the deepest inputs (1,023 nested negations in an action formula) have run in 184 KB as a whole process, the
- * calls on PGSolver text in 156 KB, whatever the text; give the calling thread at least 256 KB.
+ * Stack: the deepest inputs (511 nested unions or conjunctions) have run in 152 KB as a whole process, the calls on
+ * PGSolver text in 156 KB, whatever the text; give the calling thread at least 256 KB.
  */
 #ifndef HINGREZH_H
 #define HINGREZH_H

@@ -14,7 +14,9 @@ use table_words::{Row, Trees};
 use words::NODES;
 
 // The operand of a node is wrong. As a name, that of a multi-action, it is a label below L.
-// Kept (no plainer): each check here asks that the labels have a first word: a struct for it would hold one slice.
+// Kept (no plainer): labels and trees are two parameters, and that the labels have a first word is a clause. In a
+// struct of the two, `check_row` would make the trees, then the struct, and `check_trees` would still be lent the row
+// beside it.
 #[tactic(auto, unfolding(rules::specs::Refusal::bad_action_operand))]
 fn bad_operand(labels: &[u32], trees: &Trees<'_, '_, ActionKind>, node: usize) -> bool
     requires { (0 < length labels.now) × (node < size trees.now.words.now) }

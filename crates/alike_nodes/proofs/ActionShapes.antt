@@ -3,6 +3,7 @@ use mathlib.Core.Path.{◌≡◌, refl, sym, ap, subst, ◌∙◌}
 use mathlib.Core.List.{List}
 use Prim.Native.Nat.{ℕ, suc, ◌+◌, ◌≤◌, ◌<◌}
 use native.Mathlib.Decide.{ℕ_discrete}
+use Rattle.std.specs.Prelude.{min}
 use native.Mathlib.Omega.{arith}
 use Rattle.rules.specs.Lists.{word}
 use Rattle.rules.specs.Labels.{label_count, multiset}
@@ -11,7 +12,10 @@ use Rattle.rules.specs.Actions.{Action, action_tree}
 use Rattle.tables.specs.Good.{GoodActions}
 use Rattle.labels.specs.Classes.{Classes}
 use Rattle.trees.proofs.ActionTrees.{any_tree, never_tree, multi_tree, union_tree, intersection_tree, negation_tree}
-use Rattle.alike_nodes.specs.Nodes.{Last, Numbered, ActionShown}
+use Rattle.node_kinds.specs.declared.ActionKind.{ActionKind}
+use Rattle.node_kinds.specs.Codes.{action_code}
+use Rattle.alike_nodes.specs.declared.ActionNodes.{ActionNodes}
+use Rattle.alike_nodes.specs.Nodes.{Last, Numbered, ActionShown, ActionShows}
 
 module _ (ls acts : List ℕ) (good : GoodActions (label_count ls) acts) (v : ℕ) (h : v < size acts) where
   abbrev Shows : (k l r : ℕ) → Type 0
@@ -63,3 +67,28 @@ module _ (ls acts : List ℕ) (good : GoodActions (label_count ls) acts) (v : �
         go (no d) =
             let z : k ≡ 4 = omega arith in
             to _ k (word numbers (v + 1)) (word numbers o) (intersection_tree (label_count ls) acts good ls v h (sym e ∙ z)) (z, next k e p, right k o e p q i)
+
+-- ---- the same, as the code finds them
+
+module _ (n : ActionNodes) (v : ℕ) (h : v < size n.actions.now) where
+  abbrev Shown : ActionKind → (l r : ℕ) → Type 0
+  Shown k l r = ActionShows n.labels.now n.actions.now (action_tree n.labels.now n.actions.now v) (record { kind = k; left = l; right = r })
+
+  -- the kind that the code reads is the node's
+  kind_read : (k : ActionKind) → action_code k ≡ min (kind n.actions.now v) 5 → action_code k ≡ kind n.actions.now v
+  kind_read k e = omega (arith, (n.good.nodes v h).known)
+
+  pub read_leaf : (k : ActionKind) → action_code k ≡ min (kind n.actions.now v) 5 → action_code k ≤ 1 → Shown k 0 0
+  read_leaf k e = shape_leaf n.labels.now n.actions.now n.good v h (action_code k) (kind_read k e)
+
+  pub read_multi : (k : ActionKind) (o : ℕ) → action_code k ≡ min (kind n.actions.now v) 5 → action_code k ≡ 2 → o ≡ operand n.actions.now v
+      → Shown k (word n.classes.now o) 0
+  read_multi k o e = shape_multi n.labels.now n.actions.now n.good v h n.classes.now n.known (action_code k) o (kind_read k e)
+
+  module _ (numbers : List ℕ) (known : Numbered (action_tree n.labels.now n.actions.now) (size n.actions.now) (v + 1) numbers) where
+    pub read_one : (k : ActionKind) → action_code k ≡ min (kind n.actions.now v) 5 → action_code k ≡ 5 → Shown k (word numbers (v + 1)) 0
+    read_one k e = shape_one n.labels.now n.actions.now n.good v h numbers known (action_code k) (kind_read k e)
+
+    pub read_two : (k : ActionKind) (o : ℕ) → action_code k ≡ min (kind n.actions.now v) 5 → 3 ≤ action_code k → action_code k ≤ 4
+        → o ≡ operand n.actions.now v → Shown k (word numbers (v + 1)) (word numbers o)
+    read_two k o e = shape_two n.labels.now n.actions.now n.good v h numbers known (action_code k) o (kind_read k e)

@@ -3,6 +3,7 @@ use mathlib.Core.Path.{◌≡◌, refl, sym, ap, subst, ◌∙◌}
 use mathlib.Core.List.{List}
 use Prim.Native.Nat.{ℕ, suc, ◌+◌, ◌≤◌, ◌<◌}
 use native.Mathlib.Decide.{ℕ_discrete}
+use Rattle.std.specs.Prelude.{min}
 use native.Mathlib.Omega.{arith}
 use Rattle.rules.specs.Lists.{word}
 use Rattle.rules.specs.Words.{Input}
@@ -13,8 +14,12 @@ use Rattle.tables.specs.Good.{GoodInput}
 use Rattle.trees.proofs.Fixpoints.{fixpoint_kind}
 use Rattle.trees.proofs.FormulaTrees.{truth_tree, falsity_tree, conjunction_tree, disjunction_tree, box_tree, diamond_tree, fixpoint_tree, reference_tree}
 use Rattle.lent_input.specs.Inputs.{input_in}
+use Rattle.node_kinds.specs.declared.FormulaKind.{FormulaKind}
+use Rattle.node_kinds.specs.declared.FormulaKind.TheVariants.{Reference}
+use Rattle.node_kinds.specs.Codes.{formula_code}
+use Rattle.node_kinds.specs.declared.Shape.{Shape}
 use Rattle.alike_nodes.specs.declared.FormulaNodes.{FormulaNodes}
-use Rattle.alike_nodes.specs.Nodes.{Last, Numbered, Later, ActionNumbers, EquationNumbers, FormulaShown, NodeShown}
+use Rattle.alike_nodes.specs.Nodes.{Last, Numbered, Later, EquationNumbers, FormulaShown, NodeShown}
 
 module _ (x : Input) (good : GoodInput x) (numbers : List ℕ) (v : ℕ) (h : v < size x.formula) where
   abbrev OfAction : Action → ℕ → Type 0
@@ -111,24 +116,37 @@ module _ (x : Input) (good : GoodInput x) (numbers : List ℕ) (v : ℕ) (h : v 
 -- ---- the same, as the code finds them
 
 module _ (n : FormulaNodes) (numbers : List ℕ) (v : ℕ) (h : v < size n.input.formula.now) where
-  abbrev InBody : (k l r : ℕ) → Type 0
+  abbrev InBody : FormulaKind → (l r : ℕ) → Type 0
   InBody k l r = NodeShown (input_in n.input) numbers v (record { kind = k; left = l; right = r })
 
-  pub body_leaf : (k : ℕ) → k ≡ kind n.input.formula.now v → k ≤ 1 → InBody k 0 0
-  body_leaf = shape_leaf (input_in n.input) n.input.good numbers v h
+  -- the kind that the code reads is the node's
+  kind_read : (k : FormulaKind) → formula_code k ≡ min (kind n.input.formula.now v) 8 → formula_code k ≡ kind n.input.formula.now v
+  kind_read k e = omega (arith, (n.input.good.formula.nodes v h).known)
 
-  pub body_two : (k o : ℕ) → k ≡ kind n.input.formula.now v → 2 ≤ k → k ≤ 3 → o ≡ operand n.input.formula.now v
-      → InBody k (word numbers (v + 1)) (word numbers o)
-  body_two = shape_two (input_in n.input) n.input.good numbers v h
+  -- what is shown as a reference
+  shown_as : (r : FormulaKind) (l : ℕ) → formula_code r ≡ 8 → Shows (input_in n.input) n.input.good numbers v h 8 l 0 → InBody r l 0
+  shown_as r l z s = rw z s
 
-  pub body_modal : ActionNumbers (input_in n.input) n.acts.now → (k o : ℕ) → k ≡ kind n.input.formula.now v → 4 ≤ k → k ≤ 5
+  pub body_leaf : (k : FormulaKind) → formula_code k ≡ min (kind n.input.formula.now v) 8 → formula_code k ≤ 1 → InBody k 0 0
+  body_leaf k e = shape_leaf (input_in n.input) n.input.good numbers v h (formula_code k) (kind_read k e)
+
+  pub body_two : (k : FormulaKind) (o : ℕ) → formula_code k ≡ min (kind n.input.formula.now v) 8 → 2 ≤ formula_code k → formula_code k ≤ 3
+      → o ≡ operand n.input.formula.now v → InBody k (word numbers (v + 1)) (word numbers o)
+  body_two k o e = shape_two (input_in n.input) n.input.good numbers v h (formula_code k) o (kind_read k e)
+
+  pub body_modal : (k : FormulaKind) (o : ℕ) → formula_code k ≡ min (kind n.input.formula.now v) 8 → 4 ≤ formula_code k → formula_code k ≤ 5
       → o ≡ operand n.input.formula.now v → InBody k (word numbers (v + 1)) (word n.acts.now o)
-  body_modal known = shape_modal (input_in n.input) n.input.good numbers v h n.acts.now known
+  body_modal k o e = shape_modal (input_in n.input) n.input.good numbers v h n.acts.now n.action_numbers (formula_code k) o (kind_read k e)
 
-  pub body_fixpoint : EquationNumbers n.input.formula.now n.equations.now → (k : ℕ) → k ≡ kind n.input.formula.now v → 6 ≤ k → k ≤ 7
-      → InBody 8 (word n.equations.now v) 0
-  body_fixpoint listed = shape_fixpoint (input_in n.input) n.input.good numbers v h n.equations.now listed
+  pub body_fixpoint : (k : FormulaKind) (s : Shape FormulaKind) → formula_code k ≡ min (kind n.input.formula.now v) 8 → 6 ≤ formula_code k → formula_code k ≤ 7
+      → s ≡ record { kind = Reference; left = word n.equations.now v; right = 0 } → NodeShown (input_in n.input) numbers v s
+  body_fixpoint k s e p q z =
+      subst (NodeShown (input_in n.input) numbers v) (sym z)
+      (shape_fixpoint (input_in n.input) n.input.good numbers v h n.equations.now n.equation_numbers (formula_code k) (kind_read k e) p q)
 
-  pub body_reference : EquationNumbers n.input.formula.now n.equations.now → (k o : ℕ) → k ≡ kind n.input.formula.now v → 7 < k
-      → o ≡ operand n.input.formula.now v → InBody 8 (word n.equations.now o) 0
-  body_reference listed = shape_reference (input_in n.input) n.input.good numbers v h n.equations.now listed
+  pub body_reference : (k : FormulaKind) (o : ℕ) → formula_code k ≡ min (kind n.input.formula.now v) 8 → formula_code k ≡ 8
+      → o ≡ operand n.input.formula.now v → InBody k (word n.equations.now o) 0
+  body_reference k o e z i =
+      shown_as k (word n.equations.now o) z
+      (shape_reference (input_in n.input) n.input.good numbers v h n.equations.now n.equation_numbers (formula_code k) o (kind_read k e)
+      (omega arith) i)

@@ -8,7 +8,12 @@ use Rattle.rules.specs.Actions.{Action, action_tree, any_action, never_action, m
 use Rattle.rules.specs.Formula.{Formula, formula_tree, truth, falsity, conjunction, disjunction, box, diamond, reference}
 use Rattle.rules.specs.Words.{Input}
 use Rattle.rules.specs.Table.{size}
-use Rattle.alike_nodes.specs.declared.Shape.{Shape}
+use Rattle.node_kinds.specs.declared.ActionKind.{ActionKind}
+use Rattle.node_kinds.specs.declared.ActionKind.TheVariants as action
+use Rattle.node_kinds.specs.declared.FormulaKind.{FormulaKind}
+use Rattle.node_kinds.specs.declared.FormulaKind.TheVariants as formula
+use Rattle.node_kinds.specs.Codes.{action_code, formula_code}
+use Rattle.node_kinds.specs.declared.Shape.{Shape}
 use Rattle.alike_nodes.specs.Nodes.{Last, ActionShown, FormulaShown, ActionShows, FormulaShows}
 
 -- a tree has one last node
@@ -75,30 +80,68 @@ module _ (tree : ℕ → Formula) (n : ℕ) (actions : ℕ → Action) (m : ℕ)
   pub formula_shown_one : (f g : Formula) (k l r : ℕ) → FormulaShown (Last tree n) (Last actions m) f k l r → FormulaShown (Last tree n) (Last actions m) g k l r → f ≡ g
   formula_shown_one f g k l r s t = sym (formula_read f k l r s) ∙ formula_read g k l r t
 
+-- ---- the kinds by their words
+
+module _ {K : Type 0} (code : K → ℕ) (of : ℕ → K) (back : (k : K) → of (code k) ≡ k) where
+  code-one : (a b : K) → code a ≡ code b → a ≡ b
+  code-one a b e = sym (back a) ∙ ap of e ∙ back b
+
+action_of : ℕ → ActionKind
+action_of n = get_or (action.True ∷ action.False ∷ action.MultiAction ∷ action.Union ∷ action.Intersection ∷ action.Negation ∷ []) n action.True
+
+action-back : (k : ActionKind) → action_of (action_code k) ≡ k
+unfolding action_of
+action-back action.True = refl
+action-back action.False = refl
+action-back action.MultiAction = refl
+action-back action.Union = refl
+action-back action.Intersection = refl
+action-back action.Negation = refl
+
+formula_of : ℕ → FormulaKind
+formula_of n =
+    get_or
+    (formula.True ∷ formula.False ∷ formula.And ∷ formula.Or ∷ formula.Box ∷ formula.Diamond ∷ formula.Least ∷ formula.Greatest ∷ formula.Reference ∷ [])
+    n
+    formula.True
+
+formula-back : (k : FormulaKind) → formula_of (formula_code k) ≡ k
+unfolding formula_of
+formula-back formula.True = refl
+formula-back formula.False = refl
+formula-back formula.And = refl
+formula-back formula.Or = refl
+formula-back formula.Box = refl
+formula-back formula.Diamond = refl
+formula-back formula.Least = refl
+formula-back formula.Greatest = refl
+formula-back formula.Reference = refl
+
 -- ---- the same of shapes
 
-shape_equal : (a b : Shape) → (a.kind ≡ b.kind) × (a.left ≡ b.left) × (a.right ≡ b.right) → a ≡ b
-shape_equal a b (p, q, r) =
-    ap (λ (k : ℕ). shape k a.left a.right) p ∙ ap (λ (l : ℕ). shape b.kind l a.right) q ∙ ap (λ (m : ℕ). shape b.kind b.left m) r
+pub shape_equal : {K : Type 0} (a b : Shape K) → a.kind ≡ b.kind → a.left ≡ b.left → a.right ≡ b.right → a ≡ b
+shape_equal {K} a b p q r =
+    ap (λ (k : K). shape k a.left a.right) p ∙ ap (λ (l : ℕ). shape b.kind l a.right) q ∙ ap (λ (m : ℕ). shape b.kind b.left m) r
   where
-    shape : (k l r : ℕ) → Shape
+    shape : K → (l r : ℕ) → Shape K
     shape k l r = record { kind = k; left = l; right = r }
 
-pub action_one_shape : (ls acts : List ℕ) (t : Action) (a b : Shape) → ActionShows ls acts t a → ActionShows ls acts t b → a ≡ b
+pub action_one_shape : (ls acts : List ℕ) (t : Action) (a b : Shape ActionKind) → ActionShows ls acts t a → ActionShows ls acts t b → a ≡ b
 action_one_shape ls acts t a b p q =
-    shape_equal a b (action-words (action_tree ls acts) (size acts) t a.kind a.left a.right b.kind b.left b.right p q)
+    let (k, l, r) = action-words (action_tree ls acts) (size acts) t (action_code a.kind) a.left a.right (action_code b.kind) b.left b.right p q in
+    shape_equal a b (code-one action_code action_of action-back a.kind b.kind k) l r
 
-pub action_one_tree : (ls acts : List ℕ) (s t : Action) (a : Shape) → ActionShows ls acts s a → ActionShows ls acts t a → s ≡ t
+pub action_one_tree : (ls acts : List ℕ) (s t : Action) (a : Shape ActionKind) → ActionShows ls acts s a → ActionShows ls acts t a → s ≡ t
 action_one_tree ls acts s t a p q =
-    action_shown_one (action_tree ls acts) (size acts) s t a.kind a.left a.right p q
+    action_shown_one (action_tree ls acts) (size acts) s t (action_code a.kind) a.left a.right p q
 
-pub formula_one_shape : (x : Input) (t : Formula) (a b : Shape) → FormulaShows x t a → FormulaShows x t b → a ≡ b
+pub formula_one_shape : (x : Input) (t : Formula) (a b : Shape FormulaKind) → FormulaShows x t a → FormulaShows x t b → a ≡ b
 formula_one_shape x t a b p q =
-    shape_equal a b
-    (formula-words (formula_tree x) (size x.formula) (action_tree x.labels x.actions) (size x.actions) t
-    a.kind a.left a.right b.kind b.left b.right p q)
+    let (k, l, r) = formula-words (formula_tree x) (size x.formula) (action_tree x.labels x.actions) (size x.actions) t
+    (formula_code a.kind) a.left a.right (formula_code b.kind) b.left b.right p q in
+    shape_equal a b (code-one formula_code formula_of formula-back a.kind b.kind k) l r
 
-pub formula_one_tree : (x : Input) (s t : Formula) (a : Shape) → FormulaShows x s a → FormulaShows x t a → s ≡ t
+pub formula_one_tree : (x : Input) (s t : Formula) (a : Shape FormulaKind) → FormulaShows x s a → FormulaShows x t a → s ≡ t
 formula_one_tree x s t a p q =
     formula_shown_one (formula_tree x) (size x.formula) (action_tree x.labels x.actions) (size x.actions) s t
-    a.kind a.left a.right p q
+    (formula_code a.kind) a.left a.right p q

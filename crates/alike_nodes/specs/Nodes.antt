@@ -1,14 +1,18 @@
 -- Nodes with equal trees have one number: the last node that has the tree. A node is shown by three words, its kind
 -- and the numbers of its operands, so that two nodes have equal trees exactly if their words are equal. Assumes
 -- nothing: these are definitions.
-use Rattle.std.specs.Prelude.{◌≡◌, ◌⊎◌, List, ℕ, ◌+◌, ◌≤◌, ◌<◌, length, get_or}
+use Rattle.std.specs.Prelude.{◌≡◌, ◌⊎◌, List, ℕ, ◌+◌, ◌≤◌, ◌<◌, length}
+use Rattle.std.specs.List.{HoldsAt, AllWithin}
 use Rattle.rules.specs.Lists.{word}
 use Rattle.rules.specs.Words.{Input}
 use Rattle.rules.specs.Table.{size, kind}
 use Rattle.rules.specs.Actions.{Action, action_tree, any_action, never_action, multi_action, union, intersection, negation}
 use Rattle.rules.specs.Formula.{Formula, truth, falsity, conjunction, disjunction, box, diamond, reference}
 use Rattle.rules.specs.Formula.{equation_number, formula_tree}
-use Rattle.alike_nodes.specs.declared.Shape.{Shape}
+use Rattle.node_kinds.specs.declared.ActionKind.{ActionKind}
+use Rattle.node_kinds.specs.declared.FormulaKind.{FormulaKind}
+use Rattle.node_kinds.specs.Codes.{action_code, formula_code}
+use Rattle.node_kinds.specs.declared.Shape.{Shape}
 
 -- ---- numbers of nodes
 
@@ -65,30 +69,27 @@ FormulaShown Number OfAction (diamond a f) k l r = (k ≡ 5) × Number f l × Of
 FormulaShown Number OfAction (reference i) k l r = (k ≡ 8) × (l ≡ i) × (r ≡ 0)
 
 -- the shapes that show a tree, by the numbers of the nodes
-abbrev pub ActionShows : (ls acts : List ℕ) → Action → Shape → Type 0
-ActionShows ls acts t s = ActionShown (Last (action_tree ls acts) (size acts)) t s.kind s.left s.right
+abbrev pub ActionShows : (ls acts : List ℕ) → Action → Shape ActionKind → Type 0
+ActionShows ls acts t s = ActionShown (Last (action_tree ls acts) (size acts)) t (action_code s.kind) s.left s.right
 
-abbrev pub FormulaShows : Input → Formula → Shape → Type 0
+abbrev pub FormulaShows : Input → Formula → Shape FormulaKind → Type 0
 FormulaShows x t s =
     FormulaShown (Last (formula_tree x) (size x.formula)) (Last (action_tree x.labels x.actions) (size x.actions)) t
-    s.kind s.left s.right
+    (formula_code s.kind) s.left s.right
 
 -- the shape of a node of the formula, by the numbers of the nodes past it
-abbrev pub NodeShown : Input → (numbers : List ℕ) (v : ℕ) → Shape → Type 0
+abbrev pub NodeShown : Input → (numbers : List ℕ) (v : ℕ) → Shape FormulaKind → Type 0
 NodeShown x numbers v s =
     FormulaShown (Later (formula_tree x) (size x.formula) v numbers)
     (Last (action_tree x.labels x.actions) (size x.actions))
-    (formula_tree x v) s.kind s.left s.right
+    (formula_tree x v) (formula_code s.kind) s.left s.right
 
 -- ---- the numbers of the nodes as they are given
 
--- the shape of a node that is not there
-abbrev pub no_shape : Shape
-no_shape = record { kind = 0; left = 0; right = 0 }
-
--- r is the number of a node of shape s, given the shapes of the later nodes: the number of one of these that has the
--- shape, or, if none has it, the node's own
-abbrev pub NumberGiven : (later : List Shape) (numbers : List ℕ) (node : ℕ) → Shape → ℕ → Type 0
+-- r is the number of a node of shape s, given the shapes of the later nodes: the number of the first of these that has
+-- the shape, or, if none has it, the node's own
+abbrev pub NumberGiven : {K : Type 0} (later : List (Shape K)) (numbers : List ℕ) (node : ℕ) → Shape K → ℕ → Type 0
 NumberGiven later numbers node s r =
-    ((k : ℕ) × (k < length later) × (get_or later k no_shape ≡ s) × (r ≡ word numbers (node + 1 + k)))
-    ⊎ (((k : ℕ) → k < length later → ¬ (get_or later k no_shape ≡ s)) × (r ≡ node))
+    ((k : ℕ) × (k < length later) × HoldsAt (λ o. o ≡ s) later k × AllWithin (λ o. ¬ (o ≡ s)) later 0 k
+    × (r ≡ word numbers (node + 1 + k)))
+    ⊎ (AllWithin (λ o. ¬ (o ≡ s)) later 0 (length later) × (r ≡ node))

@@ -13,7 +13,8 @@ pub const WORDS: usize = 32_768;
 pub const NUMBERS: usize = 32 * WORDS;
 
 // The words, 32 numbers in each; clauses see them as a list.
-#[derive(Drop)]
+// Kept (rule): there is no heap, so no set.
+#[derive(Clone, Copy)]
 pub struct Bitmap {
     words: [u32; WORDS],
 }
@@ -24,6 +25,8 @@ impl Model for Bitmap {
     ghost Value = { List ℕ };
 
     ghost view = { λ b. b.words };
+
+    ghost inverse = { λ ws. record { words = ws } };
 }
 
 // A word with a bit that it lacks.
@@ -43,6 +46,8 @@ impl Bitmap {
     }
 
     // A number is met: it is marked, and the answer is whether it was not.
+    // Kept (no plainer): that a number is below the bound is a clause of three methods: numbers come from games and
+    // texts as words, and a type for them would be made at each call and taken apart at once.
     pub fn meet(&mut self, number: usize) -> bool
         requires { number < bitmap_numbers }
         ensures { (result ≡ not (marked self.old number))

@@ -8,7 +8,7 @@ ghost use Rattle.node_kinds.specs.Codes.{formula_code};
 ghost use Rattle.compiled.specs.Tables.{kinds_in, lefts_in, rights_in, priorities_in, classes_in, samples_in};
 ghost use Rattle.compiled.specs.Tables.{multiples_in, Blank};
 
-use node_kinds::FormulaKind;
+use node_kinds::{FormulaKind, Shape};
 use player::Priority;
 
 // As many items as there may be: equations and subformulas.
@@ -24,28 +24,25 @@ const SAMPLES: usize = 4096;
 const BYTES: usize = 256;
 
 // What an item is: its kind, and its operands by their numbers.
+pub type Item = Shape<FormulaKind>;
+
+// What stands where no item is compiled yet.
+const BLANK: Item = Shape {
+    kind: FormulaKind::True,
+    left: 0,
+    right: 0,
+};
+
 #[derive(Clone, Copy)]
-pub struct Item {
-    pub kind: FormulaKind,
-    pub left: u32,
-    pub right: u32,
-}
-
-impl Item {
-    // What stands where no item is compiled yet.
-    const BLANK: Item = Item {
-        kind: FormulaKind::True,
-        left: 0,
-        right: 0,
-    };
-}
-
-#[derive(Drop)]
 pub struct Compiled {
     // The items.
+    // Kept (no plainer): how many are compiled is the answer of `compile`, which goes on to `make_match_table` alone: a
+    // field for it would need a fact that it is at most 2,048, and what writes the priorities behind the items would
+    // have to promise that it stays.
     pub items: [Item; ITEMS],
     // The priority of each item.
-    // Kept (no plainer): a column of their own, for `list_priorities` fills a slice of words.
+    // Kept (rule): a column of words of their own: `list_priorities` of crate `modal_equation_system` is public and
+    // fills words that are lent, and a slice of `Priority` would ask more of a caller.
     pub priorities: [u32; ITEMS],
     // The multiset of each label.
     pub classes: [u32; LABELS],
@@ -61,7 +58,7 @@ impl Compiled {
         ensures { Blank result }
     {
         Compiled {
-            items: [Item::BLANK; ITEMS],
+            items: [BLANK; ITEMS],
             priorities: [0; ITEMS],
             classes: [0; LABELS],
             samples: [0; SAMPLES],
@@ -69,33 +66,19 @@ impl Compiled {
         }
     }
 
-    // The kind of an item.
+    // What an item is.
     // Kept (no plainer): the item is an index here and below: a struct of the lent tables and the item would be made
     // and taken apart at each call.
-    pub fn kind_of(&self, item: u32) -> FormulaKind
+    pub fn item_at(&self, item: u32) -> Item
         requires { item < 2048 }
-        ensures { formula_code result ≡ word (kinds_in self.now) item }
+        ensures kind { formula_code result.kind ≡ word (kinds_in self.now) item }
+        ensures left { result.left ≡ word (lefts_in self.now) item }
+        ensures right { result.right ≡ word (rights_in self.now) item }
     {
-        self.items[item as usize].kind
+        self.items[item as usize]
     }
 
-    // The left operand of an item.
-    pub fn left_of(&self, item: u32) -> u32
-        requires { item < 2048 }
-        ensures { result ≡ word (lefts_in self.now) item }
-    {
-        self.items[item as usize].left
-    }
-
-    // Its right operand.
-    pub fn right_of(&self, item: u32) -> u32
-        requires { item < 2048 }
-        ensures { result ≡ word (rights_in self.now) item }
-    {
-        self.items[item as usize].right
-    }
-
-    // Its priority.
+    // The priority of an item.
     pub fn priority_of(&self, item: u32) -> Priority
         requires { item < 2048 }
         ensures { result.0 ≡ word (priorities_in self.now) item }

@@ -20,6 +20,8 @@ pub fn fault_if(number: u32, place: u32, bad: bool) -> Result<(), Fault>
 }
 
 // Fault `number` at the first of the places from `first` up to `end` that is bad.
+// Kept (no plainer): two numbers, here and in `check_below`: every clause speaks of both ends, and a `Range` would be
+// made at each call and taken apart in each clause.
 pub fn first_fault<F: Fn(usize) -> bool>(
     number: u32,
     first: usize,
@@ -32,6 +34,7 @@ pub fn first_fault<F: Fn(usize) -> bool>(
         → ((place : ℕ) (r : Bool) → first ≤ place → place < end → F.post bad place r → r ≡ test place)
         → result ≡ fault_from number first end test }
 {
+    // Kept (proof): by `find` over the range the goals find-requires and `returns-in-Some` were left.
     for place in first..end {
         if bad(place) {
             return Err(Fault {

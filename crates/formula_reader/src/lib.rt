@@ -29,6 +29,8 @@ impl<'a> FormulaReader<'a> {
     }
 
     // The kind of the node at which the reader stands.
+    // Kept (no plainer): it answers the word of any formula. A FormulaKind would tell less of a word that is no kind,
+    // and a Result would have to be unwrapped by its one caller.
     pub fn kind(self) -> u32
         requires { has_kind self.words.now self.node }
         ensures { result ≡ kind self.entry.words.now self.entry.node }

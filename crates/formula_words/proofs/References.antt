@@ -1,5 +1,5 @@
 -- Fixpoints, references and enclosing nodes, as the code reads them. Assumes nothing.
-use Prim.Native.Nat.{ℕ, ◌/◌, ◌<◌, ◌≤◌, min}
+use Prim.Native.Nat.{ℕ, ◌/◌, ◌<◌, ◌≤◌}
 use native.Mathlib.Omega.{arith}
 use native.Mathlib.Decide.{ℕ_discrete, dec_lt}
 use mathlib.Core.Path.{◌≡◌, refl, sym, ap, ◌∙◌}
@@ -38,21 +38,28 @@ reference_named f v h Least e = sym (ap is_some (reference_none f v h (λ i. ome
 reference_named f v h Greatest e = sym (ap is_some (reference_none f v h (λ i. omega arith)))
 reference_named f v h Reference e = sym (ap is_some (reference_at f v h (sym e)))
 
--- as a word that is read says, where one that stands for no kind is no reference
-pub reference_read : (f : List ℕ) (v : ℕ) → v < size f → (w : ℕ) → w ≡ kind f v → (read : Result FormulaKind UnknownKind)
-    → ReadsFormula w read → (r : Bool) → MatchResult read (λ k. r ≡ sameb the_type k Reference) (λ e. r ≡ false)
+-- as the kind that is read says, where a word that stands for none is no reference
+pub reference_read : (f : List ℕ) (v : ℕ) → v < size f → (read : Result FormulaKind UnknownKind) → ReadsFormula (kind f v) read
+    → (r : Bool) → MatchResult read (λ k. r ≡ sameb the_type k Reference) (λ e. r ≡ false)
     → r ≡ is_some (reference_of (formula_node f v))
-reference_read f v h w e (Ok k) a r b = b ∙ reference_named f v h k (a ∙ e)
-reference_read f v h w e (Err x) a r b = b ∙ sym (ap is_some (reference_none f v h (λ i. omega (arith, a.1))))
+reference_read f v h (Ok k) a r b = b ∙ reference_named f v h k a
+reference_read f v h (Err x) a r b = b ∙ sym (ap is_some (reference_none f v h (λ i. omega (arith, a.1))))
 
--- and, read as the last kind where its word stands for none, that of a fixpoint
-pub fixpoint_named : (f : List ℕ) (v : ℕ) → v < size f → (c : ℕ) → c ≡ min (kind f v) 8 → eqb (c / 2) 3 ≡ is_fixpoint (formula_node f v)
+-- a kind is that of a fixpoint exactly if its node is one
+fixpoint_named : (f : List ℕ) (v : ℕ) → v < size f → (c : ℕ) → c ≡ kind f v → eqb (c / 2) 3 ≡ is_fixpoint (formula_node f v)
 fixpoint_named f v h c e = go (dec_lt (kind f v) 6) (dec_lt (kind f v) 8)
   where
     go : Dec (kind f v < 6) → Dec (kind f v < 8) → eqb (c / 2) 3 ≡ is_fixpoint (formula_node f v)
     go (yes l) m = ne_eqb (c / 2) 3 (λ i. omega arith) ∙ sym (fixpoint_low f v h l)
     go (no l) (yes m) = eq-eqb (c / 2) 3 (omega arith) ∙ sym (fixpoint_yes f v h (omega arith) (omega arith))
     go (no l) (no m) = ne_eqb (c / 2) 3 (λ i. omega arith) ∙ sym (fixpoint_high f v h (omega arith))
+
+-- as the kind that is read says
+pub fixpoint_read : (f : List ℕ) (v : ℕ) → v < size f → (read : Result FormulaKind UnknownKind) → ReadsFormula (kind f v) read
+    → (r : Bool) → MatchResult read (λ k. r ≡ eqb (formula_code k / 2) 3) (λ e. r ≡ false)
+    → r ≡ is_fixpoint (formula_node f v)
+fixpoint_read f v h (Ok k) a r b = b ∙ fixpoint_named f v h (formula_code k) a
+fixpoint_read f v h (Err x) a r b = b ∙ sym (fixpoint_high f v h (omega (arith, a.1)))
 
 none_wrong : (f : List ℕ) (v : ℕ) (r : Option ℕ) → is_some r ≡ false → false ≡ wrong_reference f v r
 unfolding wrong_reference

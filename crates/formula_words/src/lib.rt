@@ -5,13 +5,14 @@ ghost use Rattle.std.specs.Prelude.{◌≡◌, ◌||◌, [], ◌∷◌, ◌<◌,
 ghost use Rattle.tables.specs.Ends.{end_of};
 ghost use Rattle.rules.specs.Answers.{first_fault};
 ghost use Rattle.rules.specs.Formula.{is_fixpoint};
-ghost use Rattle.rules.specs.Table.{size, formula_children, formula_node, reference_of, is_some};
+ghost use Rattle.rules.specs.Table.{size, kind, formula_children, formula_node, reference_of, is_some};
 ghost use Rattle.rules.specs.Refusal.{fault_from, names_no_tree, bad_formula_operand, wrong_reference, encloses};
 ghost use Rattle.rules.specs.Refusal.{refusal41, refusal42, refusal43, refusal44, refusal45};
+ghost use Rattle.node_kinds.specs.Codes.{ReadsFormula};
 ghost use Rattle.table_words.specs.Tables.{Sized};
 
 use faults::fault_if;
-use node_kinds::{ActionKind, FormulaKind};
+use node_kinds::{ActionKind, FormulaKind, UnknownKind};
 use rules::Fault;
 use table_words::{Row, Trees};
 use words::NODES;
@@ -24,20 +25,80 @@ fn names_no_tree(row: &Row<'_, '_, ActionKind>, named: usize) -> bool
     row.size() <= named || !row.has_tree_at(named)
 }
 
-// The operand of a node is wrong. As a name, that of a modality, it is the first node of an action formula.
-#[tactic(auto, unfolding(rules::specs::Refusal::bad_formula_operand))]
-fn bad_operand(
-    row: &Row<'_, '_, ActionKind>,
-    trees: &Trees<'_, '_, FormulaKind>,
+// A node of the formula, with the ends of its trees.
+#[derive(Clone, Copy)]
+struct FormulaNode<'t, 'a, 'b> {
+    trees: &'t Trees<'a, 'b, FormulaKind>,
     node: usize,
-) -> bool
-    requires { node < size trees.now.words.now }
-    ensures { result ≡ bad_formula_operand (names_no_tree row.now.words.now) trees.now.words.now node }
-{
-    trees.bad_operand(node, |named| names_no_tree(row, named))
+    ghost inside: { node < size trees.now.words.now },
+}
+
+impl<'t, 'a, 'b> FormulaNode<'t, 'a, 'b> {
+    // Its kind, if its word stands for one.
+    fn kind(self) -> Result<FormulaKind, UnknownKind>
+        ensures { ReadsFormula (kind self.entry.trees.now.words.now self.entry.node) result }
+    {
+        FormulaKind::try_from(words::kind_at(self.trees.words, self.node))
+    }
+
+    // Its operand is wrong. As a name, that of a modality, it is the first node of an action formula.
+    #[tactic(auto, unfolding(rules::specs::Refusal::bad_formula_operand))]
+    fn has_bad_operand(self, row: &Row<'_, '_, ActionKind>) -> bool
+        ensures { result ≡ bad_formula_operand (names_no_tree row.now.words.now)
+            self.entry.trees.now.words.now self.entry.node }
+    {
+        self.trees
+            .bad_operand(self.node, |named| names_no_tree(row, named))
+    }
+
+    // It is a fixpoint.
+    fn is_fixpoint(self) -> bool
+        ensures { result ≡ is_fixpoint (formula_node self.entry.trees.now.words.now self.entry.node) }
+    {
+        self.kind().is_ok_and(|kind| kind.is_fixpoint())
+    }
+
+    // It is a reference.
+    fn is_reference(self) -> bool
+        ensures { result ≡ is_some (reference_of (formula_node self.entry.trees.now.words.now self.entry.node)) }
+    {
+        self.kind().is_ok_and(|kind| kind == FormulaKind::Reference)
+    }
+
+    // It stands in the tree of another node, `outer`, below it.
+    fn is_inside(self, outer: usize) -> bool
+        ensures { result ≡ encloses self.entry.trees.now.words.now outer self.entry.node }
+    {
+        if self.node <= outer {
+            return false;
+        }
+        let end = self.trees.end(outer);
+        end <= self.trees.size() && self.node < end
+    }
+
+    // It is a reference to something other than an enclosing fixpoint.
+    fn is_bad_reference(self) -> bool
+        ensures { result ≡ wrong_reference self.entry.trees.now.words.now self.entry.node
+            (reference_of (formula_node self.entry.trees.now.words.now self.entry.node)) }
+    {
+        if !self.is_reference() {
+            return false;
+        }
+        let named = words::operand_at(self.trees.words, self.node);
+        if !self.is_inside(named) {
+            return true;
+        }
+        let outer = FormulaNode {
+            trees: self.trees,
+            node: named,
+        };
+        !outer.is_fixpoint()
+    }
 }
 
 // 44: an operand, or nodes left over, of which the one at which the formula's tree ends is the first.
+// Kept (no plainer): row and trees are two parameters: the row is of the action formulas, and `check_references` reads
+// the trees alone.
 fn check_operands(
     row: &Row<'_, '_, ActionKind>,
     trees: &Trees<'_, '_, FormulaKind>,
@@ -47,9 +108,14 @@ fn check_operands(
         || eqb node (end_of (formula_children trees.now.words.now) (size trees.now.words.now) 0)) }
 {
     let end = trees.end(0);
-    faults::first_fault(44, 0, trees.size(), |node| {
-        bad_operand(row, trees, node) || node == end
-    })
+    faults::first_fault(
+        44,
+        0,
+        trees.size(),
+        |node|
+            requires { node < size trees.now.words.now }
+        { FormulaNode { trees, node }.has_bad_operand(row) || node == end },
+    )
 }
 
 // 44: an operand, nodes left over, or an unfinished tree.
@@ -65,59 +131,19 @@ fn check_tree(
     fault_if(44, count as u32, count < trees.end(0))
 }
 
-// A node is a fixpoint.
-// Kept (no plainer): crate modal_equation_system asks the same of a formula that has passed all checks; what the two
-// share are the calls of `kind_at` and `of`.
-fn is_fixpoint(trees: &Trees<'_, '_, FormulaKind>, node: usize) -> bool
-    requires { node < size trees.now.words.now }
-    ensures { result ≡ is_fixpoint (formula_node trees.now.words.now node) }
-{
-    FormulaKind::of(words::kind_at(trees.words, node)).is_fixpoint()
-}
-
-// A node is a reference.
-fn is_reference(trees: &Trees<'_, '_, FormulaKind>, node: usize) -> bool
-    requires { node < size trees.now.words.now }
-    ensures { result ≡ is_some (reference_of (formula_node trees.now.words.now node)) }
-{
-    FormulaKind::try_from(words::kind_at(trees.words, node)).is_ok_and(|kind| kind
-        == FormulaKind::Reference)
-}
-
-// A node stands in the tree of another one, `outer`, below it.
-fn encloses(trees: &Trees<'_, '_, FormulaKind>, outer: usize, node: usize) -> bool
-    requires { node < size trees.now.words.now }
-    ensures { result ≡ encloses trees.now.words.now outer node }
-{
-    if node <= outer {
-        return false;
-    }
-    let end = trees.end(outer);
-    end <= trees.size() && node < end
-}
-
-// A node is a reference to something other than an enclosing fixpoint.
-fn bad_reference(trees: &Trees<'_, '_, FormulaKind>, node: usize) -> bool
-    requires { node < size trees.now.words.now }
-    ensures { result ≡ wrong_reference trees.now.words.now node
-        (reference_of (formula_node trees.now.words.now node)) }
-{
-    if !is_reference(trees, node) {
-        return false;
-    }
-    let named = words::operand_at(trees.words, node);
-    if !encloses(trees, named, node) {
-        return true;
-    }
-    !is_fixpoint(trees, named)
-}
-
 // 45: a reference.
 #[tactic(auto, unfolding(rules::specs::Refusal::refusal45))]
 fn check_references(trees: &Trees<'_, '_, FormulaKind>) -> Result<(), Fault>
     ensures { result ≡ refusal45 trees.now.words.now }
 {
-    faults::first_fault(45, 0, trees.size(), |node| bad_reference(trees, node))
+    faults::first_fault(
+        45,
+        0,
+        trees.size(),
+        |node|
+            requires { node < size trees.now.words.now }
+        { FormulaNode { trees, node }.is_bad_reference() },
+    )
 }
 
 // 44 and 45, for which the ends of the trees and the row of action formulas are kept here.

@@ -1,10 +1,12 @@
 -- The stretches of the game of vertices, one vertex at a time, and the whole of it. Assumes nothing.
 use mathlib.Core.Path.{◌≡◌, sym, ap, ◌∙◌, subst}
 use mathlib.Core.List.{List, [], ◌∷◌, ◌++◌, map}
-use Prim.Native.Nat.{ℕ, ◌+◌, ◌-◌, ◌*◌, ◌≤◌, ◌<◌}
+use Prim.Native.Nat.{ℕ, zero, suc, ◌+◌, ◌-◌, ◌*◌, ◌≤◌, ◌<◌}
 use native.Mathlib.Omega.{arith}
 use lib.ListN.{length, get_or, take, drop, set, replicate, drop_of_length-le}
 use Rattle.std.proofs.lemmas.List.{drop_more}
+use Rattle.std.specs.List.{sum_by, range_with_len}
+use Rattle.std.proofs.lemmas.List.Sums.{sum_by-cons}
 use Rattle.rules.specs.Game.{Vertex, waiting_vertex, vertex_columns, edge_columns, edge_count, offsets, all_edges, columns}
 use Rattle.rules.specs.Game.{game_of, padded, game_words}
 use Rattle.games.specs.Columns.{edge_column, edge_column_of}
@@ -14,8 +16,8 @@ use Rattle.words.proofs.Stretches.{Writing, start, turn, put, called, done}
 use Rattle.parity_game.proofs.Stretches.{columns_room, column_none, column-more}
 use Rattle.parity_game.proofs.Stretches.{edges_none as no_edges, edges_more as more_edges}
 use Rattle.parity_game.proofs.Stretches.{offsets_none as no_offsets, offsets_more as more_offsets}
-use Rattle.parity_game.proofs.Calls.{behind_header, behind_columns, behind_offsets, header_done, columns_fit, offsets_fit}
-use Rattle.parity_game.proofs.Calls.{edges_fit, last_done, game_fits, game_done}
+use Rattle.parity_game.proofs.Calls.{behind_header, behind_columns, behind_offsets, header_done, offsets_fit}
+use Rattle.parity_game.proofs.Calls.{edges_fit, last_done, game_done}
 use Rattle.game_columns.specs.Shown.{edges_of}
 
 -- the place of the next word, told otherwise
@@ -54,8 +56,17 @@ module _ (vs : List Vertex) where
       → b + degree ≤ edge_count vs
   count_most b i degree d h k = omega (arith, k, d, count-more i h)
 
-  pub count_done : (b i : ℕ) → length vs ≤ i → Counted b i → b ≡ edge_count vs
-  count_done b i h k = omega (arith, k, ap edge_count (none i h), no_edges)
+  -- the edges of so many vertices from a on, summed, where they are the last ones
+  summed_from : (n a : ℕ) → a + n ≡ length vs
+      → sum_by (λ i. length (edges_of vs i)) (range_with_len a n) ≡ edge_count (drop a vs)
+  summed_from zero a h = sym (ap edge_count (none a (omega arith)) ∙ no_edges)
+  summed_from (suc n) a h =
+      sum_by-cons (λ i. length (edges_of vs i)) a (range_with_len (a + 1) n)
+      ∙ ap (λ (k : ℕ). length (edges_of vs a) + k) (summed_from n (a + 1) (omega arith))
+      ∙ sym (count-more a (omega arith))
+
+  pub summed : sum_by (λ i. length (edges_of vs i)) (range_with_len 0 (length vs)) ≡ edge_count vs
+  summed = summed_from (length vs) 0 (omega arith)
 
   -- ---- the offsets: those of the vertices below i are written, from place `at` on, and b edges stand before vertex i
 
@@ -137,9 +148,6 @@ module _ (vs : List Vertex) (n m : ℕ) (many : n ≡ length vs) (most : m ≡ e
     headed : Writing a (behind_header vs) out₁ 0 (game_of 0 vs) out
     headed = header_done vs n m many most l header
 
-    pub places_room : a + length vertex_columns * length vs ≤ length out₁
-    places_room = omega (arith, columns_fit vs n m many most room headed)
-
     module _ {b : ℕ} {out₂ : List ℕ} (l₂ : length out₂ ≡ length out₁)
         (places : Wrote a (columns vertex_columns vs) out₁ out₂ b) where
       placed : Writing b (behind_columns vs) out₂ 0 (game_of 0 vs) out
@@ -160,9 +168,6 @@ module _ (vs : List Vertex) (n m : ℕ) (many : n ≡ length vs) (most : m ≡ e
             (edges : Wrote d (columns edge_columns (all_edges vs)) out₃ out₄ f) where
           ended : Writing f [] out₄ 0 (game_of 0 vs) out
           ended = last_done l₄ edges begun
-
-          pub end_fits : f ≤ length out₄
-          end_fits = game_fits vs n m many most room ended
 
           pub written : (out₅ : List ℕ) → out₅ ≡ take f out₄ ++ replicate (length out₄ - f) 0
               → out₅ ≡ padded (length out) (game_of 0 vs)

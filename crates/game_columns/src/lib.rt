@@ -1,6 +1,8 @@
 // A game's words, written from left to right: column after column of the vertices, the offsets, then column after
 // column of the edges. A function that appends a stretch answers the place past it.
-// Kept (no plainer): slice and place apart: each stretch promises `Wrote`, and the caller adds stretches up by the place.
+// Kept (no plainer): slice and place apart, and no struct like `text_writer::Text`. That a lent slice stays the same
+// and as long goes without saying; of a struct each function that writes a stretch, in five crates and through the
+// trait, would have to say it besides, as `Appended` does, for the six calls here that go on from a place.
 #![tactic(auto)]
 
 ghost use Rattle.std.specs.Prelude.{◌≡◌, List, map, ◌+◌, ◌*◌, ◌≤◌, ◌<◌, length};
@@ -14,6 +16,7 @@ use parity_game::{edge_columns, vertex_columns, write_header};
 use player::VertexIndex;
 
 // Vertices of which each column can be told: those of a game that is written.
+// Kept (no plainer): a column is a number, as crate `parity_game` says.
 pub trait Vertices {
     // the vertices, by their numbers
     ghost shown: { Self → List Vertex };
@@ -50,12 +53,9 @@ pub fn count_edges<V: Vertices>(vertices: &V) -> u32
     requires few { edge_count (V.shown vertices.now) < 4294967296 }
     ensures { result ≡ edge_count (V.shown vertices.now) }
 {
-    let count = vertices.count();
-    let mut total: u32 = 0;
-    for vertex in 0..count {
-        total += vertices.degree(VertexIndex(vertex));
-    }
-    total
+    (0..vertices.count())
+        .map(|vertex| vertices.degree(VertexIndex(vertex)))
+        .sum()
 }
 
 // The columns of the vertices, one after another.
@@ -79,6 +79,8 @@ fn write_offsets<V: Vertices>(vertices: &V, out: &mut [u32], start: usize) -> us
     let count = vertices.count();
     let mut edges: u32 = 0;
     for vertex in 0..count {
+        // Kept (no plainer): the place is counted from `start`: by `iter_mut().enumerate()` the vertex would be a
+        // usize, and be cast to be asked.
         out[start + vertex as usize] = edges;
         edges += vertices.degree(VertexIndex(vertex));
     }

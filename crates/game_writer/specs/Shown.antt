@@ -12,8 +12,8 @@ use Rattle.item_table.specs.Entries.{kind_owner}
 use Rattle.pairs.specs.Table.{item_at}
 use Rattle.settling.specs.Stand.{settled_in, start_in, degree_in, degrees_in}
 
--- ---- one vertex. The regions have v words each, and the edge buffer, with room for e edges, stands behind the eight of
--- them: targets, then counts, both from the last word downwards
+-- ---- one vertex. The regions have v words each, and the edge buffer, with room for e edges, stands behind the eight
+-- of them: targets, then counts, both from the last word downwards
 
 -- the item of vertex u
 abbrev pub item_in : List ℕ → ℕ → ℕ → ℕ

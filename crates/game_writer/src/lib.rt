@@ -18,7 +18,8 @@ use pairs::Slots;
 use parity_game::{OWNER, TARGET};
 use player::{Player, Priority, VertexIndex};
 use rules::Room;
-use work_slice::{REGIONS, Region, region_word};
+use settling::Counters;
+use work_slice::{Region, edges_end, region_word};
 
 // The priority of a vertex without targets: its owner loses there.
 fn stuck_priority(owner: Player) -> Priority
@@ -34,10 +35,10 @@ fn copy_down(words: &[u32], out: &mut [u32], start: usize) -> usize
     requires { start + length words.now ≤ length out.old }
     ensures { Wrote start (reverse words.now) out.old out.new result }
 {
-    for (i, word) in words.iter().rev().enumerate() {
-        out[start + i] = *word;
-    }
-    start + words.len()
+    let end = start + words.len();
+    out[start..end].copy_from_slice(words);
+    out[start..end].reverse();
+    end
 }
 
 // What a walk knows: its first `known` vertices, in work words with room for so many edges, and the items that they
@@ -51,101 +52,122 @@ struct Walked<'w, 'c> {
     ghost showing: { Showing slots.work.now slots.vertices edge_room known },
 }
 
-impl Walked<'_, '_> {
-    ghost use Rattle.game_writer.specs.Walks.{player_in, owner_in, priority_in, word_in};
-
-    // Its word in a region.
-    fn region_word(&self, area: Region, vertex: VertexIndex) -> u32
-        requires { vertex.0 < self.now.known }
-        ensures { result ≡ word (region (region_code area) self.now.slots.vertices self.now.slots.work.now) vertex.0 }
-    {
-        region_word(self.slots.work, self.slots.vertices, area, vertex.0)
-    }
-
-    // How many edges a vertex has; None before it is settled.
-    fn degree_of(&self, vertex: VertexIndex) -> Option<u32>
-        requires { vertex.0 < self.now.known }
-        ensures settled { is_some result ≡ settled_in self.now.slots.work.now self.now.slots.vertices vertex.0 }
-        ensures count { unwrap_or result 0 ≡ degree_in self.now.slots.work.now self.now.slots.vertices vertex.0 }
-    {
-        let held = self.region_word(Region::Degrees, vertex);
-        held.checked_sub(1)
-    }
-
-    // Is a vertex settled?
-    fn is_settled(&self, vertex: VertexIndex) -> bool
-        requires { vertex.0 < self.now.known }
-        ensures { result ≡ settled_in self.now.slots.work.now self.now.slots.vertices vertex.0 }
-    {
-        self.degree_of(vertex).is_some()
-    }
-
-    // To whom the item of a vertex belongs.
-    fn player_of(&self, vertex: VertexIndex) -> Player
-        requires { vertex.0 < self.now.known }
-        ensures { result ≡ player_in self.now vertex.0 }
-    {
-        let item = self.slots.item_of(vertex);
-        owner_of(self.compiled.kind_of(item))
-    }
-
-    // The word that shows the owner of a vertex.
-    // Kept (rule): 2 is the word that document 01 has for a vertex that is not settled.
-    fn owner_word(&self, vertex: VertexIndex) -> u32
-        requires { vertex.0 < self.now.known }
-        ensures { result ≡ owner_in self.now vertex.0 }
-    {
-        if !self.is_settled(vertex) {
-            return 2;
-        }
-        u32::from(self.player_of(vertex))
-    }
-
+impl<'w, 'c> Walked<'w, 'c> {
     // Where a column of the edges ends in the work slice: it is filled from there downwards.
     fn buffer_end(&self, column: usize) -> usize
         requires { column < length edge_columns }
         ensures { result ≡ buffer_end self.now.slots.vertices self.now.edge_room column }
     {
-        REGIONS * (self.slots.vertices as usize) + (column + 1) * (self.edge_room as usize)
+        edges_end(self.slots.vertices, self.edge_room, column)
     }
 
-    // Does the first edge of a settled vertex lead to itself?
-    fn first_loops(&self, vertex: VertexIndex) -> bool
+    // One of the known vertices.
+    fn at(&self, vertex: VertexIndex) -> KnownVertex<'w, 'c>
         requires { vertex.0 < self.now.known }
-        ensures { result ≡ loops_in self.now.slots.work.now self.now.slots.vertices self.now.edge_room vertex.0 }
+        ensures { (result.walked ≡ self.now) × (result.vertex ≡ vertex) }
     {
-        let count = self.degree_of(vertex).unwrap_or(0);
+        KnownVertex {
+            walked: *self,
+            vertex,
+        }
+    }
+}
+
+// A vertex that a walk knows.
+#[derive(Clone, Copy)]
+struct KnownVertex<'w, 'c> {
+    walked: Walked<'w, 'c>,
+    vertex: VertexIndex,
+    ghost known: { vertex.0 < walked.known },
+}
+
+impl KnownVertex<'_, '_> {
+    ghost use Rattle.game_writer.specs.Walks.{player_in, owner_in, priority_in, word_in};
+
+    // The vertex's word in a region of the work slice.
+    fn region_word(self, area: Region) -> u32
+        ensures { let slots = self.entry.walked.slots in
+            result ≡ word (region (region_code area) slots.vertices slots.work.now) self.entry.vertex.0 }
+    {
+        let slots = self.walked.slots;
+        region_word(slots.work, slots.vertices, area, self.vertex.0)
+    }
+
+    // How many edges it has; None before it is settled.
+    fn degree(self) -> Option<u32>
+        ensures settled { let slots = self.entry.walked.slots in
+            is_some result ≡ settled_in slots.work.now slots.vertices self.entry.vertex.0 }
+        ensures count { let slots = self.entry.walked.slots in
+            unwrap_or result 0 ≡ degree_in slots.work.now slots.vertices self.entry.vertex.0 }
+    {
+        let held = self.region_word(Region::Degrees);
+        held.checked_sub(1)
+    }
+
+    // Is it settled?
+    fn is_settled(self) -> bool
+        ensures { let slots = self.entry.walked.slots in
+            result ≡ settled_in slots.work.now slots.vertices self.entry.vertex.0 }
+    {
+        self.degree().is_some()
+    }
+
+    // To whom its item belongs.
+    fn player(self) -> Player
+        ensures { result ≡ player_in self.entry.walked self.entry.vertex.0 }
+    {
+        let item = self.walked.slots.item_of(self.vertex);
+        owner_of(self.walked.compiled.item_at(item).kind)
+    }
+
+    // The word that shows its owner.
+    // Kept (rule): 2 is the word that document 01 has for a vertex that is not settled.
+    fn owner_word(self) -> u32
+        ensures { result ≡ owner_in self.entry.walked self.entry.vertex.0 }
+    {
+        if !self.is_settled() {
+            return 2;
+        }
+        u32::from(self.player())
+    }
+
+    // Does its first edge lead back to it? Before it is settled it has none.
+    fn first_loops(self) -> bool
+        ensures { let walked = self.entry.walked in
+            result ≡ loops_in walked.slots.work.now walked.slots.vertices walked.edge_room self.entry.vertex.0 }
+    {
+        let count = self.degree().unwrap_or(0);
         if count == 0 {
             return false;
         }
-        let start = self.region_word(Region::Starts, vertex) as usize;
-        self.slots.work[self.buffer_end(TARGET) - 1 - start] == vertex.0
+        let start = self.region_word(Region::Starts) as usize;
+        let end = self.walked.buffer_end(TARGET);
+        self.walked.slots.work[end - 1 - start] == self.vertex.0
     }
 
-    // The priority that is shown of a vertex.
-    fn shown_priority(&self, vertex: VertexIndex) -> Priority
-        requires { vertex.0 < self.now.known }
-        ensures { result.0 ≡ priority_in self.now vertex.0 }
+    // The priority that is shown of it.
+    fn shown_priority(self) -> Priority
+        ensures { result.0 ≡ priority_in self.entry.walked self.entry.vertex.0 }
     {
-        if !self.is_settled(vertex) {
+        if !self.is_settled() {
             return Priority(0);
         }
-        if self.first_loops(vertex) {
-            return stuck_priority(self.player_of(vertex));
+        if self.first_loops() {
+            return stuck_priority(self.player());
         }
-        let item = self.slots.item_of(vertex);
-        self.compiled.priority_of(item)
+        let item = self.walked.slots.item_of(self.vertex);
+        self.walked.compiled.priority_of(item)
     }
 
-    // The word of a vertex in a column.
-    fn column_word(&self, column: usize, vertex: VertexIndex) -> u32
-        requires { (column < length vertex_columns) × (vertex.0 < self.now.known) }
-        ensures { result ≡ word_in self.now column vertex.0 }
+    // Its word in a column of the game.
+    fn column_word(self, column: usize) -> u32
+        requires { column < length vertex_columns }
+        ensures { result ≡ word_in self.entry.walked column self.entry.vertex.0 }
     {
         if column == OWNER {
-            return self.owner_word(vertex);
+            return self.owner_word();
         }
-        let shown = self.shown_priority(vertex);
+        let shown = self.shown_priority();
         shown.0
     }
 }
@@ -160,12 +182,13 @@ impl Vertices for Walked<'_, '_> {
     }
 
     fn degree(&self, vertex: VertexIndex) -> u32 {
-        self.degree_of(vertex).unwrap_or(0)
+        self.at(vertex).degree().unwrap_or(0)
     }
 
     fn write_column(&self, column: usize, out: &mut [u32], start: usize) -> usize {
         for vertex in 0..self.known {
-            let shown = self.column_word(column, VertexIndex(vertex));
+            // Kept (no plainer): as in `write_offsets` of crate `game_columns`.
+            let shown = self.at(VertexIndex(vertex)).column_word(column);
             out[start + vertex as usize] = shown;
         }
         start + self.known as usize
@@ -179,30 +202,29 @@ impl Vertices for Walked<'_, '_> {
         out: &mut [u32],
         start: usize,
     ) -> usize {
-        let Some(count) = self.degree_of(vertex) else {
+        let known = self.at(vertex);
+        let Some(count) = known.degree() else {
             return start;
         };
-        let first = self.region_word(Region::Starts, vertex) as usize;
+        let first = known.region_word(Region::Starts) as usize;
         let past = self.buffer_end(column) - first;
         let edges = &self.slots.work[past - count as usize..past];
         copy_down(edges, out, start)
     }
 }
 
-// The game of the first `known` vertices, which have so many edges, zeros past it.
-// Kept (no plainer): the one caller has these six apart, and would make a `Walked` for this call only.
+// The game of a walk that stands so: its known vertices and their edges, zeros past them.
 pub fn write_game(
     game: &mut [u32],
     work: &[u32],
     compiled: &Compiled,
     room: Room,
-    known: u32,
-    edges: u32,
+    counters: Counters,
 )
-    requires { Showable work.now room.vertices room.edges known edges (length game.old) }
+    requires { Showable work.now room.vertices room.edges counters.known counters.edges (length game.old) }
     ensures { game.new ≡ padded (length game.old) (game_of 0 (shown_vertices
         (kinds_in compiled.now) (priorities_in compiled.now)
-        work.now room.vertices room.edges known)) }
+        work.now room.vertices room.edges counters.known)) }
 {
     let slots = Slots {
         work,
@@ -212,7 +234,7 @@ pub fn write_game(
         slots,
         edge_room: room.edges,
         compiled,
-        known,
+        known: counters.known,
     };
-    game_columns::write_game(&walked, edges, game);
+    game_columns::write_game(&walked, counters.edges, game);
 }

@@ -5,7 +5,7 @@ ghost use Rattle.std.specs.Prelude.{ℕ, ◌≤◌, ◌≡◌, List, length, tak
 ghost use Rattle.std.specs.Io.KnownBytes.{Appends};
 ghost use Rattle.rules.specs.Program.{printed, gate_text_length};
 
-use gate_text::READ;
+use gate_text::{READ, TEXT};
 use reading::read_full;
 use rules::Answer;
 use std::io;
@@ -20,6 +20,8 @@ fn put_text(bytes: &[u8], text: &mut [u8]) -> usize
 {
     match gate_text::gate_buffer(bytes, text) {
         Answer::Done(size, _, _) => size as usize,
+        // Kept (no plainer): a cut or a refusal never comes here; an Option would be a case of `run` that never comes
+        // either.
         Answer::Cut(_, _, _) | Answer::Refused(_, _) => 0,
     }
 }
@@ -31,7 +33,7 @@ fn run<R: Read, W: Write>(input: &mut R, output: &mut W) -> io::Result<()>
 {
     let mut bytes = [0u8; READ];
     let count = read_full(input, &mut bytes)?;
-    let mut text = [0u8; 16384];
+    let mut text = [0u8; TEXT];
     let size = put_text(&bytes[..count], &mut text);
     output.write_all(&text[..size])
 }

@@ -4,17 +4,21 @@ use mathlib.Core.Path.{◌≡◌, refl, sym, ap, ◌∙◌}
 use mathlib.Core.Bool.{Bool, true, false, cond}
 use mathlib.Core.List.{List, [], ◌∷◌, ◌++◌, append-nil}
 use mathlib.Core.Option.{Option, none, some}
-use Prim.Native.Nat.{ℕ, zero, suc, ◌+◌, ◌*◌, ◌%◌, ◌≤◌, ◌<◌}
+use Prim.Native.Nat.{ℕ, zero, suc, ◌+◌, ◌-◌, ◌*◌, ◌%◌, ◌≤◌, ◌<◌}
+use native.Mathlib.Decide.{ℕ_discrete}
 use native.Mathlib.Omega.{arith}
 use lib.ListN.{length, take, drop, drop_of_length-le}
 use lib.Seq.{drop-cons, append_snoc}
 use lib.Dec.{eqb}
-use borrow.Author.Tests.{lt-ltb, le-ltb}
-use Rattle.rules.specs.Lists.{word, sum}
+use borrow.Author.Tests.{lt-ltb, le-ltb, eq-eqb, ne_eqb}
+use Rattle.std.specs.List.{sum_by}
+use Rattle.std.proofs.lemmas.List.Sums.{sum_by-cons}
+use Rattle.rules.specs.Lists.{word, sum, sum_words}
 use Rattle.rules.specs.Refusal.{differ}
 use Rattle.rules.specs.Program.{word_of, joined, words_of, gate_words, disagree}
 use Rattle.gate_text.specs.Reading.{agreeing, accepted}
 use Rattle.words.specs.Bytes.{word_at, words_at}
+use Rattle.words.proofs.Sums.{sum_summed}
 
 -- ---- one word after the other
 
@@ -135,8 +139,20 @@ sum_four (a ∷ b ∷ []) h = absurd (omega arith)
 sum_four (a ∷ b ∷ c ∷ []) h = absurd (omega arith)
 sum_four (a ∷ b ∷ c ∷ d ∷ rest) h = omega arith
 
-pub agree_by : (ws : List ℕ) (n a b c d : ℕ) → a ≡ word ws 0 → b ≡ word ws 1 → c ≡ word ws 2 → d ≡ word ws 3 → 4 ≤ length ws
-    → eqb n (4 + a + b + c + d) ≡ eqb n (4 + sum (take 4 ws))
-agree_by ws n a b c d e f g h l =
-    let m : 4 + a + b + c + d ≡ 4 + sum (take 4 ws) = omega (arith, sum_four ws l) in
-    ap (eqb n) m
+-- the sum of words is the one that the rules name
+summed : (ws : List ℕ) → sum_by (λ x. x) ws ≡ sum ws
+unfolding sum
+summed [] = refl
+summed (w ∷ ws) = omega (arith, sum_by-cons (λ x. x) w ws, summed ws)
+
+-- the words behind the first four are as many as these say
+pub agree_by : (ws : List ℕ) (total : ℕ) → total ≡ sum_words (take 4 ws) 0 (length (take 4 ws)) → 4 ≤ length ws
+    → eqb (length ws - 4) total ≡ eqb (length ws) (4 + sum (take 4 ws))
+agree_by ws total e h = go (ℕ_discrete (length ws - 4) total)
+  where
+    same : total ≡ sum (take 4 ws)
+    same = e ∙ sym (sum_summed (take 4 ws)) ∙ summed (take 4 ws)
+
+    go : Dec (length ws - 4 ≡ total) → eqb (length ws - 4) total ≡ eqb (length ws) (4 + sum (take 4 ws))
+    go (yes q) = eq-eqb _ _ q ∙ sym (eq-eqb _ _ (omega (arith, same)))
+    go (no q) = ne_eqb _ _ q ∙ sym (ne_eqb _ _ (λ r. q (omega (arith, same))))

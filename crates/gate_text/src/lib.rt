@@ -21,16 +21,13 @@ use text_writer::Text;
 
 // ---- reading
 
-// Are there as many words as the first four say? In 64 bits the sum does not wrap.
+// Are there as many words as the first four say? Those behind the four are counted: nothing is added to their sum, so
+// nothing can wrap.
 fn lengths_agree(words: &[u32]) -> bool
     requires { 4 ≤ length words.now }
     ensures { result ≡ eqb (length words.now) (4 + sum (take 4 words.now)) }
 {
-    let labels = words::at(words, 0);
-    let system = words::at(words, 1);
-    let actions = words::at(words, 2);
-    let formula = words::at(words, 3);
-    words.len() == 4 + labels + system + actions + formula
+    words.len() - 4 == words::sum(&words[..4])
 }
 
 // The words of the bytes, in the room lent for them, or None where the program refuses the bytes.
@@ -63,7 +60,7 @@ fn put_vertex(text: &mut Text<'_>, game: &Game<'_>, vertex: usize)
     text.put_number(game.vertex_word(OWNER, vertex));
     text.put_number(game.vertex_word(PRIORITY, vertex));
     text.put_numbers(game.edge_words(TARGET, vertex));
-    text.put_byte(10);
+    text.put_byte(b'\n');
 }
 
 // The lines of all vertices.
@@ -149,13 +146,16 @@ fn put_program(bytes: &[u8], text: &mut Text<'_>)
     }
 }
 
+// Every text fits in so many bytes.
+pub const TEXT: usize = 16_384;
+
 // What the program writes, of what it reads: the answer says how many bytes stand at the front of the text slice, with
-// zeros past them. Every text fits in 16,384 bytes: a slice that has fewer is refused and left as it is.
+// zeros past them. A slice in which not every text fits is refused and left as it is.
 pub fn gate(bytes: &[u8], text: &mut [u8]) -> Answer
     ensures { record { answer = result; text = text.new }
         ≡ program_text bytes.now text.old }
 {
-    if text.len() < 16384 {
+    if text.len() < TEXT {
         return Answer::Refused(2, 0);
     }
     let mut written = Text::new(text);
@@ -168,7 +168,9 @@ pub fn gate(bytes: &[u8], text: &mut [u8]) -> Answer
 pub const READ: usize = 8193;
 
 // As `gate`, of any input whose first 8,193 bytes (all, where it has fewer) are these.
-// Kept (no plainer): it does what `gate` does; its promise is of its own, as it speaks of inputs that are longer.
+// Kept (no plainer): a second clause of `gate` would promise this too, but `gate` is asked of any bytes (crate
+// `texts`), and only the thin program reads a buffer that its input may go beyond: each other call would carry a clause
+// over all inputs that the bytes may be the front of.
 pub fn gate_buffer(bytes: &[u8], text: &mut [u8]) -> Answer
     ensures { (input : List ℕ) → take 8193 input ≡ bytes.now
         → ◌≡◌ {A = Written} (record { answer = result; text = text.new })

@@ -1,5 +1,6 @@
-// The static library: the calls open to users, for C and Rust hosts. A slice passes as a pointer and a length in words;
-// the answer goes to four words that the host lends: 0 Done, 1 Cut, 2 Refused, then the values, unused ones 0.
+// The static library: the calls open to users, for C and Rust hosts. A slice passes as a pointer and a length in words
+// (a text: in bytes); the answer goes to four words that the host lends: 0 Done, 1 Cut, 2 Refused, then the values,
+// unused ones 0.
 #![tactic(auto)]
 
 ghost use Rattle.std.specs.Prelude.{◌≡◌};
@@ -15,6 +16,8 @@ ghost use Rattle.rules.specs.PgsolverWriting.{written_game};
 ghost use Rattle.rules.specs.PgsolverReading.{Readback, read_game};
 ghost use Rattle.rules.specs.PgsolverCalls.{WritingDemand, ReadingDemand};
 ghost use Rattle.satisfaction.specs.Claims.{NoFalsePass};
+
+// Kept (rule): the C interface is made of these parameters and words.
 
 // The run: see `translate` of the crate translate, whose contract this is of the answer that the lent words say.
 #[unsafe(no_mangle)]
@@ -89,8 +92,8 @@ pub extern "C" fn hingrezh_write_pgsolver(game: &[u32], text: &mut [u8], answer:
     *answer = result.into();
 }
 
-// A game from PGSolver text: see `read_pgsolver` of the crate pgsolver_reader, whose contract this is of the answer that
-// the lent words say.
+// A game from PGSolver text: see `read_pgsolver` of the crate pgsolver_reader, whose contract this is of the answer
+// that the lent words say.
 #[unsafe(no_mangle)]
 pub extern "C" fn hingrezh_read_pgsolver(
     text: &[u8],

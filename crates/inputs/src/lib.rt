@@ -13,16 +13,23 @@ use faults::fault_if;
 use lent_input::Input;
 use rules::{Fault, Room};
 
-// 1: the room is out of range. 2: the game slice or the work slice, of these lengths, is not as long as the room asks.
+// What a run is lent to build its game in: the room, and how long the slices for the game and the work are.
+#[derive(Clone, Copy)]
+pub struct Lent {
+    pub room: Room,
+    pub game: usize,
+    pub work: usize,
+}
+
+// 1: the room is out of range. 2: the game slice or the work slice is not as long as the room asks.
 #[tactic(auto, unfolding(rules::specs::Answers::and_then, rules::specs::Refusal::differ, rules::specs::Refusal::refusal2, rules::specs::Words::game_length, rules::specs::Words::work_length))]
-fn check_room(room: Room, game_len: usize, work_len: usize) -> Result<(), Fault>
-    ensures { result ≡ and_then (refusal1 room) (refusal2 room game_len work_len) }
+fn check_room(lent: Lent) -> Result<(), Fault>
+    ensures { result ≡ and_then (refusal1 lent.room) (refusal2 lent.room lent.game lent.work) }
 {
-    parity_game::check_room(room)?;
-    let vertices = room.vertices as usize;
-    let edges = room.edges as usize;
-    let wrong_length = game_len != parity_game::game_words(vertices, edges)
-        || work_len != 8 * vertices + 2 * edges;
+    parity_game::check_room(lent.room)?;
+    let Room { vertices, edges } = lent.room;
+    let wrong_length = lent.game != parity_game::game_words(vertices as usize, edges as usize)
+        || lent.work != work_slice::edges_end(vertices, edges, parity_game::COUNT);
     fault_if(2, 0, wrong_length)
 }
 
@@ -54,24 +61,23 @@ fn check_words(
 }
 
 // All that is checked before a run begins: the room with the lengths of the game slice and the work slice, then the
-// words.
-// Kept (no plainer): the four slices are parameters here, since an `Input` of them is made only once they passed; a
-// struct of the same four fields without its invariant would be taken apart by each of the calls below.
+// words. This answers only whether they pass; `accept` gives the checked input, too.
+// Kept (no plainer): the four slices are parameters here, since an `Input` of them is made only once they passed. A
+// struct of the same four fields without its invariant would be made by `translate`, be taken apart by `check_words`
+// for the checks of each slice, and be made an `Input` field by field in `accept`.
 #[tactic(auto, unfolding(rules::specs::Refusal::refusal, rules::specs::Answers::first_fault, rules::specs::Answers::and_then))]
 pub fn check(
     labels: &[u32],
     system: &[u32],
     actions: &[u32],
     formula: &[u32],
-    room: Room,
-    game_len: usize,
-    work_len: usize,
+    lent: Lent,
 ) -> Result<(), Fault>
     ensures { result ≡ refusal
         (input_of labels.now system.now actions.now formula.now)
-        room game_len work_len }
+        lent.room lent.game lent.work }
 {
-    check_room(room, game_len, work_len)?;
+    check_room(lent)?;
     check_words(labels, system, actions, formula)
 }
 
@@ -81,18 +87,16 @@ pub fn accept<'a>(
     system: &'a [u32],
     actions: &'a [u32],
     formula: &'a [u32],
-    room: Room,
-    game_len: usize,
-    work_len: usize,
+    lent: Lent,
 ) -> Result<Input<'a>, Fault>
     ensures checked { checked result ≡ refusal
         (input_of labels.entry.now system.entry.now actions.entry.now formula.entry.now)
-        room game_len work_len }
+        lent.room lent.game lent.work }
     ensures same { (input : Input) → result ≡ Ok input
         → (input.labels.now ≡ labels.entry.now) × (input.system.now ≡ system.entry.now)
         × (input.actions.now ≡ actions.entry.now) × (input.formula.now ≡ formula.entry.now) }
 {
-    check(labels, system, actions, formula, room, game_len, work_len)?;
+    check(labels, system, actions, formula, lent)?;
     Ok(Input {
         labels,
         system,

@@ -20,14 +20,15 @@ use Rattle.rules.specs.Pairs.{item_at, priority}
 use Rattle.tables.specs.Good.{GoodInput}
 use Rattle.trees.proofs.Equations.{equation_node, body_below, fixpoint_body}
 use Rattle.node_kinds.specs.Codes.{formula_code}
-use Rattle.compiled.specs.declared.Item as compiled
+use Rattle.node_kinds.specs.declared.FormulaKind.{FormulaKind}
+use Rattle.node_kinds.specs.declared.Shape.{Shape}
 use Rattle.compiled.specs.declared.Compiled.{Compiled}
 use Rattle.compiled.specs.Tables.{kinds_in, lefts_in, rights_in}
 use Rattle.arena.specs.Arena.{BodyNode}
 use Rattle.arena.proofs.ItemNumbers.{items_few, item_equation, item_subformula, item_below, item_past, item_carried, first_body}
 use Rattle.arena.proofs.Priorities.{equation_priority, other_priority}
 use Rattle.modal_equation_system.specs.declared.EquationTable.{EquationTable}
-use Rattle.modal_equation_system.specs.System.{formula_only, body_in, least_in, Listed, RankedBy}
+use Rattle.modal_equation_system.specs.System.{formula_only, body_in, operator_in, Listed, RankedBy}
 use Rattle.alike_nodes.specs.Nodes.{Last, Later, EquationNumbers, FormulaShown}
 use Rattle.alike_nodes.proofs.Showing.{formula_shown_map}
 use Rattle.item_table.specs.Entries.{operator_kind, ActionAt, ItemShown, ShownAt, ItemTable, Ranks, ItemNumbers, FirstShown}
@@ -54,10 +55,10 @@ pub record NodesShown (x : Input) (v : ℕ) (kinds lefts rights : List ℕ) : Ty
 
 -- ---- equations
 
-operator_word : (o : Operator) (w : ℕ) → w ≡ least_bit o → 7 - w ≡ operator_kind o
+operator_word : (o : Operator) → 7 - least_bit o ≡ operator_kind o
 unfolding least_bit
-operator_word least w e = rw e refl
-operator_word greatest w e = rw e refl
+operator_word least = refl
+operator_word greatest = refl
 
 module _ (x : Input) (good : GoodInput x) where
   pub first-none : (kinds lefts rights : List ℕ) → FirstShown x 0 kinds lefts rights
@@ -82,12 +83,12 @@ module _ (x : Input) (good : GoodInput x) where
     pub body_small : (w : ℕ) → w ≡ body_in table i → w < 1_024
     body_small w e = let (p, q) = body_node in omega (arith, listed.body i h, good.formula.few)
 
-    equation_shown : (w o : ℕ) → w ≡ body_in table i → o ≡ least_in table i → ItemShown x (item_at x i) (7 - o) (word numbers w) 0
+    equation_shown : (w o : ℕ) → w ≡ body_in table i → o ≡ operator_in table i → ItemShown x (item_at x i) o (word numbers w) 0
     unfolding body_tree
     equation_shown w o e g =
         let (p, q) = body_node in
-        subst (λ (t : Item). ItemShown x t (7 - o) (word numbers w) 0) (sym (item_equation x i h)) (
-          operator_word (equation_of x.formula i).operator o (g ∙ listed.operator i h),
+        subst (λ (t : Item). ItemShown x t o (word numbers w) 0) (sym (item_equation x i h)) (
+          g ∙ listed.fixpoint i h ∙ operator_word (equation_of x.formula i).operator,
           ap (word numbers) (e ∙ listed.body i h) ∙ known.number (equation_of x.formula i).body p q,
           refl,
         )
@@ -95,8 +96,8 @@ module _ (x : Input) (good : GoodInput x) where
     pub first_next : (kinds lefts rights kinds' lefts' rights' : List ℕ) (w o : ℕ)
         → i < length kinds → i < length lefts → i < length rights
         → w ≡ body_in table i
-        → o ≡ least_in table i
-        → kinds' ≡ set kinds i (7 - o)
+        → o ≡ operator_in table i
+        → kinds' ≡ set kinds i o
         → lefts' ≡ set lefts i (word numbers w)
         → rights' ≡ set rights i 0
         → FirstShown x i kinds lefts rights
@@ -106,8 +107,8 @@ module _ (x : Input) (good : GoodInput x) where
         at : (q : ℕ) → Dec (q ≡ i) → q < i + 1 → ShownAt x kinds' lefts' rights' q
         at q (yes z) u =
             subst (ShownAt x kinds' lefts' rights') (sym z)
-            (put-here x kinds lefts rights kinds' lefts' rights' i (7 - o) (word numbers w) 0 a b c d e f (equation_shown w o g j))
-        at q (no n) u = put_there x kinds lefts rights kinds' lefts' rights' i (7 - o) (word numbers w) 0 a b c q n (s.shown q (omega arith))
+            (put-here x kinds lefts rights kinds' lefts' rights' i o (word numbers w) 0 a b c d e f (equation_shown w o g j))
+        at q (no n) u = put_there x kinds lefts rights kinds' lefts' rights' i o (word numbers w) 0 a b c q n (s.shown q (omega arith))
 
   -- ---- subformulas
 
@@ -213,7 +214,7 @@ table_kept x good t u k s p =
     (omega (arith, long, length-map t.items (λ i. i.left)))
     (omega (arith, long, length-map t.items (λ i. i.right)))
     s in
-    subst (λ (es : List compiled.Item). ItemTable x (map (λ i. formula_code i.kind) es) (map (λ i. i.left) es) (map (λ i. i.right) es))
+    subst (λ (es : List (Shape FormulaKind)). ItemTable x (map (λ i. formula_code i.kind) es) (map (λ i. i.left) es) (map (λ i. i.right) es))
     (sym p.items) made
 
 -- ---- what was written

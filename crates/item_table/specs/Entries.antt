@@ -12,7 +12,8 @@ use Rattle.rules.specs.Depth.{Ranking}
 use Rattle.rules.specs.Items.{Item, equation, subformula, items, item_number}
 use Rattle.rules.specs.Pairs.{item_at, priority}
 use Rattle.node_kinds.specs.Codes.{formula_code}
-use Rattle.compiled.specs.declared.Item as compiled
+use Rattle.node_kinds.specs.declared.FormulaKind.{FormulaKind}
+use Rattle.node_kinds.specs.declared.Shape.{Shape}
 use Rattle.compiled.specs.declared.Compiled.{Compiled}
 use Rattle.compiled.specs.Tables.{kinds_in, lefts_in, rights_in, priorities_in, classes_in, samples_in, multiples_in}
 use Rattle.alike_nodes.specs.Nodes.{FormulaShown}
@@ -98,7 +99,7 @@ pub record Rooms (c : Compiled) : Type 0 where
   pub rights : length (rights_in c) ≡ 2_048
 
 -- the words that show item q were put
-pub record EntryPut (before after : Compiled) (q : ℕ) (w : compiled.Item) : Type 0 where
+pub record EntryPut (before after : Compiled) (q : ℕ) (w : Shape FormulaKind) : Type 0 where
   pub kinds : kinds_in after ≡ set (kinds_in before) q (formula_code w.kind)
   pub lefts : lefts_in after ≡ set (lefts_in before) q w.left
   pub rights : rights_in after ≡ set (rights_in before) q w.right

@@ -1,27 +1,25 @@
 // The formula compiled once into a table of items, which the steps of a run read.
 #![tactic(auto)]
 
-ghost use Rattle.std.specs.Prelude.{◌≡◌, ◌-◌, ◌≤◌, ◌<◌, length};
-ghost use Rattle.rules.specs.Lists.{one, zeros};
-ghost use Rattle.rules.specs.Words.{most_nodes};
+ghost use Rattle.std.specs.Prelude.{◌≡◌, ◌≤◌, ◌<◌, length};
+ghost use Rattle.rules.specs.Lists.{zeros};
 ghost use Rattle.rules.specs.Formula.{equation_count, first_body_node};
 ghost use Rattle.rules.specs.Depth.{by_depth};
 ghost use Rattle.rules.specs.Items.{items};
 ghost use Rattle.labels.specs.Classes.{Classes};
 ghost use Rattle.lent_input.specs.Inputs.{input_in};
-ghost use Rattle.node_kinds.specs.Codes.{formula_code};
 ghost use Rattle.compiled.specs.Tables.{kinds_in, lefts_in, rights_in, priorities_in, classes_in};
-ghost use Rattle.modal_equation_system.specs.System.{Good, RankedBy};
-ghost use Rattle.alike_nodes.specs.Nodes.{ActionNumbers, EquationNumbers, FormulaNumbers};
+ghost use Rattle.modal_equation_system.specs.System.{Good, Listed, RankedBy};
+ghost use Rattle.alike_nodes.specs.Nodes.{ActionNumbers, FormulaNumbers};
+ghost use Rattle.alike_nodes.specs.Facts.{action_numbers_prop};
 ghost use Rattle.item_table.specs.Entries.{ItemTable, Ranks, ItemNumbers, NodeNumbered};
 ghost use Rattle.item_table.specs.Entries.{ShownIn, KindsRoom, EntryPut, ItemsOnly, PrioritiesOnly};
-ghost use Rattle.item_table.specs.Facts.{action_numbers_prop};
 
-use alike_nodes::{ActionNodes, FormulaNodes, Shape, number_nodes};
+use alike_nodes::{ActionNodes, FormulaNodes, number_nodes};
 use compiled::{Compiled, Item};
 use lent_input::Input;
 use modal_equation_system::{EquationTable, Equations, is_fixpoint_at};
-use node_kinds::FormulaKind;
+use node_kinds::{ActionKind, FormulaKind, Shape};
 use words::{NODES, at};
 
 // ---- numbers
@@ -62,56 +60,41 @@ fn put_entry(compiled: &mut Compiled, index: usize, item: Item)
     compiled.items[index] = item;
 }
 
-// The kind of an equation.
-// Kept (no plainer): of an equation's operator the table has whether it is least, and no more.
-fn kind_of_equation(is_least: bool) -> FormulaKind
-    ensures { formula_code result ≡ 7 - one is_least }
-{
-    if is_least {
-        FormulaKind::Least
-    } else {
-        FormulaKind::Greatest
-    }
-}
-
 // ---- what the items are made from: an input, and the equations of its formula
 
 #[derive(Clone, Copy)]
 struct Source<'a> {
     input: Input<'a>,
-    equations: Equations<'a>,
-    count: usize,
-    ghost same: { equations.formula.now ≡ input.formula.now },
-    ghost counted: { count ≡ equation_count input.formula.now },
+    table: &'a EquationTable,
+    ghost listed: { Listed input.formula.now table.now },
 }
 
 impl<'a> Source<'a> {
     // The nodes of the formula, where `acts` has the numbers of the nodes of the action formulas.
     fn formula_nodes<'n>(&self, acts: &'n [u32]) -> FormulaNodes<'a, 'n>
         requires { ActionNumbers (input_in self.now.input) acts.now }
-        ensures input { result.input ≡ self.now.input }
-        ensures known { let x = input_in result.input in
-            ActionNumbers x result.acts.now × EquationNumbers x.formula result.equations.now }
+        ensures { result.input ≡ self.now.input }
     {
         FormulaNodes {
             input: self.input,
             acts,
-            equations: &self.equations.table.links,
+            equations: &self.table.links,
         }
     }
 
     // Numbers the items: the equations come first, then the subformulas by the lowest node that carries them. The words
     // of `nodes` stand for the nodes' trees. Returns how many items there are.
-    fn number_items(&self, nodes: &[u32], numbers: &mut [u32]) -> usize
-        requires formula_numbers { FormulaNumbers (input_in self.now.input) nodes.now }
-        requires room { most_nodes ≤ length numbers.old }
+    fn number_items(&self, nodes: &[u32], numbers: &mut [u32; NODES]) -> usize
+        requires { FormulaNumbers (input_in self.now.input) nodes.now }
         ensures { let x = input_in self.now.input in
             (result ≡ length (items x)) × ItemNumbers x numbers.new }
     {
         numbers.fill(0);
         let formula = self.input.formula;
-        let mut next = self.count;
+        let mut next = self.table.count;
         for node in first_body_node(formula)..at(formula, 0) {
+            // Kept (no plainer): by index: `number_node` writes at the node and at its class, so an iterator over
+            // either does not do.
             let class = at(nodes, node);
             next = number_node(numbers, node, class, next);
         }
@@ -119,30 +102,41 @@ impl<'a> Source<'a> {
     }
 
     // Numbers the nodes of the action formulas, those of the formula, and the items. Returns how many items there are.
-    fn number_all(&self, compiled: &Compiled, acts: &mut [u32], numbers: &mut [u32]) -> usize
-        requires classes { Classes self.now.input.labels.now (classes_in compiled.now) }
-        requires room { (most_nodes ≤ length acts.old) × (most_nodes ≤ length numbers.old) }
+    fn number_all(
+        &self,
+        compiled: &Compiled,
+        acts: &mut [u32; NODES],
+        numbers: &mut [u32; NODES],
+    ) -> usize
+        requires { Classes self.now.input.labels.now (classes_in compiled.now) }
         ensures value { result ≡ length (items (input_in self.now.input)) }
         ensures item_numbers { ItemNumbers (input_in self.now.input) numbers.new }
         ensures action_numbers { ActionNumbers (input_in self.now.input) acts.new }
     {
-        let mut shapes = [Shape::NONE; NODES];
-        let mut nodes = [0u32; NODES];
+        let mut action_shapes = [Shape::new(ActionKind::True, 0, 0); NODES];
         let action_nodes = ActionNodes {
             labels: self.input.labels,
             classes: compiled.classes(),
             actions: self.input.actions,
         };
-        number_nodes(&action_nodes, &mut shapes, acts);
+        number_nodes(&action_nodes, &mut action_shapes, acts);
+        let mut shapes = [Shape::new(FormulaKind::True, 0, 0); NODES];
+        let mut nodes = [0u32; NODES];
         number_nodes(&self.formula_nodes(acts), &mut shapes, &mut nodes);
         self.number_items(&nodes, numbers)
     }
 
     // Numbers the nodes and puts all items into the table, with `acts` and `numbers` to work in. Returns how many items
     // there are.
-    fn make_items(&self, acts: &mut [u32], numbers: &mut [u32], out: &mut Compiled) -> usize
-        requires classes { Classes self.now.input.labels.now (classes_in out.old) }
-        requires room { (most_nodes ≤ length acts.old) × (most_nodes ≤ length numbers.old) }
+    // Kept (no plainer): that the table has the labels' multisets is a clause of three functions: the table is lent to
+    // be written, and a type that says it would have to promise besides that it stays the same.
+    fn make_items(
+        &self,
+        acts: &mut [u32; NODES],
+        numbers: &mut [u32; NODES],
+        out: &mut Compiled,
+    ) -> usize
+        requires { Classes self.now.input.labels.now (classes_in out.old) }
         ensures value { result ≡ length (items (input_in self.now.input)) }
         ensures shown_in { let x = input_in self.now.input in ShownIn x (length (items x)) out.new }
         ensures kinds_room { KindsRoom out.new }
@@ -162,13 +156,16 @@ impl<'a> Source<'a> {
     // Puts the priorities into the table: those of the equations, by depth, 0 elsewhere.
     #[tactic(auto, using(crate::proofs::Sources::source_few))]
     fn put_priorities(&self, compiled: &mut Compiled)
-        ensures ranked_by { RankedBy by_depth self.now.input.formula.now self.now.count
+        ensures ranked_by { RankedBy by_depth self.now.input.formula.now self.now.table.now.count
             (zeros (priorities_in compiled.old)) (priorities_in compiled.new) }
         ensures priorities_only { PrioritiesOnly compiled.old compiled.new }
     {
         compiled.priorities.fill(0);
-        self.equations
-            .list_priorities(self.count, &mut compiled.priorities);
+        let equations = Equations {
+            formula: self.input.formula,
+            table: self.table,
+        };
+        equations.list_priorities(self.table.count, &mut compiled.priorities);
     }
 }
 
@@ -187,14 +184,14 @@ impl<'a, 'n> NumberedSource<'a, 'n> {
     // Puts the equations into the table, least or greatest, with the item of its body at the left.
     #[tactic(auto, using(crate::proofs::Sources::source_few))]
     fn put_equations(&self, compiled: &mut Compiled)
-        ensures { ShownIn (input_in self.now.source.input) self.now.source.count compiled.new
+        ensures { ShownIn (input_in self.now.source.input) self.now.source.table.now.count compiled.new
             × ItemsOnly compiled.old compiled.new × KindsRoom compiled.new }
     {
-        let table = self.source.equations.table;
-        for equation in 0..self.source.count {
+        let table = self.source.table;
+        for equation in 0..table.count {
             let body = table.body_of(equation);
             let item = Item {
-                kind: kind_of_equation(table.is_least(equation)),
+                kind: table.operator_of(equation),
                 left: self.numbers[body],
                 right: 0,
             };
@@ -214,12 +211,7 @@ impl<'a, 'n> NumberedSource<'a, 'n> {
         let nodes = self.source.formula_nodes(self.acts);
         for node in first_body_node(formula)..at(formula, 0) {
             let shape = nodes.shape_in_body(self.numbers, node);
-            let item = Item {
-                kind: FormulaKind::of(shape.kind),
-                left: shape.left,
-                right: shape.right,
-            };
-            put_entry(compiled, at(self.numbers, node), item);
+            put_entry(compiled, at(self.numbers, node), shape);
         }
     }
 }
@@ -237,15 +229,10 @@ pub fn compile(input: &Input<'_>, compiled: &mut Compiled) -> usize
     let mut table = EquationTable::blank();
     let mut acts = [0u32; NODES];
     let mut numbers = [0u32; NODES];
-    let count = table.list_equations(input.formula);
-    let equations = Equations {
-        formula: input.formula,
-        table: &table,
-    };
+    table.list_equations(input.formula);
     let source = Source {
         input: *input,
-        equations,
-        count,
+        table: &table,
     };
     let items = source.make_items(&mut acts, &mut numbers, compiled);
     source.put_priorities(compiled);

@@ -37,6 +37,14 @@ pub fn owner_of(kind: FormulaKind) -> Player
     }
 }
 
+// The owner, by the word of a kind; a word past the last kind counts as that one.
+#[tactic(auto, using(crate::proofs::Past::owner_past))]
+pub fn owner_of_word(word: u32) -> Player
+    ensures { result ≡ kind_owner word }
+{
+    owner_of(FormulaKind::of(word))
+}
+
 // How many edges stay at the state, where the kind is no constant and no modality.
 // Kept (rule): 2 for a constant too, as was promised of every kind; callers ask `is_constant` of it first.
 pub fn operand_count(kind: FormulaKind) -> usize
@@ -50,4 +58,12 @@ pub fn operand_count(kind: FormulaKind) -> usize
         | FormulaKind::Greatest
         | FormulaKind::Reference => 1,
     }
+}
+
+// The same by the word of a kind, as `owner_of_word`.
+#[tactic(auto, using(crate::proofs::Past::operands_past))]
+pub fn operand_count_of_word(word: u32) -> usize
+    ensures { (word < 4 → result ≡ 2) × (4 ≤ word → result ≡ 1) }
+{
+    operand_count(FormulaKind::of(word))
 }

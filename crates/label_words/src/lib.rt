@@ -30,6 +30,8 @@ fn check_numbers(labels: &[u32]) -> Result<(), Fault>
 }
 
 // The most labels, and the most actions that they have together.
+// Kept (no plainer): crate `compiled` has 4,096 too, as the length of its tables: the checks would stand on that crate
+// for this number alone.
 const MOST_LABELS: usize = 4_096;
 
 const MOST_ACTIONS: usize = 16_384;

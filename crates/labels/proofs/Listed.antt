@@ -1,71 +1,79 @@
--- The values at some places as a list: what is counted and summed at the places is counted and summed in the list.
--- Assumes nothing.
-use mathlib.Core.Path.{◌≡◌, refl, sym, ap, ◌∙◌}
-use mathlib.Core.Logic.{inl, inr}
+-- Lists in which each number occurs equally often, and what the code counts and sums of a list. Assumes nothing.
+use mathlib.Core.Path.{◌≡◌, refl, sym, ◌∙◌}
+use mathlib.Core.Logic.{inl, inr, ◌↔◌}
+use mathlib.Core.Bool.{Bool, true}
 use mathlib.Core.List.{List, [], ◌∷◌, map}
-use Prim.Native.Nat.{ℕ, zero, suc, ◌+◌, ◌≤◌, ◌<◌}
+use Prim.Native.Nat.{ℕ}
 use native.Mathlib.Omega.{arith}
 use lib.Dec.{eqb}
 use lib.ListN.{length}
-use Rattle.rules.specs.Lists.{In, one, sum, tally, occurrences}
+use borrow.Author.Tests.{eq-eqb, eqb-true}
+use Rattle.std.specs.List.{sum_by, list_all}
+use Rattle.std.proofs.lemmas.List.Sums.{sum_by-cons}
+use Rattle.rules.specs.Lists.{In, one, sum, occurrences}
+use Rattle.rules.specs.Labels.{same_label}
 use Rattle.lists.proofs.Occurrences.{alike_sums, alike_all}
-use Rattle.labels.specs.Marks.{sum_over}
+use Rattle.lists.proofs.Tests.{and-true}
+use Rattle.labels.specs.Stretches.{SameOccurrences, ActionsOf}
+use Rattle.labels.proofs.Counts.{flags}
+use Rattle.labels.proofs.Alike.{same_times, times_same}
 
--- the value at the last place first
-unfoldable values : (ℕ → ℕ) → ℕ → ℕ → List ℕ
-values g p zero = []
-values g p (suc n) = g (p + n) ∷ values g p n
+-- ---- sums over the list
 
-ones : (p n : ℕ) → sum_over (λ i. 1) p n ≡ n
-unfolding sum_over
-ones p zero = refl
-ones p (suc n) = omega (arith, ones p n)
+pub occurs_summed : (m : ℕ) (xs : List ℕ) → sum_by (λ x. one (eqb x m)) xs ≡ occurrences eqb m xs
+unfolding occurrences
+occurs_summed m [] = refl
+occurs_summed m (x ∷ xs) = omega (arith, sum_by-cons (λ y. one (eqb y m)) x xs, occurs_summed m xs)
 
-module _ (g : ℕ → ℕ) where
-  values_count : (z p n : ℕ) → tally (λ i. eqb (g i) z) p n ≡ occurrences eqb z (values g p n)
-  unfolding values tally occurrences
-  values_count z p zero = refl
-  values_count z p (suc n) = ap (λ (k : ℕ). k + one (eqb (g (p + n)) z)) (values_count z p n)
+summed : (g : ℕ → ℕ) (xs : List ℕ) → sum_by g xs ≡ sum (map g xs)
+unfolding sum
+summed g [] = refl
+summed g (x ∷ xs) = omega (arith, sum_by-cons g x xs, summed g xs)
 
-  values_sum : (w : ℕ → ℕ) (p n : ℕ) → sum_over (λ i. w (g i)) p n ≡ sum (map w (values g p n))
-  unfolding values sum_over sum
-  values_sum w p zero = refl
-  values_sum w p (suc n) = omega (arith, values_sum w p n)
+ones : (xs : List ℕ) → sum (map (λ x. 1) xs) ≡ length xs
+unfolding sum
+ones [] = refl
+ones (x ∷ xs) = omega (arith, ones xs)
 
-  values_length : (p n : ℕ) → length (values g p n) ≡ n
-  unfolding values
-  values_length p zero = refl
-  values_length p (suc n) = ap suc (values_length p n)
+-- ---- each number equally often
 
-  values-in : (z p n : ℕ) → In z (values g p n) → (i : ℕ) × (p ≤ i) × (i < p + n) × (g i ≡ z)
-  unfolding values
-  values-in z p zero m = absurd m
-  values-in z p (suc n) (inl e) = (p + n, omega arith, omega arith, sym e)
-  values-in z p (suc n) (inr m) = let r = values-in z p n m in (r.0, r.1, omega (arith, r.2), r.3)
+module _ (xs ys : List ℕ) where
+  pub same_sums : (g : ℕ → ℕ) → SameOccurrences xs ys → sum_by g xs ≡ sum_by g ys
+  same_sums g h = summed g xs ∙ alike_sums g xs ys h ∙ sym (summed g ys)
 
-  -- each value occurs at the n places from p on as often as at the k places from q on
-  module _ (p n q k : ℕ) where
-    abbrev Alike : ℕ → Type 0
-    Alike z = tally (λ i. eqb (g i) z) p n ≡ tally (λ i. eqb (g i) z) q k
+  same_lengths : SameOccurrences xs ys → length xs ≡ length ys
+  same_lengths h = sym (ones xs) ∙ alike_sums (λ x. 1) xs ys h ∙ ones ys
 
-    pub positions_sums : ((z : ℕ) → Alike z) → (w : ℕ → ℕ) → sum_over (λ i. w (g i)) p n ≡ sum_over (λ i. w (g i)) q k
-    positions_sums h w =
-        values_sum w p n
-        ∙ alike_sums w (values g p n) (values g q k) (λ z. sym (values_count z p n) ∙ h z ∙ values_count z q k)
-        ∙ sym (values_sum w q k)
+  abbrev pub CountedAlike : ℕ → Bool
+  CountedAlike a = eqb (occurrences eqb a xs) (occurrences eqb a ys)
 
-    pub positions_number : ((z : ℕ) → Alike z) → n ≡ k
-    positions_number h = sym (ones p n) ∙ positions_sums h (λ z. 1) ∙ ones q k
+  counted_in : (zs : List ℕ) → list_all CountedAlike zs ≡ true → (z : ℕ) → In z zs → CountedAlike z ≡ true
+  counted_in [] h z i = absurd i
+  counted_in (x ∷ zs) h z (inl e) = rw e (and-true (CountedAlike x) (list_all CountedAlike zs) h).0
+  counted_in (x ∷ zs) h z (inr i) = counted_in zs (and-true (CountedAlike x) (list_all CountedAlike zs) h).1 z i
 
-    -- it is enough to look at the values of the one, where there are as many of the other
-    pub positions-all : n ≡ k → ((i : ℕ) → p ≤ i → i < p + n → Alike (g i)) → (z : ℕ) → Alike z
-    positions-all e h z =
-        values_count z p n
-        ∙ alike_all (values g p n) (values g q k) (values_length p n ∙ e ∙ sym (values_length q k)) there z
-        ∙ sym (values_count z q k)
-      where
-        there : (x : ℕ) → In x (values g p n) → occurrences eqb x (values g p n) ≡ occurrences eqb x (values g q k)
-        there x m =
-            let r = values-in x p n m in
-            let a = h r.0 r.1 r.2 in
-            sym (values_count x p n) ∙ (rw r.3 at a) ∙ values_count x q k
+  counted_all : SameOccurrences xs ys → (zs : List ℕ) → list_all CountedAlike zs ≡ true
+  counted_all h [] = refl
+  counted_all h (x ∷ zs) = rw (eq-eqb _ _ (h x)) (counted_all h zs)
+
+  -- of lists of one length the numbers of the one tell
+  pub lengths_agree : (r : Bool) → r ≡ list_all CountedAlike xs → length xs ≡ length ys
+      → (r ≡ true) ↔ SameOccurrences xs ys
+  lengths_agree r e k = (
+    λ t. alike_all xs ys k (λ z i. eqb-true _ _ (counted_in xs (sym e ∙ t) z i)),
+    λ h. e ∙ counted_all h xs,
+  )
+
+  pub lengths_differ : (¬ (length xs ≡ length ys)) → (eqb (length xs) (length ys) ≡ true) ↔ SameOccurrences xs ys
+  lengths_differ d = (λ t. absurd (d (eqb-true _ _ t)), λ h. absurd (d (same_lengths h)))
+
+-- ---- the actions of two labels
+
+module _ (ls : List ℕ) (l m : ℕ) (xs ys : List ℕ) (own : ActionsOf ls l xs) (other : ActionsOf ls m ys) where
+  pub same_listed : same_label ls l m ≡ true → SameOccurrences xs ys
+  same_listed h a = own.times a ∙ same_times ls l m h a ∙ sym (other.times a)
+
+  pub listed_same : (r : Bool) → (r ≡ true) ↔ SameOccurrences xs ys → r ≡ same_label ls l m
+  listed_same r h =
+      flags r (same_label ls l m) (λ t. times_same ls l m (λ a. sym (own.times a) ∙ h.0 t a ∙ other.times a))
+      (λ t. h.1 (same_listed t))

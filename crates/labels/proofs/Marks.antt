@@ -2,23 +2,22 @@
 use mathlib.Core.Path.{◌≡◌, refl, sym, ap, ◌∙◌}
 use mathlib.Core.Bool.{Bool, true, false, true≢false}
 use mathlib.Core.List.{List}
-use Prim.Native.Nat.{ℕ, suc, ◌+◌, ◌-◌, ◌*◌, ◌%◌, ◌≤◌, ◌<◌}
+use Prim.Native.Nat.{ℕ, ◌+◌, ◌*◌, ◌%◌, ◌≤◌, ◌<◌}
 use native.Mathlib.Decide.{ℕ_discrete}
 use native.Mathlib.Nat.{mod-lt}
 use native.Mathlib.Omega.{arith}
+use borrow.Author.Tests.{eq-eqb}
 use lib.Dec.{eqb}
-use lib.ListN.{length, set, take}
+use lib.ListN.{length, get_or, set, take}
 use lib.Seq.{get_or-set_same, get_or-set_other, get_or-take, length-take-le}
-use borrow.Author.Tests.{eq-eqb, ne_eqb}
-use Rattle.rules.specs.Lists.{word, one, tally}
-use Rattle.rules.specs.Labels.{action_at, same_label}
+use Rattle.std.specs.List.{sum_by, list_any}
+use Rattle.std.proofs.lemmas.List.Folds.{list_any_at}
+use Rattle.std.proofs.lemmas.List.Sums.{sum_by-le}
+use Rattle.rules.specs.Lists.{word}
+use Rattle.rules.specs.Labels.{same_label}
 use Rattle.lists.proofs.Products.{wide, scaled_fits}
-use Rattle.lists.proofs.Tallies.{tally_cong}
-use Rattle.labels.specs.Stretches.{times_in}
-use Rattle.labels.specs.Marks.{stirred, weight, sum_over, weight_in, MarkOf, Marked, StartsKnown, MarksTell}
-use Rattle.labels.proofs.Counts.{tally_next, tally_none}
-use Rattle.labels.proofs.Listed.{positions_sums}
-use Rattle.labels.proofs.Stretched.{same_in}
+use Rattle.labels.specs.Marks.{stirred, weight, MarkOf, Marked, StartsKnown, MarksTell}
+use Rattle.labels.proofs.Listed.{same_sums, same_listed}
 
 -- ---- the sum of the weights, as the code makes it
 
@@ -33,30 +32,18 @@ weight_below a = scaled_fits (stirred a) (stirred a) (stirred_below a) (stirred_
 pub square_fits : (a : ℕ) → stirred a * stirred a < 18446744073709551616
 square_fits a = wide (stirred a) (stirred a) (stirred_below a) (stirred_below a)
 
-module _ (ls : List ℕ) (p : ℕ) where
-  pub weights_none : 0 ≡ weight_in ls p p
-  unfolding weight_in sum_over
-  weights_none = let e : 0 ≡ p - p = omega arith in ap (sum_over (λ i. weight (action_at ls i)) p) e
-
-  pub weights_more : (i x w n : ℕ) → p ≤ i → n ≡ weight_in ls p i → x ≡ action_at ls i → w ≡ weight x → n + w ≡ weight_in ls p (i + 1)
-  unfolding weight_in sum_over
-  weights_more i x w n h e y z =
-      let a : suc (i - p) ≡ i + 1 - p = omega arith in
-      let b : i ≡ p + (i - p) = omega arith in
-      let k = ap (sum_over (λ j. weight (action_at ls j)) p) a in
-      let v = z ∙ ap weight y ∙ ap (λ (j : ℕ). weight (action_at ls j)) b in
-      omega (arith, e, k, v)
+pub weights_below : (xs : List ℕ) → sum_by weight xs ≤ length xs * 4294967296
+weights_below xs = sum_by-le weight 4294967296 xs (λ i d l. omega (arith, weight_below (get_or xs i d)))
 
 -- ---- marks
 
 module _ (ls : List ℕ) (l s x m t y : ℕ) (one-mark : MarkOf ls l s x) (other-mark : MarkOf ls m t y) where
   same_mark : same_label ls l m ≡ true → x ≡ y
-  unfolding weight_in times_in
   same_mark h =
-      let a = one-mark.end in
-      let b = other-mark.end in
+      let a = one-mark.actions in
+      let b = other-mark.actions in
       one-mark.sum
-      ∙ ap (λ (n : ℕ). n % 4294967296) (positions_sums (action_at ls) s (a - s) t (b - t) (same_in ls l s a m t b one-mark.stretch other-mark.stretch h) weight)
+      ∙ ap (λ (n : ℕ). n % 4294967296) (same_sums a b weight (same_listed ls l m a b one-mark.own other-mark.own h))
       ∙ sym other-mark.sum
 
   pub other_multiset : (¬ (x ≡ y)) → same_label ls l m ≡ false
@@ -85,33 +72,18 @@ module _ (ls starts marks : List ℕ) where
   -- what is known of a label below n and those before it
   module _ (l n : ℕ) (k : l < n) (h : Marked ls starts marks n) where
     pub starts_known : StartsKnown ls starts l
-    starts_known z u = let m = h z (omega arith) in m.stretch.starts
+    starts_known z u = let m = h z (omega arith) in m.starts
 
     pub marks_tell : MarksTell ls marks l
     marks_tell z u d =
         other_multiset ls z (word starts z) (word marks z) l (word starts l) (word marks l) (h z (omega arith))
         (h l (omega arith)) d
 
--- ---- how many of the first marks are m
+-- ---- the first marks
 
--- the first marks by themselves
-pub marked_front : (marks : List ℕ) (m n : ℕ) → n ≤ length marks
-    → tally (λ i. eqb (word (take n marks) i) m) 0 (length (take n marks)) ≡ tally (λ i. eqb (word marks i) m) 0 n
-marked_front marks m n h =
-    ap (tally (λ i. eqb (word (take n marks) i) m) 0) (length-take-le n marks h)
-    ∙ tally_cong _ _ 0 n (λ i u v. ap (λ z. eqb z m) (get_or-take n marks i 0 (omega arith)))
-
-module _ (marks : List ℕ) (m : ℕ) where
-  pub marked_none : 0 ≡ tally (λ i. eqb (word marks i) m) 0 0
-  unfolding tally
-  marked_none = refl
-
-  pub marked_hit : (i n : ℕ) → n ≡ tally (λ j. eqb (word marks j) m) 0 i → word marks i ≡ m → n + 1 ≡ tally (λ j. eqb (word marks j) m) 0 (i + 1)
-  marked_hit i n e y = omega (arith, tally_next (λ j. eqb (word marks j) m) i, e, ap one (eq-eqb (word marks i) m y))
-
-  pub marked_miss : (i n : ℕ) → n ≡ tally (λ j. eqb (word marks j) m) 0 i → (¬ (word marks i ≡ m)) → n ≡ tally (λ j. eqb (word marks j) m) 0 (i + 1)
-  marked_miss i n e y = omega (arith, tally_next (λ j. eqb (word marks j) m) i, e, ap one (ne_eqb (word marks i) m y))
-
-  pub none_marked : (n : ℕ) → tally (λ i. eqb (word marks i) m) 0 n ≡ 0 → (z : ℕ) → z < n → ¬ (word marks z ≡ m)
-  none_marked n h z u e =
-      true≢false (sym (eq-eqb (word marks z) m e) ∙ tally_none (λ i. eqb (word marks i) m) 0 n h z (omega arith) (omega arith))
+-- none of the first n marks is m
+pub none_marked : (marks : List ℕ) (m n : ℕ) → n ≤ length marks → list_any (λ y. eqb y m) (take n marks) ≡ false
+    → (z : ℕ) → z < n → ¬ (word marks z ≡ m)
+none_marked marks m n h k z u e =
+    true≢false (sym (list_any_at (λ y. eqb y m) (take n marks) z 0 (omega (arith, length-take-le n marks h))
+    (eq-eqb _ m (get_or-take n marks z 0 u ∙ e))) ∙ k)

@@ -2,15 +2,16 @@
 use mathlib.Core.Path.{◌≡◌, refl, sym, ◌∙◌}
 use mathlib.Core.Bool.{true, false}
 use mathlib.Core.List.{List}
-use Prim.Native.Nat.{ℕ, ◌+◌, ◌≤◌, ◌<◌}
+use Prim.Native.Nat.{ℕ, ◌≤◌, ◌<◌}
 use native.Mathlib.Decide.{ℕ_discrete}
 use native.Mathlib.Omega.{arith}
 use lib.Dec.{eqb}
-use lib.ListN.{length, set}
+use lib.ListN.{length, set, take}
 use lib.Seq.{get_or-set_same, get_or-set_other}
 use Rattle.std.specs.Option.{MatchOption, unwrap_or}
 use Rattle.std.proofs.Common.{Option, None, Some}
-use Rattle.rules.specs.Lists.{word, tally}
+use Rattle.std.specs.List.{list_any}
+use Rattle.rules.specs.Lists.{word}
 use Rattle.rules.specs.Labels.{same_label, multiset}
 use Rattle.lists.proofs.Places.{seek_at, seek-nowhere}
 use Rattle.labels.specs.Marks.{MarksTell}
@@ -43,7 +44,7 @@ lowest_searched ls l None none = lowest_itself ls l l refl (λ z u. none z (omeg
 lowest_searched ls l (Some k) (a, b, same, none) = lowest_found ls l k b (λ z u. none z (omega arith) u) same
 
 -- l itself if no label before it has its mark
-pub mark_alone : (ls marks : List ℕ) (l times : ℕ) → MarksTell ls marks l
-    → times ≡ tally (λ i. eqb (word marks i) (word marks l)) 0 l → times ≡ 0 → l ≡ multiset ls l
-mark_alone ls marks l times h e none =
-    lowest_itself ls l l refl (λ z u. h z u (none_marked marks (word marks l) l (sym e ∙ none) z u))
+pub mark_alone : (ls marks : List ℕ) (l : ℕ) → l ≤ length marks → MarksTell ls marks l
+    → list_any (λ y. eqb y (word marks l)) (take l marks) ≡ false → l ≡ multiset ls l
+mark_alone ls marks l k h none =
+    lowest_itself ls l l refl (λ z u. h z u (none_marked marks (word marks l) l k none z u))

@@ -1,9 +1,10 @@
 -- Marks of labels: labels of one multiset have one mark, so that only labels with equal marks need to be compared.
 -- Assumes nothing: these are definitions.
-use Rattle.std.specs.Prelude.{◌≡◌, false, List, ℕ, zero, suc, ◌+◌, ◌-◌, ◌*◌, ◌/◌, ◌%◌, ◌^◌, ◌≤◌, ◌<◌}
+use Rattle.std.specs.Prelude.{◌≡◌, false, List, ℕ, ◌+◌, ◌*◌, ◌/◌, ◌%◌, ◌^◌, ◌≤◌, ◌<◌}
+use Rattle.std.specs.List.{sum_by}
 use Rattle.rules.specs.Lists.{word}
-use Rattle.rules.specs.Labels.{action_at, same_label}
-use Rattle.labels.specs.Stretches.{Starts, Stretch}
+use Rattle.rules.specs.Labels.{same_label}
+use Rattle.labels.specs.Stretches.{Starts, ActionsOf}
 
 -- an action's number, stirred: a number below 2^32
 unfoldable pub stirred : ℕ → ℕ
@@ -13,20 +14,12 @@ stirred a = (a * 2_654_435_761 + 1_013_904_223) % 2 ^ 32
 unfoldable pub weight : ℕ → ℕ
 weight a = stirred a * stirred a / 2 ^ 32
 
--- the sum of g over the places p, p + 1, .. (n of them)
-unfoldable pub sum_over : (ℕ → ℕ) → ℕ → ℕ → ℕ
-sum_over g p zero = 0
-sum_over g p (suc n) = sum_over g p n + g (p + n)
-
--- the weights of the actions from place p up to q
-unfoldable pub weight_in : List ℕ → (p q : ℕ) → ℕ
-weight_in ls p q = sum_over (λ i. weight (action_at ls i)) p (q - p)
-
 -- label l starts at place s and has the mark m
 pub record MarkOf (ls : List ℕ) (l s m : ℕ) : Type 0 where
-  pub end : ℕ
-  pub stretch : Stretch ls l s end
-  pub sum : m ≡ weight_in ls s end % 2 ^ 32
+  pub starts : Starts ls l s
+  pub actions : List ℕ
+  pub own : ActionsOf ls l actions
+  pub sum : m ≡ sum_by weight actions % 2 ^ 32
 
 -- the entries of the first n labels are their starts and their marks
 abbrev pub Marked : (ls starts marks : List ℕ) (n : ℕ) → Type 0

@@ -2,44 +2,43 @@
 // which labels of one multiset share: only where marks are equal the actions are counted.
 #![tactic(auto)]
 
-ghost use Rattle.std.specs.Prelude.{◌≡◌, ℕ, ◌%◌, ◌^◌, ◌≤◌, ◌<◌, eqb, length};
-ghost use Rattle.rules.specs.Lists.{word, tally};
-ghost use Rattle.rules.specs.Labels.{label_count, action_count, label_at, action_at, same_label, multiset};
+ghost use Rattle.std.specs.Prelude.{◌≡◌, true, ◌↔◌, ◌+◌, ◌%◌, ◌^◌, ◌≤◌, ◌<◌, eqb, length};
+ghost use Rattle.std.specs.List.{sum_by};
+ghost use Rattle.rules.specs.Lists.{occurrences};
+ghost use Rattle.rules.specs.Labels.{label_count, action_count, label_at, same_label, multiset};
 ghost use Rattle.tables.specs.Good.{GoodLabels};
 ghost use Rattle.labels.specs.Classes.{Classes};
-ghost use Rattle.labels.specs.Stretches.{times_in, covered_in, Within, Starts, Stretch, StretchOf};
-ghost use Rattle.labels.specs.Marks.{weight, weight_in, Marked, StartsKnown, MarksTell};
+ghost use Rattle.labels.specs.Stretches.{Starts, Stretch, SameOccurrences, ActionsOf};
+ghost use Rattle.labels.specs.Marks.{weight, Marked, StartsKnown, MarksTell};
 
-// How many labels there are at most.
-const LABELS: usize = 4096;
+use compiled::LABELS;
 
+// Where each label starts in the list of the labels' actions.
 type LabelStarts = [u32; LABELS];
 
-// How often a word is among these. The loop never ends early and counts in 32 bits, the size of a word, so that the
-// compiler can compare several at once.
-// Kept (speed): `filter(..).count()` counts in 64 bits, so fewer words are compared at once.
+// How often a word is among these: a sum in 32 bits, the size of a word, of which the compiler makes four comparisons
+// at once.
+// Kept (speed): of `filter(..).count()` it makes one at a time: among 4,096 words that takes 7 times as long.
 fn times_among(words: &[u32], one: u32) -> u32
     requires { length words.now ≤ 16_384 }
-    ensures { result ≡ tally (λ i. eqb (word words.now i) one) 0 (length words.now) }
+    ensures { result ≡ occurrences eqb one words.now }
 {
-    let mut times: u32 = 0;
-    for other in words {
-        if *other == one {
-            times += 1;
-        }
-    }
-    times
+    words.iter().map(|other| u32::from(*other == one)).sum()
 }
 
-// The places from `from` up to `to` in the list of the labels' actions.
-// Kept (no plainer): where places lie is said of the labels, which a `Places` does not hold.
-#[derive(Clone, Copy)]
-struct Places {
-    from: usize,
-    to: usize,
+// Are these the same multiset? If both are equally many, it is enough to count those of the first.
+fn same_multiset(own: &[u32], other: &[u32]) -> bool
+    requires { (length own.now ≤ 16_384) × (length other.now ≤ 16_384) }
+    ensures { (result ≡ true) ↔ SameOccurrences own.now other.now }
+{
+    own.len() == other.len()
+        && own
+            .iter()
+            .all(|one| times_among(own, *one) == times_among(other, *one))
 }
 
 // The words of the labels, which have passed the checks, lent.
+// Kept (rule): words, in which lengths and actions stand one behind the other: document 01 lays them out so.
 #[derive(Clone, Copy)]
 struct Labels<'a> {
     words: &'a [u32],
@@ -69,34 +68,6 @@ impl<'a> Labels<'a> {
         self.words[2 + place]
     }
 
-    // The action at a place.
-    fn action_at(self, place: usize) -> u32
-        requires { place < action_count self.words.now }
-        ensures { result ≡ action_at self.entry.words.now place }
-    {
-        self.words[2 + self.action_count() + place]
-    }
-
-    // How often `action` occurs at the places.
-    fn times_in(self, places: Places, action: u32) -> u32
-        requires { Within self.words.now places }
-        ensures { result ≡ times_in self.entry.words.now places.from places.to action }
-    {
-        let first = 2 + self.action_count();
-        times_among(&self.words[first + places.from..first + places.to], action)
-    }
-
-    // Does each action at the places `own` occur there as often as at the places `other`?
-    fn covers(self, own: Places, other: Places) -> bool
-        requires { Within self.words.now own × Within self.words.now other }
-        ensures { result ≡ covered_in self.entry.words.now own other }
-    {
-        (own.from..own.to).all(|place| {
-            let action = self.action_at(place);
-            self.times_in(own, action) == self.times_in(other, action)
-        })
-    }
-
     // The place past the actions of a label, which begin at `from`.
     fn stretch_end(self, from: usize, label: u32) -> usize
         requires { Starts self.words.now label from }
@@ -108,26 +79,15 @@ impl<'a> Labels<'a> {
             .unwrap_or(count)
     }
 
-    // Are two labels, whose places are given, the same multiset? If both have equally many actions, it is enough to
-    // count those of the first.
-    fn same_label(self, own: Places, other: Places) -> bool
-        requires { Within self.words.now own × Within self.words.now other }
-        ensures { (l m : ℕ) → StretchOf self.entry.words.now l own → StretchOf self.entry.words.now m other
-            → result ≡ same_label self.entry.words.now l m }
+    // The actions of a label, which begin at `from`.
+    fn actions_from(self, from: usize, label: u32) -> &'a [u32]
+        requires { Starts self.words.now label from }
+        ensures { ActionsOf self.entry.words.now label result.now
+            × Starts self.entry.words.now (label + 1) (from + length result.now) }
     {
-        own.to - own.from == other.to - other.from && self.covers(own, other)
-    }
-
-    // The mark of the label that stands at the places.
-    fn mark_of(self, places: Places) -> u32
-        requires { Within self.words.now places }
-        ensures { result ≡ weight_in self.entry.words.now places.from places.to % 2 ^ 32 }
-    {
-        let mut sum: u64 = 0;
-        for place in places.from..places.to {
-            sum += weight_of(self.action_at(place));
-        }
-        (sum % 4294967296) as u32
+        let first = 2 + self.action_count();
+        let end = self.stretch_end(from, label);
+        &self.words[first + from..first + end]
     }
 }
 
@@ -141,6 +101,15 @@ fn weight_of(action: u32) -> u64
     stirred * stirred / 4294967296
 }
 
+// The mark of a label that has these actions.
+fn mark_of(actions: &[u32]) -> u32
+    requires { length actions.now ≤ 16_384 }
+    ensures { result ≡ sum_by weight actions.now % 2 ^ 32 }
+{
+    let sum: u64 = actions.iter().map(|action| weight_of(*action)).sum();
+    (sum % 4294967296) as u32
+}
+
 // Writes where each label starts, and its mark.
 // Kept (rule): two arrays side by side. The marks stand in the table that becomes that of the multisets: memory is
 // fixed, and an array of both would be 16 KB more of the stack.
@@ -150,11 +119,11 @@ fn mark_labels(labels: Labels<'_>, starts: &mut LabelStarts, marks: &mut [u32])
 {
     let mut from: usize = 0;
     for label in 0..labels.count() {
-        let to = labels.stretch_end(from, label);
-        let mark = labels.mark_of(Places { from, to });
+        // Kept (no plainer): two tables are written at one label, and the next label begins where this one ends.
+        let actions = labels.actions_from(from, label);
         starts[label as usize] = from as u32;
-        marks[label as usize] = mark;
-        from = to;
+        marks[label as usize] = mark_of(actions);
+        from += actions.len();
     }
 }
 
@@ -173,33 +142,32 @@ struct MarkedLabels<'a> {
 }
 
 impl<'a> MarkedLabels<'a> {
-    // The places of the label or of a lower one.
-    fn places_of(self, lower: u32) -> Places
+    // The actions of the label or of a lower one.
+    fn actions_of(self, lower: u32) -> &'a [u32]
         requires { lower ≤ self.label }
-        ensures { StretchOf self.entry.labels.words.now lower result }
+        ensures { ActionsOf self.entry.labels.words.now lower result.now }
     {
         let from = self.starts[lower as usize] as usize;
-        let to = self.labels.stretch_end(from, lower);
-        Places { from, to }
+        self.labels.actions_from(from, lower)
     }
 
-    // Is a lower label the same multiset as the label, whose places are given?
-    fn same_as(self, lower: u32, places: Places) -> bool
+    // Is a lower label the same multiset as the label, whose actions are given?
+    fn same_as(self, lower: u32, actions: &[u32]) -> bool
         requires lower_label { lower < self.label }
-        requires stretch { StretchOf self.labels.words.now self.label places }
+        requires own { ActionsOf self.labels.words.now self.label actions.now }
         ensures { result ≡ same_label self.entry.labels.words.now lower self.entry.label }
     {
         self.marks[lower as usize] == self.marks[self.label as usize]
-            && self.labels.same_label(self.places_of(lower), places)
+            && same_multiset(self.actions_of(lower), actions)
     }
 
     // The lowest label with the label's multiset.
     fn lowest_same(self) -> u32
         ensures { result ≡ multiset self.entry.labels.words.now self.entry.label }
     {
-        let places = self.places_of(self.label);
+        let actions = self.actions_of(self.label);
         (0..self.label)
-            .find(|lower| self.same_as(*lower, places))
+            .find(|lower| self.same_as(*lower, actions))
             .unwrap_or(self.label)
     }
 
@@ -208,7 +176,8 @@ impl<'a> MarkedLabels<'a> {
         ensures { result ≡ multiset self.entry.labels.words.now self.entry.label }
     {
         let at = self.label as usize;
-        if times_among(&self.marks[..at], self.marks[at]) == 0 {
+        let marked_before = self.marks[..at].contains(&self.marks[at]);
+        if !marked_before {
             return self.label;
         }
         self.lowest_same()
@@ -235,6 +204,8 @@ fn classes_of_marks(labels: Labels<'_>, starts: &LabelStarts, classes: &mut [u32
 }
 
 // Writes the multiset of each label into the table.
+// Kept (rule): that the table has room is a clause here and in the two functions that fill it: a table of LABELS words,
+// which would need none, asks more of callers.
 pub fn label_classes(labels: &[u32], classes: &mut [u32])
     requires good_labels { GoodLabels labels.now }
     requires labels_in_bounds { label_count labels.now ≤ length classes.old }

@@ -69,6 +69,8 @@ fn nodes(rt: &impl Print, count: usize) -> io::Result<()>
 }
 
 // A row of so many action formulas `true`.
+// Kept (no plainer): not one function with `nodes`: each fills another field of the input; what they share are `filled`
+// and `attempt`.
 fn row(rt: &impl Print, count: usize) -> io::Result<()>
     requires { count ≤ 1025 }
 {

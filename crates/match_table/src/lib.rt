@@ -15,7 +15,7 @@ use matching::match_action_formula;
 use words::{NODES, at};
 
 // How many answers the rows have in all.
-const ROW_ANSWERS: usize = 16384;
+pub const ROW_ANSWERS: usize = 16384;
 
 // The count of the rows is a byte.
 const MOST_ROWS: u8 = 255;
@@ -28,23 +28,24 @@ pub struct ActionWords<'a> {
     ghost good: { GoodLabels labels.now × GoodActions (label_count labels.now) actions.now },
 }
 
-#[derive(Drop)]
+#[derive(Clone, Copy)]
 pub struct MatchRows {
     // The row of a node of the action formulas, if it has one.
-    numbers: [Option<u8>; NODES],
+    pub numbers: [Option<u8>; NODES],
     // How many rows are given.
     // Kept (rule): there is no heap, so no Vec: the array of the rows is filled from its front.
-    given: u8,
+    pub given: u8,
     // The rows, one after the other.
     // Kept (no plainer): flat, for how long a row is, is known at run time only.
-    rows: [bool; ROW_ANSWERS],
+    pub rows: [bool; ROW_ANSWERS],
 }
 
 // ---- making the table
 
 // The words and the labels' multisets: all that a row is made of.
-// Kept (no plainer): not the type `ActionNodes` of crate `alike_nodes`, which does not say that there is a first label
-// word, by which a row's length is read.
+// Kept (no plainer): not the type `ActionNodes` of crate `alike_nodes`: this crate does not stand on that one, and a
+// row is read by `ActionWords` alone (crate `modalities` makes one). In `ActionNodes` it would ask besides that the
+// label words are good.
 #[derive(Clone, Copy)]
 struct RowSource<'a> {
     words: ActionWords<'a>,
@@ -54,11 +55,15 @@ struct RowSource<'a> {
 
 impl<'a> RowSource<'a> {
     // Writes a row: for each label whether the action formula at the node matches it.
+    // Kept (no plainer): the node is a number, here and below: it comes from an item's word, and a struct of the table
+    // and the node would be taken apart for `match_action_formula`.
     fn fill_row(&self, node: usize, row: &mut [bool])
         requires inside { node < size self.now.words.actions.now }
         requires room { length row.old ≡ label_count self.now.words.labels.now }
         ensures { Row self.now.words.labels.now self.now.words.actions.now node row.new }
     {
+        // Kept (proof): the index, where a `zip` with the classes needs none: after a `zip` over `iter_mut` nothing is
+        // known of the words that it went over, and the goal `Row` is left.
         for (label, answer) in row.iter_mut().enumerate() {
             let multiset = at(self.classes, label);
             *answer = match_action_formula(self.words.actions, self.classes, multiset, node);

@@ -9,14 +9,13 @@ use native.Mathlib.Numerals.{add-one}
 use lib.ListN.{length, get_or, set, length-append, get_or-append}
 use lib.Seq.{get_or-set_same, get_or-set_other, get_or-append_seam}
 use lib.Dec.{eqb}
-use borrow.Author.Tests.{eq-eqb, ne_eqb}
 use denote.Enum.Bare.{sameb}
 use mir.Val.{bool_byte}
 use Rattle.node_kinds.specs.contracts.FormulaKind.{the_type}
 use Rattle.std.proofs.lemmas.List.{map-set, length-map}
 use Rattle.rules.specs.Lists.{word, one}
 use Rattle.rules.specs.Table.{size, kind, operand, formula_node}
-use Rattle.rules.specs.Formula.{least, greatest, Equation, is_fixpoint, placeholder, equations_before, equations, equation_count, equation_of, equation_number}
+use Rattle.rules.specs.Formula.{Operator, least, greatest, Equation, is_fixpoint, placeholder, equations_before, equations, equation_count, equation_of, equation_number}
 use Rattle.rules.specs.Depth.{least_bit}
 use Rattle.node_kinds.specs.Codes.{formula_code}
 use Rattle.node_kinds.specs.declared.FormulaKind.{FormulaKind}
@@ -25,7 +24,7 @@ use Rattle.trees.proofs.Fixpoints.{fixpoint_kind, fixpoint_at, no_fixpoint_below
 use Rattle.trees.proofs.Equations.{number_start, number_start_placeholder, number_more, number_same, equations_least, equations_greatest, equations_below, equations_above, number_monotone, count_number, count_limit}
 use Rattle.modal_equation_system.specs.declared.EquationEntry.{EquationEntry}
 use Rattle.modal_equation_system.specs.declared.EquationTable.{EquationTable}
-use Rattle.modal_equation_system.specs.System.{named, Good, placeholder_entry, link_in, kind_in, body_in, least_in, Link, Linked, Listed}
+use Rattle.modal_equation_system.specs.System.{named, Good, placeholder_entry, link_in, kind_in, body_in, operator_in, Link, Linked, Listed}
 use Rattle.modal_equation_system.specs.Listing.{missing, Shows, Listing, Linkable, LinkBy}
 
 -- ---- how many equations come before a node
@@ -117,7 +116,7 @@ module _ (f : List ℕ) (good : Good f) (v : ℕ) (h : v < size f) where
       let (c, d) = fixpoint_kind f (operand f v) b in
       (linked (operand f v) a).own c d
 
-module _ (f : List ℕ) (good : Good f) (v : ℕ) (h : v < size f) (i : ℕ) (table : EquationTable) (s : Listing f v i table) where
+module _ (f : List ℕ) (good : Good f) (v : ℕ) (h : v < size f) (table : EquationTable) (s : Listing f v table) where
   linked_outer : 8 ≤ kind f v → link_in table (operand f v) ≡ equation_number f (operand f v)
   linked_outer p = fixpoint_link f good v h table s.link p
 
@@ -125,10 +124,10 @@ module _ (f : List ℕ) (good : Good f) (v : ℕ) (h : v < size f) (i : ℕ) (ta
   outer_before p = ((good.formula.nodes v h).refers p).0
 
   -- the numbers of a step fit a word and the table
-  pub number_few : i ≤ 1_024
+  pub number_few : table.count ≤ 1_024
   number_few = omega (arith, s.count, number_fits f good v h)
 
-  pub linkable : (k o : ℕ) → k ≡ kind f v → o ≡ operand f v → Linkable table k o i
+  pub linkable : (k o : ℕ) → k ≡ kind f v → o ≡ operand f v → Linkable table k o
   linkable k o e g =
       record {
         right = λ p q. omega (arith, good.formula.few, (good.formula.nodes v h).right (omega arith) (omega arith));
@@ -137,7 +136,7 @@ module _ (f : List ℕ) (good : Good f) (v : ℕ) (h : v < size f) (i : ℕ) (ta
       }
 
   -- the link that the table and these numbers give is the node's
-  link_node : (k o l : ℕ) → k ≡ kind f v → o ≡ operand f v → LinkBy table k o i l → Link f v l
+  link_node : (k o l : ℕ) → k ≡ kind f v → o ≡ operand f v → LinkBy table k o l → Link f v l
   link_node k o l e g b =
       record {
         right = λ p q. b.right (omega arith) (omega arith) ∙ g;
@@ -168,7 +167,7 @@ not_byte false = refl
 
 pub listing_first : (f : List ℕ) (i : ℕ) (t : EquationTable) (b : Bool) → i ≡ bool_byte (not b) → b ≡ is_fixpoint (formula_node f 0)
     → length t.equations ≡ 1_025
-    → Listing f 0 i (record { links = t.links; kinds = t.kinds; equations = set t.equations 0 placeholder_entry })
+    → Listing f 0 (record { links = t.links; kinds = t.kinds; equations = set t.equations 0 placeholder_entry; count = i })
 unfolding least_bit
 listing_first f i t first e g long =
     record {
@@ -177,8 +176,9 @@ listing_first f i t first e g long =
       kinds = λ u h. absurd (omega arith);
       body = shows_first (λ e. e.body) f (λ j. word (map (λ e. e.body) (set t.equations 0 placeholder_entry)) j)
           (field_set (λ e. e.body) t.equations 0 placeholder_entry (omega arith));
-      operator = shows_first (λ e. least_bit e.operator) f (λ j. word (map (λ e. one e.is_least) (set t.equations 0 placeholder_entry)) j)
-          (field_set (λ e. one e.is_least) t.equations 0 placeholder_entry (omega arith));
+      operator = shows_first (λ e. 7 - least_bit e.operator) f
+          (λ j. word (map (λ e. formula_code e.kind) (set t.equations 0 placeholder_entry)) j)
+          (field_set (λ e. formula_code e.kind) t.equations 0 placeholder_entry (omega arith));
     }
 
 -- ---- a node is listed
@@ -187,7 +187,7 @@ pub byte_of : (b : Bool) → bool_byte b ≡ one b
 byte_of true = refl
 byte_of false = refl
 
-least_bit_of : (k : FormulaKind) (b : Bool) → b ≡ sameb the_type k Least → one b ≡ one (eqb (formula_code k) 6)
+pub least_bit_of : (k : FormulaKind) (b : Bool) → b ≡ sameb the_type k Least → one b ≡ one (eqb (formula_code k) 6)
 least_bit_of True b e = ap one e
 least_bit_of False b e = ap one e
 least_bit_of And b e = ap one e
@@ -206,20 +206,26 @@ pub fixpoint_read : (f : List ℕ) → Good f → (v : ℕ) → v < size f → (
     → eqb (formula_code k / 2) 3 ≡ is_fixpoint (formula_node f v)
 fixpoint_read f good v h k e = fixpoint_named f v h k (kind_read f good v h (kind f v) (formula_code k) refl e)
 
--- the words of node v and of equation i are written
-module _ (f : List ℕ) (good : Good f) (v : ℕ) (h : v < size f) (i : ℕ) (t : EquationTable) (s : Listing f v i t)
-    (k : FormulaKind) (e : formula_code k ≡ kind f v) (link : ℕ) (bit : Bool)
+-- the words of node v and of the equation that may begin there are written
+module _ (f : List ℕ) (good : Good f) (v : ℕ) (h : v < size f) (t : EquationTable) (s : Listing f v t)
+    (k : FormulaKind) (e : formula_code k ≡ kind f v) (link more : ℕ)
     (links_long : length t.links ≡ 1_024) (kinds_long : length t.kinds ≡ 1_024)
     (equations_long : length t.equations ≡ 1_025)
   where
     abbrev entry : EquationEntry
-    entry = record { body = suc v; is_least = bit }
+    entry = record { kind = k; body = suc v }
 
     abbrev listed : EquationTable
-    listed = record { links = set t.links v link; kinds = set t.kinds v k; equations = set t.equations i entry }
+    listed =
+        record {
+          links = set t.links v link;
+          kinds = set t.kinds v k;
+          equations = set t.equations t.count entry;
+          count = t.count + more;
+        }
 
-    few : i < length t.equations
-    few = omega (arith, number_few f good v h i t s)
+    few : t.count < length t.equations
+    few = omega (arith, number_few f good v h t s)
 
     links_next : Link f v link → Linked f (suc v) listed
     links_next l u b = go (ℕ_discrete u v)
@@ -236,42 +242,52 @@ module _ (f : List ℕ) (good : Good f) (v : ℕ) (h : v < size f) (i : ℕ) (t 
         go (no d) = field_kept formula_code t.kinds v k u d ∙ s.kinds u (omega arith)
 
     bodies_kept : Stays (equation_number f v) (body_in t) (body_in listed)
-    bodies_kept j b = field_kept (λ e. e.body) t.equations i entry j (λ (q : j ≡ i). omega (arith, s.count))
+    bodies_kept j b = field_kept (λ e. e.body) t.equations t.count entry j (λ (q : j ≡ t.count). omega (arith, s.count))
 
     body_written : body_in listed (equation_number f v) ≡ suc v
-    body_written = ap (body_in listed) (sym s.count) ∙ field_set (λ e. e.body) t.equations i entry few
+    body_written = ap (body_in listed) (sym s.count) ∙ field_set (λ e. e.body) t.equations t.count entry few
 
-    operators_kept : Stays (equation_number f v) (least_in t) (least_in listed)
-    operators_kept j b = field_kept (λ e. one e.is_least) t.equations i entry j (λ (q : j ≡ i). omega (arith, s.count))
+    operators_kept : Stays (equation_number f v) (operator_in t) (operator_in listed)
+    operators_kept j b =
+        field_kept (λ e. formula_code e.kind) t.equations t.count entry j (λ (q : j ≡ t.count). omega (arith, s.count))
 
-    operator_written : least_in listed (equation_number f v) ≡ one bit
-    operator_written = ap (least_in listed) (sym s.count) ∙ field_set (λ e. one e.is_least) t.equations i entry few
+    operator_written : operator_in listed (equation_number f v) ≡ kind f v
+    operator_written =
+        ap (operator_in listed) (sym s.count) ∙ field_set (λ e. formula_code e.kind) t.equations t.count entry few ∙ e
 
-    listing_suc : (o more : ℕ) → o ≡ operand f v → LinkBy t (formula_code k) o i link → bit ≡ sameb the_type k Least
-        → more ≡ one (eqb (formula_code k / 2) 3)
-        → Listing f (suc v) (i + more) listed
+    listing_suc : (o : ℕ) → o ≡ operand f v → LinkBy t (formula_code k) o link → more ≡ one (eqb (formula_code k / 2) 3)
+        → Listing f (suc v) listed
     unfolding least_bit
-    listing_suc o more g l b m =
-        let shown : one bit ≡ one (eqb (formula_code k) 6) = least_bit_of k bit b in
+    listing_suc o g l m =
         record {
           count = omega (arith, s.count, m ∙ ap one (fixpoint_named f v h k e), number_next f v);
-          link = links_next (link_node f good v h i t s (formula_code k) o link e g l);
+          link = links_next (link_node f good v h t s (formula_code k) o link e g l);
           kinds = kinds_next;
           body = shows_next (λ e. e.body) f v (body_in t) (body_in listed) h bodies_kept (λ q. body_written) (λ q. body_written) s.body;
-          operator = shows_next (λ e. least_bit e.operator) f v (least_in t) (least_in listed) h operators_kept
-              (λ q. operator_written ∙ shown ∙ ap one (eq-eqb (formula_code k) 6 (e ∙ q)))
-              (λ q. operator_written ∙ shown ∙ ap one (ne_eqb (formula_code k) 6 (λ (p : formula_code k ≡ 6). omega arith)))
-              s.operator;
+          operator = shows_next (λ e. 7 - least_bit e.operator) f v (operator_in t) (operator_in listed) h operators_kept
+              (λ q. operator_written ∙ q) (λ q. operator_written ∙ q) s.operator;
         }
 
-    pub listing_next : (o more : ℕ) → o ≡ operand f v → LinkBy t (formula_code k) o i link → bit ≡ sameb the_type k Least
-        → more ≡ one (eqb (formula_code k / 2) 3)
-        → Listing f (v + 1) (i + more)
-        (record { links = set t.links v link; kinds = set t.kinds v k; equations = set t.equations i (record { body = v + 1; is_least = bit }) })
-    listing_next o more g l b m = rw add-one (listing_suc o more g l b m)
+    pub listing_next : (o : ℕ) → o ≡ operand f v → LinkBy t (formula_code k) o link → more ≡ one (eqb (formula_code k / 2) 3)
+        → Listing f (v + 1)
+        (record { links = set t.links v link; kinds = set t.kinds v k; equations = set t.equations t.count (record { kind = k; body = v + 1 }); count = t.count + more })
+    listing_next o g l m = rw add-one (listing_suc o g l m)
 
-pub listing_last : (f : List ℕ) (i : ℕ) (table : EquationTable) → Good f → Listing f (size f) i table
-    → (i ≡ equation_count f) × Listed f table
+-- a least equation has kind 6
+least_shown : (o : Operator) → one (eqb (7 - least_bit o) 6) ≡ least_bit o
+unfolding least_bit
+least_shown least = refl
+least_shown greatest = refl
+
+pub listing_last : (f : List ℕ) (table : EquationTable) → Good f → Listing f (size f) table → Listed f table
 unfolding equation_count equations equation_of equation_number
-listing_last f i table good s =
-    (s.count, record { good = good; link = s.link; kinds = s.kinds; body = s.body; operator = s.operator })
+listing_last f table good s =
+    record {
+      good = good;
+      link = s.link;
+      kinds = s.kinds;
+      body = s.body;
+      operator = λ i h. ap (λ (w : ℕ). one (eqb w 6)) (s.operator i h) ∙ least_shown (equation_of f i).operator;
+      fixpoint = s.operator;
+      count = s.count;
+    }

@@ -1,11 +1,12 @@
 -- The table of the equations of a formula, and what is read off it. Assumes nothing: these are definitions.
-use Rattle.std.specs.Prelude.{◌≡◌, true, List, [], map, ℕ, suc, ◌≤◌, ◌<◌, length}
+use Rattle.std.specs.Prelude.{◌≡◌, List, [], map, ℕ, suc, ◌-◌, ◌≤◌, ◌<◌, length, eqb}
 use Rattle.rules.specs.Lists.{word, one, largest}
 use Rattle.rules.specs.Words.{Input, input_of}
 use Rattle.rules.specs.Table.{size, kind, operand}
 use Rattle.rules.specs.Formula.{equation_count, equation_of, equation_number, formula_tree}
 use Rattle.rules.specs.Depth.{references, contribution, reading, Ranking, least_bit}
 use Rattle.tables.specs.Good.{GoodFormula}
+use Rattle.node_kinds.specs.declared.FormulaKind.TheVariants.{Least}
 use Rattle.node_kinds.specs.Codes.{formula_code}
 use Rattle.modal_equation_system.specs.declared.EquationEntry.{EquationEntry}
 use Rattle.modal_equation_system.specs.declared.EquationTable.{EquationTable}
@@ -25,7 +26,7 @@ pub record Good (f : List ℕ) : Type 0 where
 
 -- the entry of the placeholder
 abbrev pub placeholder_entry : EquationEntry
-placeholder_entry = record { body = 0; is_least = true }
+placeholder_entry = record { kind = Least; body = 0 }
 
 -- ---- what the table has: the links of nodes, their kinds, the first body nodes of equations, their operators
 
@@ -38,9 +39,13 @@ kind_in t v = word (map formula_code t.kinds) v
 abbrev pub body_in : EquationTable → (equation : ℕ) → ℕ
 body_in t i = word (map (λ e. e.body) t.equations) i
 
+-- the word for the kind of its fixpoint
+abbrev pub operator_in : EquationTable → (equation : ℕ) → ℕ
+operator_in t i = word (map (λ e. formula_code e.kind) t.equations) i
+
 -- 1 for a least equation
 abbrev pub least_in : EquationTable → (equation : ℕ) → ℕ
-least_in t i = word (map (λ e. one e.is_least) t.equations) i
+least_in t i = one (eqb (operator_in t i) 6)
 
 -- ---- what they are
 
@@ -56,13 +61,15 @@ abbrev pub Linked : List ℕ → (v : ℕ) (table : EquationTable) → Type 0
 Linked f v t = (u : ℕ) → u < v → Link f u (link_in t u)
 
 -- The table of the equations of f: for each node its link and its kind; for each equation the first node of its body,
--- and 1 if it is a least one
+-- 1 if it is a least one, and the word for its kind; and how many there are
 pub record Listed (f : List ℕ) (table : EquationTable) : Type 0 where
   pub good : Good f
   pub link : Linked f (size f) table
   pub kinds : (v : ℕ) → v < size f → kind_in table v ≡ kind f v
   pub body : (i : ℕ) → i < equation_count f → body_in table i ≡ (equation_of f i).body
   pub operator : (i : ℕ) → i < equation_count f → least_in table i ≡ least_bit (equation_of f i).operator
+  pub fixpoint : (i : ℕ) → i < equation_count f → operator_in table i ≡ 7 - least_bit (equation_of f i).operator
+  pub count : table.count ≡ equation_count f
 
 -- ---- reading
 

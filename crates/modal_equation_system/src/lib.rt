@@ -9,7 +9,7 @@ ghost use Rattle.rules.specs.Formula.{is_fixpoint, equation_count};
 ghost use Rattle.rules.specs.Depth.{depth, by_depth, reading};
 ghost use Rattle.node_kinds.specs.Codes.{formula_code};
 ghost use Rattle.modal_equation_system.specs.System.{formula_only, Good};
-ghost use Rattle.modal_equation_system.specs.System.{placeholder_entry, link_in, kind_in, body_in, least_in};
+ghost use Rattle.modal_equation_system.specs.System.{placeholder_entry, link_in, kind_in, body_in, operator_in, least_in};
 ghost use Rattle.modal_equation_system.specs.System.{Listed, body_reading, RankedBy};
 ghost use Rattle.modal_equation_system.specs.Listing.{Listing, LinkBy, Linkable};
 
@@ -19,8 +19,9 @@ use player::Priority;
 use words::{NODES, at, kind_at};
 
 // Is a node a fixpoint?
-// Kept (no plainer): each function is lent the formula by itself, and asks that it is in order: a struct for that would
-// hold one slice.
+// Kept (no plainer): four functions ask that a formula is in order (`Good`): this one, the two that list below, and
+// `first_body_node` of crate `item_table`. A struct that says it would be made at each call from an `Input`, whose own
+// fact is of the action formulas too, and be taken apart for the reader at once.
 #[tactic(auto, using(crate::proofs::Listing::fixpoint_read))]
 pub fn is_fixpoint_at(formula: &[u32], node: usize) -> bool
     requires good { Good formula.now }
@@ -33,34 +34,36 @@ pub fn is_fixpoint_at(formula: &[u32], node: usize) -> bool
 // ---- the table of the equations
 
 // The most equations: one for each node, and the placeholder.
-const EQUATIONS: usize = NODES + 1;
+pub const EQUATIONS: usize = NODES + 1;
 
-// An equation: the first node of its body, and whether it is a least one.
-// Kept (no plainer): of an equation's operator only this is asked, by `!=` and as 0 or 1.
+// An equation: the kind of its fixpoint, and the first node of its body.
 #[derive(Clone, Copy)]
-struct EquationEntry {
-    body: u32,
-    is_least: bool,
+pub struct EquationEntry {
+    pub kind: FormulaKind,
+    pub body: u32,
 }
 
 impl EquationEntry {
     // The placeholder's entry.
     const PLACEHOLDER: EquationEntry = EquationEntry {
+        kind: FormulaKind::Least,
         body: 0,
-        is_least: true,
     };
 }
 
-#[derive(Drop)]
+#[derive(Clone, Copy)]
 pub struct EquationTable {
     // The link of each node: the right operand of an and or an or, the equation that a fixpoint or a reference stands
     // for.
     // Kept (no plainer): a column of their own, for `alike_nodes` is lent the links as words.
     pub links: [u32; NODES],
     // The kind of each node.
-    kinds: [FormulaKind; NODES],
+    pub kinds: [FormulaKind; NODES],
     // The equations, in their order.
-    equations: [EquationEntry; EQUATIONS],
+    // Kept (rule): there is no heap, so no Vec: the array is filled from its front.
+    pub equations: [EquationEntry; EQUATIONS],
+    // How many there are.
+    pub count: usize,
 }
 
 impl EquationTable {
@@ -73,6 +76,7 @@ impl EquationTable {
             links: [0; NODES],
             kinds: [FormulaKind::True; NODES],
             equations: [EquationEntry::PLACEHOLDER; EQUATIONS],
+            count: 0,
         }
     }
 
@@ -93,6 +97,7 @@ impl EquationTable {
     }
 
     // The first node of an equation's body.
+    // Kept (no plainer): an equation is a number here and below; the bound is that of the array.
     pub fn body_of(&self, equation: usize) -> usize
         requires { equation < 1025 }
         ensures { result ≡ body_in self.now equation }
@@ -100,45 +105,54 @@ impl EquationTable {
         self.equations[equation].body as usize
     }
 
+    // The kind of an equation's fixpoint.
+    pub fn operator_of(&self, equation: usize) -> FormulaKind
+        requires { equation < 1025 }
+        ensures { formula_code result ≡ operator_in self.now equation }
+    {
+        self.equations[equation].kind
+    }
+
     // Is an equation a least one?
+    #[tactic(auto, using(crate::proofs::Listing::least_bit_of))]
     pub fn is_least(&self, equation: usize) -> bool
         requires { equation < 1025 }
         ensures { one result ≡ least_in self.now equation }
     {
-        self.equations[equation].is_least
+        self.operator_of(equation) == FormulaKind::Least
     }
 
-    // The link that a node gets once the nodes before it have theirs. `number` equations come before it.
-    fn link_at(&self, kind: FormulaKind, operand: usize, number: usize) -> u32
-        requires { Linkable self.now (formula_code kind) operand number }
-        ensures { LinkBy self.now (formula_code kind) operand number result }
+    // The link that a node gets once the nodes before it have theirs, and the equations before it are listed.
+    fn link_at(&self, kind: FormulaKind, operand: usize) -> u32
+        requires { Linkable self.now (formula_code kind) operand }
+        ensures { LinkBy self.now (formula_code kind) operand result }
     {
         match kind {
             FormulaKind::And | FormulaKind::Or => operand as u32,
-            FormulaKind::Least | FormulaKind::Greatest => number as u32,
+            FormulaKind::Least | FormulaKind::Greatest => self.count as u32,
             FormulaKind::Reference => self.links[operand],
             FormulaKind::True | FormulaKind::False | FormulaKind::Box | FormulaKind::Diamond => 0,
         }
     }
 
-    // Lists the node at which a reader stands, where `number` equations come before it. Returns how many come before
-    // the next node.
-    fn list_node<'a>(&mut self, reader: FormulaReader<'a>, number: usize) -> usize
+    // Lists the node at which a reader stands.
+    fn list_node<'a>(&mut self, reader: FormulaReader<'a>)
         requires good { Good reader.words.now }
         requires inside { reader.node < size reader.words.now }
-        requires listing { Listing reader.words.now reader.node number self.old }
-        ensures { Listing reader.entry.words.now (reader.entry.node + 1) result self.new }
+        requires listing { Listing reader.words.now reader.node self.old }
+        ensures { Listing reader.entry.words.now (reader.entry.node + 1) self.new }
     {
         let node = reader.node;
         let kind = FormulaKind::of(reader.kind());
-        self.links[node] = self.link_at(kind, reader.operand(), number);
+        self.links[node] = self.link_at(kind, reader.operand());
         self.kinds[node] = kind;
-        // the entry stays only if the node is a fixpoint: else a later node's is written over it
-        self.equations[number] = EquationEntry {
+        // the entry counts only if the node is a fixpoint: else it stands past the equations, and the next node writes
+        // over it
+        self.equations[self.count] = EquationEntry {
+            kind,
             body: node as u32 + 1,
-            is_least: kind == FormulaKind::Least,
         };
-        number + usize::from(kind.is_fixpoint())
+        self.count += usize::from(kind.is_fixpoint());
     }
 
     // Lists the equations of a formula, node by node. Returns how many there are.
@@ -147,14 +161,14 @@ impl EquationTable {
         ensures value { result ≡ equation_count formula.now }
         ensures listed { Listed formula.now self.new }
     {
-        // it stays only if node 0 is no fixpoint
+        // it counts only if node 0 is no fixpoint
         self.equations[0] = EquationEntry::PLACEHOLDER;
-        let mut number = usize::from(!is_fixpoint_at(formula, 0));
+        self.count = usize::from(!is_fixpoint_at(formula, 0));
         let reader = FormulaReader::new(formula);
         for node in 0..at(formula, 0) {
-            number = self.list_node(reader.moved(node), number);
+            self.list_node(reader.moved(node));
         }
-        number
+        self.count
     }
 }
 
@@ -172,6 +186,8 @@ impl<'a> Equations<'a> {
     // by one pointer, so that a call keeps little on the stack.
 
     // Reads the subformula of `node` for `target`, in the body of `equation`.
+    // Kept (no plainer): the equation is a number here and below: that it is one of the formula's could be said by a
+    // struct that has the formula too, and a call is to keep little on the stack.
     #[cycle(read_body_read_equation)]
     #[tactic(auto, using(crate::proofs::Reading::count_few, crate::proofs::Reading::at_leaf, crate::proofs::Reading::at_two, crate::proofs::Reading::at_modal, crate::proofs::Reading::at_target, crate::proofs::Reading::at_outer, crate::proofs::Reading::link_few, crate::proofs::Reading::formula_few))]
     fn read_body(&self, node: usize, equation: usize, target: usize) -> u32
@@ -235,6 +251,8 @@ impl<'a> Equations<'a> {
 
     // Lists the priorities of the first equations, by depth, at the front of a slice, and leaves the rest of it as it
     // is.
+    // Kept (rule): a longer slice may be lent, of which the rest stays; one that has the count as its length would ask
+    // more of a caller.
     pub fn list_priorities(&self, count: usize, priorities: &mut [u32])
         requires few { count ≤ equation_count self.now.formula.now }
         requires room { count ≤ length priorities.old }

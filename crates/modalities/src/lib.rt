@@ -1,7 +1,8 @@
 // The step of a box or a diamond: an edge for each transition of the state whose label matches, once per target.
 // Kept (no plainer): the work slice and its room are two parameters, as crate `settling` says.
-// Kept (no plainer): that the labels lie below a bound is a clause: it is the number of labels in one function and that
-// of the answers in the next, and `Moves` holds neither.
+// Kept (no plainer): that the labels lie below a bound is a clause: it is the number of the system's labels where they
+// are read and decided, and that of the answers where these are looked up, and `Moves` holds neither. A type of moves
+// with answers would serve two functions, and be made at two calls.
 #![tactic(auto)]
 
 ghost use Rattle.std.specs.Prelude.{◌≡◌, List, [], ◌∷◌, ◌++◌, ℕ, ◌≤◌, ◌<◌, eqb, length};
@@ -73,7 +74,7 @@ fn follow(
     operand: Operand<'_>,
 ) -> Result<Counters, NoRoom>
     ghost marks: { ℕ }
-    requires ready { Ready work.old room.vertices room.edges counters × (operand.item.number < 2048)
+    requires ready { Ready work.old room.vertices room.edges counters
         × Raisable work.old room.vertices room.edges marks operand counters }
     requires target { (target < most_states) × (operand.marked_by ≡ State → target < marks) }
     requires answer { label < length answers.now }
@@ -91,6 +92,8 @@ fn follow(
 // How many marks the targets of a step have: one for each vertex that fits, or for each state of the system where the
 // marks past the vertices' are cheap to clear, beside so many transitions, and do not meet the edges of this step, of
 // which there is at most one for each state.
+// Kept (no plainer): `marked_by` tells from this number what the marks go by. A struct of both would be taken apart by
+// the one caller, which clears so many marks before.
 fn mark_count(room: Room, edges: u32, states: u32, transitions: usize) -> u32
     requires { (room.vertices ≤ most_vertices) × (room.edges ≤ most_edges) × (edges ≤ room.edges)
         × (states ≤ most_states) }
@@ -123,7 +126,9 @@ fn marked_by(states: u32, marks: u32) -> MarkedBy
 // time: no label is decided here, and the words of labels and action formulas are no parameters, so that the compiler
 // can keep what the loop needs in registers. The target of the next transition is read before the count of this one's
 // is raised: on some machines a read waits for the place of the store before it.
-// Kept (speed): the index is for that: by `zip` the next target would be read after the store (docs/PERFORMANCE.md).
+// Kept (no plainer): the index: by `zip` with the targets from the second on, the last transition would be followed
+// behind the loop, by a call of its own; by `windows` the last has none. By an iterator advanced beside the loop there
+// would be an Option to ask in place of the index, and its rest to follow in the proof.
 fn follow_all(
     counters: Counters,
     work: &mut [u32],
@@ -134,7 +139,7 @@ fn follow_all(
 ) -> Result<Counters, NoRoom>
     ghost marks: { ℕ }
     requires ready { Ready work.old room.vertices room.edges counters × (operand.start ≡ counters.edges)
-        × (operand.item.number < 2048) × Spacious work.old moves.states room marks operand counters }
+        × Spacious work.old moves.states room marks operand counters }
     requires answers { Below (length answers.now) moves.labels.now }
     ensures { let ks = answered_keys answers.now operand.entry.item.number (moves_in moves.entry) in
         Answer work.old room.vertices room.edges counters (once eqb ks) (tallies ks) work.new result }

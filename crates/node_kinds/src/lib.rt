@@ -27,12 +27,29 @@ pub enum FormulaKind {
     Reference,
 }
 
+// What a node or an item is: its kind, and its operands by their numbers.
+// Kept (rule): operands are numbers of other nodes or items: there is no heap for a tree.
+#[derive(Clone, Copy, PartialEq, Eq, Debug)]
+pub struct Shape<K> {
+    pub kind: K,
+    pub left: u32,
+    pub right: u32,
+}
+
+impl<K> Shape<K> {
+    pub fn new(kind: K, left: u32, right: u32) -> Shape<K>
+        ensures { result ≡ record { kind = kind; left = left; right = right } }
+    {
+        Shape { kind, left, right }
+    }
+}
+
 // A word that stands for no kind.
 #[derive(Clone, Copy, Debug, PartialEq, Eq)]
 pub struct UnknownKind(pub u32);
 
-// Kept (no plainer): two kinds have two lists of words, and no derive reads a kind from its word. What takes a word of no
-// kind for the last one is a function of its own, since a conversion would hide that.
+// Kept (no plainer): two kinds have two lists of words, and no derive reads a kind from its word. What takes a word of
+// no kind for the last one is a function of its own, since a conversion would hide that.
 impl TryFrom<u32> for ActionKind {
     type Error = UnknownKind;
 

@@ -1,6 +1,7 @@
 -- The search for a key: along a stretch of slots, and over all of them from the key's own slot. Assumes nothing.
 use Rattle.std.proofs.Common.{◌≡◌, ℕ, ◌+◌, ◌<◌, ◌≤◌, List, length, subst, arith}
 use native.Mathlib.Decide.{dec_lt, ℕ_discrete}
+use Rattle.std.specs.Prelude.{MatchOption}
 use Rattle.std.specs.declared.option.Option.{Option}
 use Rattle.std.specs.declared.option.Option.TheVariants.{Some, None}
 use Rattle.pairs.specs.declared.Place.{Place}
@@ -106,18 +107,21 @@ module _ (w : List ℕ) (v n k : ℕ) (t : Table w v n) where
   -- ---- by what the calls answered, of which h is the key's own slot
 
   module _ (h : ℕ) (own : h ≡ home) where
-    pub first : (r r₁ : Option Place) (f : Place) → Probed slots h size k r₁ → r₁ ≡ Some f → r ≡ Some f → Finding w v n k r
-    first r r₁ f p e g = rw g (by f (subst (Probed slots h size k) e p))
-      where
-        by : (f : Place) → Probed slots h size k (Some f) → Finding w v n k (Some f)
-        by (Known i) q = known h size i.0 (omega arith) q
-        by (Free p) q = free_first p (subst (λ (x : ℕ). Ends slots x size k p) own q)
+    first : (f : Place) → Probed slots h size k (Some f) → Finding w v n k (Some f)
+    first (Known i) q = known h size i.0 (omega arith) q
+    first (Free p) q = free_first p (subst (λ (x : ℕ). Ends slots x size k p) own q)
 
-    pub second : (r : Option Place) → home < size → (r₁ : Option Place) → Probed slots h size k r₁ → r₁ ≡ None → Probed slots 0 h k r → Finding w v n k r
-    second r b r₁ f e g =
-        by r (subst (λ (x : ℕ). Others slots x size k) own (subst (Probed slots h size k) e f)) (subst (λ (x : ℕ). Probed slots 0 x k r) own g)
+    second : (r : Option Place) → home < size → Others slots h size k → Probed slots 0 h k r → Finding w v n k r
+    second r b f g =
+        by r (subst (λ (x : ℕ). Others slots x size k) own f) (subst (λ (x : ℕ). Probed slots 0 x k r) own g)
       where
         by : (r : Option Place) → Others slots home size k → Probed slots 0 home k r → Finding w v n k r
         by (Some (Known i)) last g = known 0 home i.0 (omega arith) g
         by (Some (Free p)) last g = free_second last p b g
         by None last g = nowhere last g
+
+    -- the second is made if the first found nothing
+    pub found : {P : Type 0} (r₁ r : Option Place) → home < size → Probed slots h size k r₁ → (P → Probed slots 0 h k r)
+        → MatchOption r₁ P (λ f. r ≡ Some f) → Finding w v n k r
+    found (Some f) r b p again e = rw e (first f p)
+    found None r b p again e = second r b p (again e)

@@ -1,5 +1,6 @@
 // The table of known pairs in the lent work slice: looking a pair up, and numbering it.
-// Kept (no plainer): the work slice and its number of vertices are two parameters, as crate `settling` says.
+// Kept (no plainer): for reading, `Slots` holds the work slice and its number of vertices; where the slice is written
+// they are two parameters, as crate `settling` says.
 #![tactic(auto)]
 
 ghost use Rattle.std.specs.Prelude.{◌≡◌, ℕ, ◌+◌, ◌*◌, ◌%◌, ◌^◌, ◌<◌, ◌≤◌, length, MatchOption};
@@ -13,6 +14,8 @@ use player::VertexIndex;
 use work_slice::{Region, put_word, region_word};
 
 // The items have numbers below this: a pair's key is its state times it, plus its item.
+// Kept (no plainer): `compiled` has the number too, as the length of its tables, a `usize`. Neither crate stands on the
+// other: to share it, one would stand on the other for this number alone, and cast it.
 const ITEMS: u32 = 2048;
 
 // Each byte times 2,654,435,761, with everything above 32 bits dropped.
@@ -82,13 +85,14 @@ pub struct ScaledItem<'a> {
     pub number: u32,
     pub product: u32,
     pub multiples: ByteMultiples<'a>,
+    ghost few: { number < 2048 },
     ghost scaled: { product ≡ number * 2654435761 % 2 ^ 32 },
 }
 
 impl<'a> ByteMultiples<'a> {
     // The factor times 2,654,435,761, with everything above 32 bits dropped: a wrapping sum of the multiples of its two
     // bytes.
-    fn product(&self, factor: u32) -> u32
+    pub fn product(&self, factor: u32) -> u32
         requires { factor < 65536 }
         ensures { result ≡ factor * 2654435761 % 2 ^ 32 }
     {
@@ -99,7 +103,7 @@ impl<'a> ByteMultiples<'a> {
 
     // An item's number with its product.
     pub fn scale(self, number: u32) -> ScaledItem<'a>
-        requires { number < 65536 }
+        requires { number < 2048 }
         ensures { result.number ≡ number }
     {
         ScaledItem {
@@ -113,7 +117,7 @@ impl<'a> ByteMultiples<'a> {
 impl ScaledItem<'_> {
     // The key of the item's pair with a state.
     fn key_of(&self, state: u32) -> u32
-        requires { (state < most_states) × (self.now.number < 2048) }
+        requires { state < most_states }
         ensures { result ≡ key_of state self.now.number }
     {
         state * ITEMS + self.number
@@ -122,7 +126,7 @@ impl ScaledItem<'_> {
     // The slot, of so many, from which the search for the item's pair with a state starts. The product of the key is
     // that of the state, times 2,048, and that of the item.
     fn slot_of(&self, state: u32, slots: u32) -> u32
-        requires { (state < most_states) × (self.now.number < 2048) }
+        requires { state < most_states }
         ensures { result ≡ slot_of (key_of state self.now.number) slots }
     {
         let by_state = self.multiples.product(state) << 11;
@@ -213,23 +217,18 @@ impl Slots<'_> {
         None
     }
 
-    // Where a pair stands, searched from the slot of its key up to the last, and then from the first. It stands nowhere
-    // if no slot is empty.
-    // Kept (no plainer): tried with or_else: the check infers no `ensures` for its closure, so that both clauses of
-    // `probe` would stand there again.
+    // Where a pair stands, searched from the slot of its key up to the last, and then from the first. None if it stands
+    // in no slot and none is empty.
     fn find(&self, state: u32, item: ScaledItem<'_>) -> Option<Place>
-        requires { (0 < self.now.vertices) × (self.now.vertices ≤ most_vertices) × (state < most_states)
-            × (item.number < 2048) }
+        requires { (0 < self.now.vertices) × (self.now.vertices ≤ most_vertices) × (state < most_states) }
         ensures { (known : ℕ) → Asks self.now.work.now self.now.vertices known state item.entry.number
             → Finding self.now.work.now self.now.vertices known (key_of state item.entry.number) result }
     {
         let key = item.key_of(state);
         let slots = self.vertices + self.vertices / 2;
         let home = item.slot_of(state, slots) as usize;
-        match self.probe(key, home, slots as usize) {
-            Some(place) => Some(place),
-            None => self.probe(key, 0, home),
-        }
+        let again = || self.probe(key, 0, home);
+        self.probe(key, home, slots as usize).or_else(again)
     }
 }
 

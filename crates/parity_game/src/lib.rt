@@ -19,7 +19,8 @@ const MOST_VERTICES: usize = 1_048_576;
 const MOST_EDGES: usize = 4_194_304;
 
 // The columns of the vertices.
-// Kept (no plainer): a column is a number: the rules list the columns, and the writers go over them by a range.
+// Kept (no plainer): a column is its place in the rules' lists of columns (`vertex_columns`, `edge_columns`): what
+// holds of a game's words is one law over that place, and each clause would turn an enum into it again.
 pub const OWNER: usize = 0;
 
 pub const PRIORITY: usize = 1;
@@ -34,6 +35,8 @@ pub const COUNT: usize = 1;
 const EDGE_COLUMNS: usize = 2;
 
 // ---- where the words stand
+// Kept (no plainer): sizes are `usize` with a bound: they come from `words::at`, are summed to places and index words;
+// with 32 bits each function here and its callers would cast.
 
 // The place where a column of the vertices begins, in a game of so many.
 pub fn vertex_column_at(vertices: usize, column: usize) -> usize
@@ -58,7 +61,7 @@ pub fn edge_columns() -> usize
 }
 
 // The place where the offsets begin.
-fn offsets_at(vertices: usize) -> usize
+pub fn offsets_at(vertices: usize) -> usize
     requires { vertices < 4294967296 }
     ensures { result ≡ 3 + length vertex_columns * vertices }
 {
@@ -82,6 +85,7 @@ pub fn game_words(vertices: usize, edges: usize) -> usize
 }
 
 // The word of a vertex in a column.
+// Kept (rule): this and `edges_from` are no methods of `Game` alone: they ask only that the game is long enough.
 pub fn vertex_word(game: &[u32], column: usize, vertex: usize) -> usize
     requires game_in_bounds { game_end game.now ≤ length game.now }
     requires column_in_bounds { (column < length vertex_columns) × (vertex < vertex_count game.now) }

@@ -163,43 +163,43 @@ module _ {text : List ℕ} {found : Found} (s : Seen text found) (small : length
   abbrev t : SolverText
   t = solver_text text
 
-  pub seen_lines : lines_from text found.first ≡ lines_in text
+  pub seen_lines : lines_from text found.plan.first ≡ lines_in text
   unfolding lines_from or_none
   seen_lines = rw s.lines refl
 
-  pub seen_highest : found.highest + 1 < 18446744073709551616
-  seen_highest = omega (arith, highest_bound t.highest found.highest s.header)
+  pub seen_highest : found.plan.highest + 1 < 18446744073709551616
+  seen_highest = omega (arith, highest_bound t.highest found.plan.highest s.header)
 
   few : found.lines < 9223372036854775808
   few = omega (arith, s.few)
 
-  pub other_count : ¬ (found.lines ≡ found.highest + 1) → refusal92 t ≡ fault_if 92 0 (not false)
+  pub other_count : ¬ (found.lines ≡ found.plan.highest + 1) → refusal92 t ≡ fault_if 92 0 (not false)
   unfolding fault_if
   other_count n = wrong_count t (λ f. n (same f))
     where
-      same : length t.lines ≡ suc t.highest → found.lines ≡ found.highest + 1
+      same : length t.lines ≡ suc t.highest → found.lines ≡ found.plan.highest + 1
       same f =
           let h : saturated t.highest ≡ t.highest = exactly t.highest (omega (arith, few, s.many)) in
           omega (arith, s.many, s.header)
 
-  module _ (long : found.lines ≡ found.highest + 1) where
-    header : found.highest ≡ t.highest
-    header = exact_bound t.highest found.highest (omega (arith, few)) s.header
+  module _ (long : found.lines ≡ found.plan.highest + 1) where
+    header : found.plan.highest ≡ t.highest
+    header = exact_bound t.highest found.plan.highest (omega (arith, few)) s.header
 
-    pub other_top : found.highest < found.top → refusal92 t ≡ fault_if 92 0 (not false)
+    pub other_top : found.plan.highest < found.top → refusal92 t ≡ fault_if 92 0 (not false)
     unfolding fault_if
     other_top h =
         too_high t
         (below_bound (tops_of t.lines) t.highest (omega (arith, few, header)) (omega (arith, header, s.tops)))
 
-    module _ (inside : found.top ≤ found.highest) where
-      tops : tops_of t.lines ≤ found.highest
-      tops = within_bound (tops_of t.lines) found.highest (omega (arith, few)) (omega (arith, s.tops))
+    module _ (inside : found.top ≤ found.plan.highest) where
+      tops : tops_of t.lines ≤ found.plan.highest
+      tops = within_bound (tops_of t.lines) found.plan.highest (omega (arith, few)) (omega (arith, s.tops))
 
-      pub seen_low : tops_of (lines_from text found.first) ≤ found.highest
+      pub seen_low : tops_of (lines_from text found.plan.first) ≤ found.plan.highest
       seen_low = omega (arith, ap tops_of seen_lines, tops)
 
-      pub seen_readable : Readable text found.first
+      pub seen_readable : Readable text found.plan.first
       seen_readable =
           record {
             within = s.within;
@@ -221,16 +221,16 @@ module _ {text : List ℕ} {found : Found} (s : Seen text found) (small : length
           })
       numbers false f = same_number t (sym f)
 
-      pub first_apart : apart found.numbering ≡ true → Apart 0 (numbers_of (lines_from text found.first))
+      pub first_apart : apart found.plan.numbering ≡ true → Apart 0 (numbers_of (lines_from text found.plan.first))
       first_apart f = subst (λ (ls : List SolverLine). Apart 0 (numbers_of ls)) (sym seen_lines) (s.new f)
 
-      differ : different (numbers_of (lines_from text found.first)) ≡ different (numbers_of t.lines)
+      differ : different (numbers_of (lines_from text found.plan.first)) ≡ different (numbers_of t.lines)
       differ = ap (λ (ls : List SolverLine). different (numbers_of ls)) seen_lines
 
-      pub none_same : (b : Bool) → b ≡ different (numbers_of (lines_from text found.first)) → b ≡ different (numbers_of t.lines)
+      pub none_same : (b : Bool) → b ≡ different (numbers_of (lines_from text found.plan.first)) → b ≡ different (numbers_of t.lines)
       none_same b e = e ∙ differ
 
-      pub in_order_different : (n : Numbering) → found.numbering ≡ n → n ≡ InOrder → true ≡ different (numbers_of t.lines)
+      pub in_order_different : (n : Numbering) → found.plan.numbering ≡ n → n ≡ InOrder → true ≡ different (numbers_of t.lines)
       unfolding apart in_turn
       in_order_different n e f =
           let i = e ∙ f in
@@ -238,7 +238,7 @@ module _ {text : List ℕ} {found : Found} (s : Seen text found) (small : length
           (subst Distinct (sym (order_numbers 0 t.lines (sym (s.order (ap apart i)) ∙ ap in_turn i)))
           (from_distinct 0 (length t.lines))))
 
-      pub repeated_same : apart found.numbering ≡ false → false ≡ different (numbers_of t.lines)
+      pub repeated_same : apart found.plan.numbering ≡ false → false ≡ different (numbers_of t.lines)
       repeated_same f = some_same_number (numbers_of t.lines) (s.again f)
 
   -- ---- 93
@@ -247,15 +247,15 @@ module _ {text : List ℕ} {found : Found} (s : Seen text found) (small : length
     abbrev given : Passes92 t
     given = passed92 t passed
 
-    pub right_highest : found.highest ≡ t.highest
+    pub right_highest : found.plan.highest ≡ t.highest
     right_highest =
         let h : saturated t.highest ≡ t.highest = exactly t.highest (omega (arith, few, s.many, given.long)) in
         s.header ∙ h
 
-    pub right_low : tops_of (lines_in text) ≤ found.highest
+    pub right_low : tops_of (lines_in text) ≤ found.plan.highest
     right_low = omega (arith, right_highest, tops_within t.lines t.highest given.inside)
 
-    pub right_readable : Readable text found.first
+    pub right_readable : Readable text found.plan.first
     right_readable =
         record {
           within = s.within;
@@ -276,7 +276,7 @@ module _ {text : List ℕ} {found : Found} (s : Seen text found) (small : length
       abbrev beyond : Bool
       beyond = ltb e (edge_count (map vertex_of t.lines))
 
-      pub beyond_vertices : v ≤ found.highest → refusal93 room t ≡ fault_if 93 0 (not false)
+      pub beyond_vertices : v ≤ found.plan.highest → refusal93 room t ≡ fault_if 93 0 (not false)
       unfolding refusal93 fault_if
       beyond_vertices h = if-true 93 0
           (or_left (not ranked || beyond) (lt-ltb v (suc t.highest) (omega (arith, right_highest))))
@@ -306,7 +306,7 @@ module _ {text : List ℕ} {found : Found} (s : Seen text found) (small : length
           go true p = absurd (omega (arith, high, low_rank p))
           go false p = refl
 
-      module _ (fits : found.highest < v) (small-rank : found.rank ≤ 4294967295) where
+      module _ (fits : found.plan.highest < v) (small-rank : found.rank ≤ 4294967295) where
         ranks : ranks_of t.lines ≤ 4294967295
         ranks = within_bound (ranks_of t.lines) 4294967295 (omega arith) (omega (arith, s.ranks))
 
@@ -335,7 +335,7 @@ module _ {text : List ℕ} {found : Found} (s : Seen text found) (small : length
             turn true = refl
             turn false = refl
 
-        pub right_narrow : v ≤ 1048576 → Narrow text found.first
+        pub right_narrow : v ≤ 1048576 → Narrow text found.plan.first
         right_narrow a =
             record {
               readable = right_readable;
@@ -343,7 +343,7 @@ module _ {text : List ℕ} {found : Found} (s : Seen text found) (small : length
               ranks = omega (arith, ap ranks_of seen_lines, ranks);
             }
 
-        pub edges_told : (b : Bool) → b ≡ not (ltb e (edge_count (map vertex_of (lines_from text found.first))))
+        pub edges_told : (b : Bool) → b ≡ not (ltb e (edge_count (map vertex_of (lines_from text found.plan.first))))
             → refusal93 room t ≡ fault_if 93 0 (not b)
         edges_told b f = edges b
             (f ∙ ap (λ (ls : List SolverLine). not (ltb e (edge_count (map vertex_of ls)))) seen_lines)
@@ -394,7 +394,7 @@ module _ {text : List ℕ} (room : Room) where
       refused93 e = rw (s.says, passed, sym e) refl
 
       pub planned : length text < 18446744073709551616 → refusal93 room (solver_text text) ≡ Ok tt
-          → Planned text room (record { highest = found.highest; first = found.first; numbering = found.numbering })
+          → Planned text room found.plan
       planned small roomy =
           let (a, b, c) = parts roomy in
           record {
@@ -408,10 +408,10 @@ module _ {text : List ℕ} (room : Room) where
             low = right_low s small passed;
             ranked = omega (arith, low_rank s small passed room b);
             held = c;
-            order = s.order (distinct (apart found.numbering) refl);
+            order = s.order (distinct (apart found.plan.numbering) refl);
           }
         where
-          distinct : (b : Bool) → apart found.numbering ≡ b → apart found.numbering ≡ true
+          distinct : (b : Bool) → apart found.plan.numbering ≡ b → apart found.plan.numbering ≡ true
           distinct true e = e
           distinct false e = absurd (s.again e (passed92 (solver_text text) passed).apart)
 

@@ -206,27 +206,25 @@ pub record Surveying (text : List ℕ) (highest first p : ℕ) (found : Found) (
   pub small : length text < 18446744073709551616
   pub within : p ≤ length text
   pub left : lines_at text first ≡ with_lines ls (lines_at text p)
-  pub header : found.highest ≡ highest
-  pub begun : found.first ≡ first
+  pub header : found.plan.highest ≡ highest
+  pub begun : found.plan.first ≡ first
   pub many : found.lines ≡ length ls
   pub few : 2 * found.lines + found.listed ≤ p
   pub tops : found.top ≡ saturated (tops_of ls)
   pub ranks : found.rank ≡ saturated (ranks_of ls)
   pub enough : Enough highest ls found.listed
-  pub order : apart found.numbering ≡ true → in_turn found.numbering ≡ in_order 0 ls
-  pub new : apart found.numbering ≡ true → Collected 0 (numbers_of ls) bits
-  pub again : apart found.numbering ≡ false → ¬ Distinct (numbers_of ls)
+  pub order : apart found.plan.numbering ≡ true → in_turn found.plan.numbering ≡ in_order 0 ls
+  pub new : apart found.plan.numbering ≡ true → Collected 0 (numbers_of ls) bits
+  pub again : apart found.plan.numbering ≡ false → ¬ Distinct (numbers_of ls)
 
 pub surveying_start : (text : List ℕ) (highest first : ℕ) {bits : List ℕ} → first ≤ length text
     → length text < 18446744073709551616 → Holds bits []
     → Surveying text highest first first (record {
-      highest = highest;
-      first = first;
+      plan = record { highest = highest; first = first; numbering = InOrder };
       lines = 0;
       top = 0;
       rank = 0;
       listed = 0;
-      numbering = InOrder;
     }) bits
 unfolding with_lines tops_of ranks_of in_order largest saturated in_turn apart
 surveying_start text highest first h small k =
@@ -315,10 +313,10 @@ module _ {text : List ℕ} {highest first p : ℕ} {found : Found} {bits : List 
               ∙ sym (order_more 0 s.ls x);
           new = λ f. subst (λ (ns : List ℕ). Collected 0 ns bits') (sym numbers)
               (collected_more (s.new (g.new f).0) x.number (noted_exact c.number (g.new f).1));
-          again = λ f k. twice_seen f x c (apart found.numbering) refl (subst Distinct numbers k);
+          again = λ f k. twice_seen f x c (apart found.plan.numbering) refl (subst Distinct numbers k);
         }
       where
-        twice_seen : apart found'.numbering ≡ false → (x : SolverLine) → RowAt text x row → (b : Bool) → apart found.numbering ≡ b
+        twice_seen : apart found'.plan.numbering ≡ false → (x : SolverLine) → RowAt text x row → (b : Bool) → apart found.plan.numbering ≡ b
             → ¬ Distinct (numbers_of s.ls ++ (x.number ∷ []))
         twice_seen f x c true z k = collected_twice (s.new z) x.number [] (again_exact c.number (g.again f z)) k
         twice_seen f x c false z k = s.again z (distinct_before (numbers_of s.ls) (x.number ∷ []) k)

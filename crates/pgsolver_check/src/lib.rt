@@ -32,19 +32,6 @@ pub enum Numbering {
     Repeated,
 }
 
-// What the survey of a text finds: the highest vertex number, the place of the first line, how many lines there are,
-// the highest number and the highest priority on them, a bound for the edges, and how the lines are numbered.
-#[derive(Clone, Copy)]
-struct Found {
-    highest: usize,
-    first: usize,
-    lines: usize,
-    top: usize,
-    rank: usize,
-    listed: usize,
-    numbering: Numbering,
-}
-
 // What a text that is not refused gives: its highest vertex, the place of its first line, and how the lines are
 // numbered.
 #[derive(Clone, Copy)]
@@ -52,6 +39,17 @@ pub struct Plan {
     pub highest: usize,
     pub first: usize,
     pub numbering: Numbering,
+}
+
+// What the survey of a text finds: the plan, if it is not refused, how many lines there are, the highest number and the
+// highest priority on them, and a bound for the edges.
+#[derive(Clone, Copy)]
+struct Found {
+    plan: Plan,
+    lines: usize,
+    top: usize,
+    rank: usize,
+    listed: usize,
 }
 
 // How the lines are numbered with one more, whose number was seen before or is in its turn.
@@ -74,13 +72,16 @@ fn with_line(found: Found, row: VertexLine, bits: &mut Bitmap) -> Found
     ensures { Added found row result bits.old bits.new }
 {
     let again = seen_before(row.number, 0, bits);
+    let plan = found.plan;
     Found {
+        plan: Plan {
+            numbering: with_number(plan.numbering, again, row.number == found.lines),
+            ..plan
+        },
         lines: found.lines + 1,
         top: found.top.max(row.number).max(row.largest),
         rank: found.rank.max(row.priority),
-        listed: found.listed + row.listed.min(found.highest + 1),
-        numbering: with_number(found.numbering, again, row.number == found.lines),
-        ..found
+        listed: found.listed + row.listed.min(plan.highest + 1),
     }
 }
 
@@ -93,15 +94,18 @@ fn survey_text(text: &[u8], bits: &mut Bitmap) -> Option<Found>
     bits.clear();
     let mut place = header.next;
     let mut found = Found {
-        highest: header.value,
-        first: header.next,
+        plan: Plan {
+            highest: header.value,
+            first: header.next,
+            numbering: Numbering::InOrder,
+        },
         lines: 0,
         top: 0,
         rank: 0,
         listed: 0,
-        numbering: Numbering::InOrder,
     };
-    // Kept (no plainer): where a line ends is known once it is read.
+    // Kept (no plainer): an iterator over lines that are read would serve this loop alone, answer an Option for each
+    // line that is not of the form, and be longer than the loop.
     while place < text.len() {
         let row = pgsolver_scan::read_line(text, place)?;
         found = with_line(found, row, bits);
@@ -119,10 +123,9 @@ fn seen_before(number: usize, base: usize, bits: &mut Bitmap) -> bool
     ensures noted { result ≡ false → Noted base number bits.old bits.new }
     ensures again { result ≡ true → Again base number bits.old }
 {
-    if number < base {
+    let Some(offset) = number.checked_sub(base) else {
         return false;
-    }
-    let offset = number - base;
+    };
     if NUMBERS <= offset {
         return false;
     }
@@ -137,8 +140,10 @@ fn window_differs(text: &[u8], first: usize, base: usize, bits: &mut Bitmap) -> 
 {
     bits.clear();
     let mut place = first;
-    // Kept (no plainer): an iterator over the places of lines would serve two of the four loops over lines, this one
-    // and one of crate pgsolver_reader; the others know the end of a line from what they read of it.
+    // Kept (speed): three of the four loops over lines end a line by `past_line`, `survey_text` alone knows its end. An
+    // iterator over the places of lines would look for the newline from the front of a line, where `count_edges` goes
+    // on from behind the list: over 1,000,000 lines of three successors that took 27 % longer (89 ms for 70, both in
+    // plain Rust). For this loop and `post_lines` of crate pgsolver_reader alone it would be longer than they are.
     while place < text.len() {
         let Some(number) = pgsolver_scan::read_field(text, place, b' ') else {
             return false;
@@ -158,6 +163,8 @@ fn numbers_differ(text: &[u8], first: usize, highest: usize, bits: &mut Bitmap) 
     requires highest_bound { highest < 9223372036854775808 }
     ensures { result ≡ different (numbers_of (lines_from text.now first)) }
 {
+    // Kept (proof): by `all` the closure has to be told what `window_differs` asks of text and base
+    // (window_differs-requires did not close), and `returns` is of a run of calls.
     for base in (NUMBERS..highest + 1).step_by(NUMBERS) {
         if !window_differs(text, first, base, bits) {
             return false;
@@ -167,8 +174,9 @@ fn numbers_differ(text: &[u8], first: usize, highest: usize, bits: &mut Bitmap) 
 }
 
 // ---- edges: they are counted only where the bound that the survey found is more than there is room for
-// Kept (no plainer): that a list stands at a place is asked in three clauses, each of which speaks of its numbers too;
-// a struct for it would be made at one call, and one of crate pgsolver_reader.
+// Kept (no plainer): text and list stay two parameters, and three clauses ask that a list stands there. `Successors` is
+// a struct of the two, but a loop uses it up: `count_list` goes over its list twice, and `empty_list` asks where it
+// begins. The clauses speak of both by `list_at` and `past_line`.
 
 // How many different numbers a list has, and the place past it.
 #[derive(Clone, Copy)]
@@ -178,7 +186,8 @@ struct Counted {
 }
 
 // Empties the bitmap, in which only numbers of a list are marked.
-// Kept (no plainer): `wipe_all` of the bitmap takes a slice, and these numbers stand in a text.
+// Kept (no plainer): a `wipe_all` over any numbers would ask that each of those that its iterator has left is below
+// 1,048,576 and that no other is marked, and keep both along its loop; the two loops are three lines each.
 fn wipe_list(text: &[u8], list: usize, bits: &mut Bitmap)
     requires { Listed text.now list × Only bits.old (list_at text.now list) }
     ensures { Holds bits.new [] }
@@ -189,6 +198,8 @@ fn wipe_list(text: &[u8], list: usize, bits: &mut Bitmap)
 }
 
 // The same, by what is shorter: the list, which ends at `next`, or the bitmap.
+// Kept (no plainer): crate pgsolver_writer chooses alike, but by how many numbers it has. Here the bytes of the list
+// are known and its numbers are not counted: a method for both would be handed the length besides the numbers.
 fn empty_list(text: &[u8], list: usize, next: usize, bits: &mut Bitmap)
     requires { Listed text.now list × Only bits.old (list_at text.now list) × (list ≤ next) }
     ensures { Holds bits.new [] }
@@ -226,7 +237,7 @@ fn count_edges(text: &[u8], first: usize, room: usize, bits: &mut Bitmap) -> boo
     bits.clear();
     let mut place = first;
     let mut edges = 0;
-    // Kept (no plainer): as in `survey_text`.
+    // Kept (speed): as in `window_differs`.
     while place < text.len() {
         let number = pgsolver_scan::known_field(text, place);
         let priority = pgsolver_scan::known_field(text, number.next);
@@ -254,15 +265,14 @@ struct Surveyed<'a> {
 impl<'a> Surveyed<'a> {
     // Are the numbers of the lines, which are as many as there are vertices, all different?
     fn are_different(&self, bits: &mut Bitmap) -> bool
-        requires { (self.now.found.lines ≡ self.now.found.highest + 1)
-            × (self.now.found.top ≤ self.now.found.highest) }
+        requires { (self.now.found.lines ≡ self.now.found.plan.highest + 1)
+            × (self.now.found.top ≤ self.now.found.plan.highest) }
         ensures { result ≡ different (numbers_of (lines_in self.now.text.now)) }
     {
-        match self.found.numbering {
+        let plan = self.found.plan;
+        match plan.numbering {
             Numbering::InOrder => true,
-            Numbering::Different => {
-                numbers_differ(self.text, self.found.first, self.found.highest, bits)
-            },
+            Numbering::Different => numbers_differ(self.text, plan.first, plan.highest, bits),
             Numbering::Repeated => false,
         }
     }
@@ -272,31 +282,31 @@ impl<'a> Surveyed<'a> {
         ensures { result ≡ refusal92 (solver_text self.now.text.now) }
     {
         let found = self.found;
-        let miscounted = found.lines != found.highest + 1;
+        let miscounted = found.lines != found.plan.highest + 1;
         faults::fault_if(92, 0, miscounted)?;
-        let too_high = found.highest < found.top;
+        let too_high = found.plan.highest < found.top;
         faults::fault_if(92, 0, too_high)?;
         let different = self.are_different(bits);
         faults::fault_if(92, 0, !different)
     }
 
     // 93: a text whose numbers are right fits in room for so many vertices and edges.
-    // Kept (no plainer): they are two numbers, here and in the call below. A `Room` has two of 32 bits, and so would
-    // ask more of a caller than was asked before.
+    // Kept (rule): vertices and edges are two numbers, here and in the call below: the edges may be any number, and a
+    // `Room`, which has 32 bits for it, would ask more of a caller.
     fn check_fit(&self, vertices: usize, edges: usize, bits: &mut Bitmap) -> Result<(), Fault>
         requires right { refusal92 (solver_text self.now.text.now) ≡ Ok tt }
         requires most { vertices ≤ most_vertices }
         ensures { result ≡ refusal93 (room_of vertices edges) (solver_text self.now.text.now) }
     {
         let found = self.found;
-        let too_many = vertices <= found.highest;
+        let too_many = vertices <= found.plan.highest;
         faults::fault_if(93, 0, too_many)?;
         let too_high = 4_294_967_295 < found.rank;
         faults::fault_if(93, 0, too_high)?;
         if found.listed <= edges {
             return Ok(());
         }
-        let fit = count_edges(self.text, found.first, edges, bits);
+        let fit = count_edges(self.text, found.plan.first, edges, bits);
         faults::fault_if(93, 0, !fit)
     }
 }
@@ -318,9 +328,5 @@ pub fn check_text(
     let surveyed = Surveyed { text, found };
     surveyed.check_numbers(bits)?;
     surveyed.check_fit(vertices, edges, bits)?;
-    Ok(Plan {
-        highest: found.highest,
-        first: found.first,
-        numbering: found.numbering,
-    })
+    Ok(found.plan)
 }

@@ -266,7 +266,6 @@ module _ {text : List ℕ} {v e : ℕ} {plan : Plan} (p : Planned text (room_of 
         given = λ u k. none-missing t passes u (omega (arith, p.header));
         order = λ z. order_numbers 0 (lines_in text) (sym p.order ∙ z) ∙ ap (from 0) (passes.long ∙ same_count);
         room = omega (arith, p.fits, plan_small);
-        short = omega arith;
       }
 
   read_verts : read_vertices t ≡ verts_to (lines_in text) (plan.highest + 1)

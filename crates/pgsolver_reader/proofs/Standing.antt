@@ -17,7 +17,7 @@ use Rattle.pgsolver_scan.proofs.Scanning.{since-cons}
 use Rattle.pgsolver_check.specs.Lines.{lines_in}
 use Rattle.pgsolver_check.proofs.Walking.{number_top, Walk, walk-next, walk_among}
 use Rattle.pgsolver_check.proofs.Fields.{line_number, line-priority, line-owner, priority_rank}
-use Rattle.pgsolver_reader.specs.Parts.{Whole, Begins, Turn, post_at, PostedFrom}
+use Rattle.pgsolver_reader.specs.Parts.{Whole, Begins, Turn, post_at, Posted}
 
 -- ---- the number of a line
 
@@ -70,6 +70,6 @@ module _ {text : List ℕ} {u place : ℕ} (t : Turn text u place) where
     owner_stands = line-owner text place t.within t.body priority a
 
 -- so is the byte at a place that is posted
-pub posted_digit : {text : List ℕ} {n v : ℕ} {game : List ℕ} → PostedFrom text n v game → (u : ℕ) → v ≤ u → u < n
+pub posted_digit : (game : List ℕ) (n : ℕ) {text : List ℕ} {u : ℕ} → Posted text n game u
     → {place : ℕ} → place ≡ post_at game n u → (place < length text) × (48 ≤ word text place)
-posted_digit {text} f u h k {place} e = turn_digit (subst (Turn text u) (sym e) (f.posted u h k))
+posted_digit game n {text} {u} t e = turn_digit (subst (Turn text u) (sym e) t)

@@ -132,6 +132,11 @@ once_once : (ns : List ℕ) → once eqb (once eqb ns) ≡ once eqb ns
 unfolding once
 once_once ns = inserts_new number_equality [] (once eqb ns) (once_distinct number_equality ns) (λ y i z. z)
 
+-- the targets end no further than those of all vertices
+pub part_few : {text : List ℕ} {n v q : ℕ} {game : List ℕ} → Part text n v q game
+    → q ≤ edges_begin n + edge_count (verts_to (lines_in text) n)
+part_few {text} {n} {v} p = omega (arith, p.place, edges_within (lines_in text) v n p.within)
+
 -- ---- from its line
 
 module _ {text : List ℕ} {n v q place : ℕ} {game : List ℕ} (w : Whole text n) (t : Turn text v place) (below : v < n)
@@ -140,8 +145,8 @@ module _ {text : List ℕ} {n v q place : ℕ} {game : List ℕ} (w : Whole text
   lines = lines_in text
 
   -- the vertex's edges have room
-  pub part_place : q ≤ length game
-  part_place = omega (arith, p.room, p.place, edges_within lines v n p.within)
+  part_place : q ≤ length game
+  part_place = omega (arith, p.room, part_few p)
 
   vertex : vertex_named lines v ≡ vertex_of t.line
   vertex = ap (vertex_named lines) (sym t.number) ∙ named lines t.line w.apart t.among

@@ -2,11 +2,6 @@
 -- their numbers, the place of each vertex's line is posted before, where its owner and priority will stand. Assumes
 -- nothing: these are definitions.
 use Rattle.std.specs.Prelude.{ℕ, ◌+◌, ◌*◌, ◌%◌, ◌≤◌, ◌<◌, max, ◌≡◌, Bool, true, false, List, [], ◌∷◌, map, length}
-use Rattle.std.specs.Prelude.{Result}
-use Rattle.std.specs.declared.result.Result.TheVariants.{Ok, Err}
-use Rattle.rules.specs.declared.Answer.{Answer}
-use Rattle.rules.specs.declared.Answer.TheVariants.{Refused}
-use Rattle.rules.specs.declared.Fault.{Fault}
 use Rattle.std.proofs.Math.Seq.{slice}
 use Rattle.rules.specs.Answers.{Check}
 use Rattle.rules.specs.declared.Room.{Room}
@@ -115,13 +110,7 @@ pub record Ready (text : List ℕ) (first n : ℕ) (numbering : Numbering) (size
   pub given : (u : ℕ) → u < n → In u (numbers_of (lines_in text))
   pub order : in_turn numbering ≡ true → numbers_of (lines_in text) ≡ from 0 n
   pub room : game_words n (edge_count (verts_to (lines_in text) n)) ≤ size
-  pub short : size < 4_294_967_296
 
 -- "after 1 and 2": what is refused before the text is looked at
 unfoldable pub room_refusal : Room → (game : ℕ) → Check
 room_refusal r game = and_then (refusal1 r) (fault_if 2 0 (differ game (game_length r)))
-
--- the answer of the call: a fault refuses
-abbrev pub answer_of : Result Answer Fault → Answer
-answer_of (Ok a) = a
-answer_of (Err f) = Refused f.number f.place

@@ -8,7 +8,7 @@
 ghost use Rattle.std.specs.Prelude.{◌≡◌, false, [], ◌∷◌, ◌+◌, ◌-◌, ◌*◌, ◌/◌, ◌%◌, ◌<◌, ◌≤◌, length, set, eqb};
 ghost use Rattle.std.specs.declared.result.Result.TheVariants.{Ok};
 ghost use Rattle.rules.specs.Lists.{from, once};
-ghost use Rattle.rules.specs.Words.{most_vertices, room_of};
+ghost use Rattle.rules.specs.Words.{most_vertices, most_edges, room_of};
 ghost use Rattle.rules.specs.Answers.{said};
 ghost use Rattle.rules.specs.Texts.{decimal};
 ghost use Rattle.rules.specs.Game.{edge_count, game_of, padded};
@@ -20,10 +20,10 @@ ghost use Rattle.pgsolver_scan.specs.Told.{past_line};
 ghost use Rattle.pgsolver_check.specs.Lines.{lines_in};
 ghost use Rattle.pgsolver_scan.specs.Successors.{list_at, Listed};
 ghost use Rattle.pgsolver_reader.specs.Parts.{unless, verts_to, Whole, Begins, Turn, Part, Ready, room_refusal};
-ghost use Rattle.pgsolver_reader.specs.Parts.{answer_of};
+ghost use Rattle.faults.specs.Answers.{answer_of};
 ghost use Rattle.pgsolver_reader.specs.Facts.{whole_prop};
 ghost use Rattle.pgsolver_reader.specs.Parts.{DigitBound, column_at, offsets_from, edges_begin, post_at};
-ghost use Rattle.pgsolver_reader.specs.Parts.{LinesPosted, PostedFrom, PostsKept};
+ghost use Rattle.pgsolver_reader.specs.Parts.{Posted, LinesPosted, PostedFrom, PostsKept};
 
 use bitmap::Bitmap;
 use parity_game::{OWNER, PRIORITY};
@@ -32,8 +32,9 @@ use pgsolver_scan::Successors;
 use rules::{Answer, Fault, Room};
 
 // A text that passed the check, as its game is written: where its lines begin, how many vertices they give, and how the
-// lines are numbered.
-// That its lines are those of the vertices, the type says.
+// lines are numbered. That its lines are those of the vertices, and their edges no more than a room may have, the type
+// says.
+// Kept (no plainer): it holds no `Plan`: the writing counts vertices, one more than the highest, which a plan names.
 #[derive(Clone, Copy)]
 struct Source<'a> {
     text: &'a [u8],
@@ -41,6 +42,7 @@ struct Source<'a> {
     vertices: usize,
     numbering: Numbering,
     ghost whole: { Whole text.now vertices } by { whole_prop text.now vertices },
+    ghost few: { edge_count (verts_to (lines_in text.now) vertices) ≤ most_edges },
 }
 
 // What was written of a vertex: the place past its targets in the game, and the place past its successors in the text.
@@ -51,6 +53,8 @@ struct Written {
 }
 
 // How many digits the vertices below a bound have; the bound is the first number that has one more.
+// Kept (speed): `digit_count` of crate text_writer takes a logarithm at each vertex: over 1,000,000 lines in order, of
+// three successors each, reading took 11 % longer with it (46 ms for 41, both in plain Rust).
 #[derive(Clone, Copy)]
 struct Digits {
     count: usize,
@@ -58,9 +62,9 @@ struct Digits {
 }
 
 // ---- successors, each once: the bitmap marks those that were met
-// Kept (no plainer): game and place stay two parameters: each function promises what it appends by `Wrote`, and the
-// caller goes on from the place past it. That the bitmap is empty holds between two vertices, not while one is written,
-// so it stands in the clauses and in no invariant.
+// Kept (no plainer): game and place stay two parameters: between two lists the game is also written at its columns, so
+// a struct of the two would be made and taken apart at each vertex. That the bitmap is empty holds between two
+// vertices, not while one is written, so it stands in the clauses and in no invariant.
 
 // A successor is appended, unless it was met before.
 fn put_new(value: usize, game: &mut [u32], end: usize, bits: &mut Bitmap) -> usize
@@ -97,7 +101,9 @@ fn put_list(text: &[u8], list: usize, game: &mut [u32], start: usize, bits: &mut
 
 // ---- posting
 // Kept (no plainer): game and number of vertices stay two parameters: a struct over the lent game would have to promise
-// in each contract that it still holds the same game.
+// in each contract that it still holds the same game. For the same reason `PostedFrom` stands in the contracts of those
+// who read what was posted, and in no type: it speaks of the game's words, and the writing between two vertices changes
+// them.
 
 // A place of the text is posted for a vertex.
 // Kept (rule): no further memory is lent, so the low and the high word of a place stand in two columns of the game.
@@ -112,6 +118,8 @@ fn post(game: &mut [u32], vertices: usize, vertex: usize, place: usize)
 }
 
 // The place that is posted for a vertex.
+// Kept (no plainer): that the game is long enough (`edges_begin`) is a clause of those who write and of those who read:
+// for the readers alone a struct would be made anew at each vertex, since the game is written between.
 fn posted_at(game: &[u32], vertices: usize, vertex: usize) -> usize
     requires { (vertex < vertices) × (vertices ≤ most_vertices) × (edges_begin vertices ≤ length game.now) }
     ensures { result ≡ post_at game.now vertices vertex }
@@ -147,8 +155,7 @@ fn put_vertex(game: &mut [u32], vertices: usize, vertex: usize, words: VertexWor
 {
     game[parity_game::vertex_column_at(vertices, OWNER) + vertex] = words.owner as u32;
     game[parity_game::vertex_column_at(vertices, PRIORITY) + vertex] = words.priority as u32;
-    game[parity_game::vertex_column_at(vertices, parity_game::vertex_columns()) + vertex] =
-        words.offset as u32;
+    game[parity_game::offsets_at(vertices) + vertex] = words.offset as u32;
 }
 
 // The digits of the next vertex, from those of the vertex before it. The vertices come one by one: none is past the
@@ -173,8 +180,7 @@ fn write_counts(game: &mut [u32], vertices: usize, edges: usize)
         ≡ set (set (set (set game.old 0 vertices) 1 edges) 2 0) (offsets_from vertices + vertices) edges }
 {
     parity_game::write_header(vertices as u32, edges as u32, game);
-    game[parity_game::vertex_column_at(vertices, parity_game::vertex_columns()) + vertices] =
-        edges as u32;
+    game[parity_game::offsets_at(vertices) + vertices] = edges as u32;
 }
 
 // ---- from the text to the game
@@ -193,9 +199,7 @@ impl<'a> Source<'a> {
         bits: &mut Bitmap,
     ) -> Written
         requires turn { Turn self.now.text.now vertex place × (vertex < self.now.vertices) }
-        requires part { Part self.now.text.now self.now.vertices vertex start game.old
-            × (length game.old < 4294967296) }
-        requires unmarked { Holds bits.old [] }
+        requires part { Part self.now.text.now self.now.vertices vertex start game.old × Holds bits.old [] }
         ensures written { Part self.now.text.now self.now.vertices (vertex + 1) result.end game.new }
         ensures same_line { past_line self.now.text.now place ≡ past_line self.now.text.now result.next }
         ensures posts_kept { PostsKept self.now.vertices vertex game.old game.new }
@@ -218,7 +222,7 @@ impl<'a> Source<'a> {
     // number of a line is the vertex, and how many digits that has is known: it is passed over, which is quicker than
     // reading it.
     fn write_in_order(&self, game: &mut [u32], bits: &mut Bitmap) -> usize
-        requires begins { Begins self.now.text.now self.now.first × (length game.old < 4294967296) }
+        requires begins { Begins self.now.text.now self.now.first }
         requires in_order { numbers_of (lines_in self.now.text.now) ≡ from 0 self.now.vertices }
         requires part { Part self.now.text.now self.now.vertices 0 (edges_begin self.now.vertices) game.old
             × Holds bits.old [] }
@@ -246,7 +250,7 @@ impl<'a> Source<'a> {
         ensures { LinesPosted self.now.text.now self.now.vertices game.new }
     {
         let mut place = self.first;
-        // Kept (no plainer): as in `window_differs` of crate pgsolver_check.
+        // Kept (speed): as in `window_differs` of crate pgsolver_check.
         while place < self.text.len() {
             let number = pgsolver_scan::known_field(self.text, place);
             post(game, self.vertices, number.value, number.next);
@@ -254,25 +258,25 @@ impl<'a> Source<'a> {
         }
     }
 
-    // Whether a byte at a place posted for the vertices from `first` up to `end` is below the digits. None is: a
-    // priority begins there. What counts are the loads: none waits for another, so the memory fetches the lines of a
-    // block at the same time, where write_line would wait for each. A compiler drops a load that nothing uses; so each
-    // byte is compared, and no answer leaves the loop early.
-    // Kept (speed): `any` would leave it, so each load would stand behind the test of the byte before.
+    // Is the byte at the place that is posted for a vertex below the digits? It never is: a priority begins there.
+    fn below_digits(&self, game: &[u32], vertex: usize) -> bool
+        requires posted { (vertex < self.now.vertices) × Posted self.now.text.now self.now.vertices game.now vertex }
+        requires columns_in_bounds { edges_begin self.now.vertices ≤ length game.now }
+        ensures { result ≡ false }
+    {
+        self.text[posted_at(game, self.vertices, vertex)] < b'0'
+    }
+
+    // Is one of these bytes, for the vertices from `first` up to `end`? What counts are the loads: the processor
+    // expects each answer to be no, and goes on, so the memory fetches the lines of a block at the same time, where
+    // write_line would wait for each. A compiler drops a load that nothing uses; so each byte is compared.
     fn look_ahead(&self, game: &[u32], first: usize, end: usize) -> bool
         requires posted_from { PostedFrom self.now.text.now self.now.vertices first game.now
             × (end ≤ self.now.vertices) }
         requires columns_in_bounds { edges_begin self.now.vertices ≤ length game.now }
         ensures { result ≡ false }
     {
-        let mut odd = false;
-        for vertex in first..end {
-            let place = posted_at(game, self.vertices, vertex);
-            if self.text[place] < b'0' {
-                odd = true;
-            }
-        }
-        odd
+        (first..end).any(|vertex| self.below_digits(game, vertex))
     }
 
     // The vertices from `first` up to `last` are written, from the lines that are posted, their targets from `start`
@@ -285,7 +289,7 @@ impl<'a> Source<'a> {
         game: &mut [u32],
         bits: &mut Bitmap,
     ) -> usize
-        requires bounds { (length game.old < 4294967296) × (first ≤ last) × (last ≤ self.now.vertices) }
+        requires bounds { (first ≤ last) × (last ≤ self.now.vertices) }
         requires posted_from { PostedFrom self.now.text.now self.now.vertices first game.old }
         requires part { Part self.now.text.now self.now.vertices first start game.old × Holds bits.old [] }
         ensures written { Part self.now.text.now self.now.vertices last result game.new }
@@ -301,10 +305,9 @@ impl<'a> Source<'a> {
         end
     }
 
-    // All vertices are written, from the lines that are posted, block by block. No byte is odd, so none is left out;
-    // the test is there so that the bytes are looked at.
+    // All vertices are written, from the lines that are posted, block by block. No byte is below the digits, so no
+    // vertex is left out; the test is there so that the bytes are looked at.
     fn write_posted(&self, game: &mut [u32], bits: &mut Bitmap) -> usize
-        requires short { length game.old < 4294967296 }
         requires posted_from { PostedFrom self.now.text.now self.now.vertices 0 game.old }
         requires part { Part self.now.text.now self.now.vertices 0 (edges_begin self.now.vertices) game.old
             × Holds bits.old [] }

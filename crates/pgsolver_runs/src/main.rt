@@ -1,9 +1,9 @@
 // Writes games as PGSolver text and reads such texts. Standard input holds records: five little-endian words, then what
 // is handed over, a game's words or the bytes of a text. The words: 0 for writing, else reading; the room for vertices
 // and for edges; the length in bytes of what is handed over; the length of the lent slice, in bytes for a text and in
-// words for a game. A length above 4,096 counts as 4,096. Prints lines as `replay` does, without map and work; a byte
-// of a text is shown as a number. Each byte or word of the lent slice is 7 before. docs/STORED-RUNS.md says how the
-// records were made.
+// words for a game. A length above 4,096 counts as 4,096. Prints lines as `replay` does, with no map and 0 for the
+// work; a byte of a text is shown as a number. Each byte or word of the lent slice is 7 before. docs/STORED-RUNS.md
+// says how the records were made.
 #![tactic(auto)]
 
 ghost use Rattle.std.specs.Prelude.{◌≤◌, length};

@@ -1,17 +1,19 @@
 -- Bytes that lack two given ones, counted hit by hit in a block and joined block by block. Assumes nothing.
-use Prim.Native.Nat.{ℕ, zero, suc, ◌+◌, ◌-◌, ◌≤◌, ◌<◌}
+use Prim.Native.Nat.{ℕ, zero, suc, ◌+◌, ◌-◌, ◌*◌, ◌≤◌, ◌<◌}
 use native.Mathlib.Omega.{arith}
 use native.Mathlib.Decide.{dec_lt}
 use mathlib.Core.Path.{◌≡◌, refl, sym, ap, ◌∙◌, subst}
-use mathlib.Core.Bool.{Bool, true, false, cond, not, ◌||◌, false≢true}
+use mathlib.Core.Bool.{Bool, true, false, cond, not, ◌||◌, false≢true, true≢false}
 use mathlib.Core.List.{List, [], ◌∷◌}
 use mathlib.Core.Logic.{◌⊎◌, inl, inr}
 use lib.ListN.{length, take, drop, length-drop}
 use Rattle.std.proofs.Math.Seq.{take-length}
-use Rattle.std.proofs.lemmas.List.{get_or-drop}
+use Rattle.std.proofs.lemmas.List.{get_or-drop, get_or-take, drop-drop}
 use borrow.Author.Tests.{eq-eqb, eqb-true, lt-ltb}
-use Rattle.std.specs.Prelude.{◌==◌, Some, None}
-use Rattle.std.specs.List.{position, position_or_len}
+use Rattle.std.specs.Prelude.{◌==◌, Some, None, Option}
+use Rattle.std.specs.Option.{IfSome, IsSomeAnd, option_map, is_some}
+use denote.Ref.{Bor}
+use Rattle.std.specs.List.{position, position_or_len, IsSubsliceAt}
 use Rattle.std.proofs.lemmas.List.Quantifiers.{position-Some}
 use Rattle.rules.specs.Lists.{word}
 use Rattle.pgsolver_scan.specs.Told.{Lacks, ToldFirst, first_of}
@@ -39,6 +41,69 @@ module _ {text : List ℕ} {one other : ℕ} where
   pub lacks_less : {p q r : ℕ} → Lacks text p r one other → p ≤ q → q ≤ r → Lacks text p q one other
   lacks_less l h k =
       record { ordered = h; within = omega (arith, l.within); free = λ i a b. l.free i a (omega arith) }
+
+-- a block of the text
+pub lacks_block : (text : List ℕ) (q : ℕ) {n one other : ℕ} → 64 ≤ n → q + 64 ≤ length text
+    → Lacks (take n (drop q text)) 0 64 one other → Lacks text q (q + 64) one other
+lacks_block text q {n = n} k h l =
+    record {
+      ordered = omega arith;
+      within = h;
+      free = λ i a b.
+          let e : word (take n (drop q text)) (i - q) ≡ word text i
+          = get_or-take n (drop q text) (i - q) 0 (omega arith) ∙ word_drop text q i a in
+          let f = l.free (i - q) (omega arith) (omega arith) in
+          (λ g. f.0 (e ∙ g), λ g. f.1 (e ∙ g));
+    }
+
+-- so many blocks of what the text has behind a place
+pub lacks_blocks : (text xs : List ℕ) (p : ℕ) {one other : ℕ} → xs ≡ drop p text → (n : ℕ) → p + n * 64 ≤ length text
+    → ((k : ℕ) → k < n → Lacks (take 64 (drop (k * 64) xs)) 0 64 one other) → Lacks text p (p + 64 * n) one other
+lacks_blocks text xs p e zero h f =
+    record { ordered = omega arith; within = omega arith; free = λ i a b. absurd (omega arith) }
+lacks_blocks text xs p {one} {other} e (suc n) h f =
+    let a : p + 64 * n + 64 ≡ p + 64 * suc n = omega arith in
+    let b : p + n * 64 ≡ p + 64 * n = omega arith in
+    let d = ap (λ (ys : List ℕ). take 64 (drop (n * 64) ys)) e ∙ ap (take 64) (drop-drop (n * 64) p text)
+    ∙ ap (λ (k : ℕ). take 64 (drop k text)) b in
+    subst (λ (r : ℕ). Lacks text p r one other) a
+    (lacks_join (lacks_blocks text xs p e n (omega arith) (λ k l. f k (omega arith)))
+    (lacks_block text (p + 64 * n) {n = 64} (omega arith) (omega arith)
+    (subst (λ (ys : List ℕ). Lacks ys 0 64 one other) d (f n (omega arith)))))
+
+-- the blocks that a run of `take_while` over `chunks_exact` gave
+pub lacks_run : (text : List ℕ) (p n m : ℕ) {size : ℕ} {rest : List ℕ} {one other : ℕ}
+    {at at' : ℕ → Option (Bor (List ℕ))}
+    → size ≡ 64 → rest ≡ drop p text → p ≤ length text → n ≤ m → m * size ≤ length rest
+    → ((k : ℕ) → k < n → at k ≡ at' k)
+    → ((k : ℕ) → IfSome (at k)
+    (λ x. (length x.now ≡ size) × (k * size + size ≤ length rest) × IsSubsliceAt size rest (k * size) x.now))
+    → ((k : ℕ) → k < n → IsSomeAnd (at' k) (λ x. Lacks x.now 0 64 one other)) → Lacks text p (p + 64 * n) one other
+lacks_run text p n m {size} {rest} {one} {other} {at} {at'} z y h l w same parts lack =
+    lacks_blocks text rest p y n fits
+    (λ k b. go k (at k) (parts k)
+    (subst (λ o. IsSomeAnd o (λ x. Lacks x.now 0 64 one other)) (sym (same k b)) (lack k b)))
+  where
+    w' : m * 64 ≤ length rest
+    w' = subst (λ (s : ℕ). m * s ≤ length rest) z w
+
+    fits : p + n * 64 ≤ length text
+    fits = omega (arith, w', l, h, ap length y, length-drop p text)
+
+    go : (k : ℕ) (o : Option (Bor (List ℕ)))
+        → IfSome o
+        (λ x. (length x.now ≡ size) × (k * size + size ≤ length rest) × IsSubsliceAt size rest (k * size) x.now)
+        → IsSomeAnd o (λ x. Lacks x.now 0 64 one other) → Lacks (take 64 (drop (k * 64) rest)) 0 64 one other
+    go k (Some x) f g =
+        subst (λ (ys : List ℕ). Lacks ys 0 64 one other)
+        (f.2.0 ∙ ap (λ (s : ℕ). take s (drop (k * s) rest)) z) g
+    go k None f g = absurd g
+
+-- what is known of an item, if there is one, where there is one
+pub item_at : {A : Type 0} {P Q : A → Type 0} (o : Option A) {v : A} → option_map (λ y. y) o ≡ Some v → IfSome o P
+    → ((x : A) → P x → Q x) → IsSomeAnd o Q
+item_at None e p f = absurd (true≢false (sym (ap is_some e)))
+item_at (Some x) e p f = f x p
 
 -- so many hits among the first bytes of a block
 pub record Counted (text : List ℕ) (p count hits one other : ℕ) : Type 0 where

@@ -6,11 +6,11 @@ use native.Mathlib.Numerals.{add-one}
 use mathlib.Core.Path.{◌≡◌, refl, sym, ap, ◌∙◌, subst}
 use mathlib.Core.Bool.{Bool, true, false, cond, not, false≢true}
 use mathlib.Core.List.{List, [], ◌∷◌}
-use mathlib.Core.Option.{none, some}
+use mathlib.Core.Option.{none, some, some-ne-none}
 use lib.ListN.{length, drop, drop_of_length-le}
 use lib.Seq.{drop-cons}
 use lib.Dec.{eqb}
-use borrow.Author.Tests.{eq-eqb, ne_eqb}
+use borrow.Author.Tests.{eq-eqb, ne_eqb, eqb-true}
 use Rattle.rules.specs.Lists.{word}
 use Rattle.rules.specs.TextReading.{is_digit, digits_at, past_digits, value_on, no_numeral}
 use Rattle.rules.specs.TextReading.{Front, front, then_read, read_byte, read_number, read_field}
@@ -30,11 +30,11 @@ since_end text p h = drop_of_length-le text h
 
 -- ---- saturated numbers
 
-pub push_saturated : (v d : ℕ) → 1844674407370955160 < v → 18446744073709551610 ≡ saturated (10 * v + d)
+pub push_saturated : (v d : ℕ) → 1844674407370955161 ≤ v → 18446744073709551610 ≡ saturated (10 * v + d)
 unfolding saturated
 push_saturated v d h = omega arith
 
-pub push_exact : (v d : ℕ) → d ≤ 9 → v ≤ 1844674407370955160 → d + 10 * v ≡ saturated (10 * v + d)
+pub push_exact : (v d : ℕ) → d ≤ 9 → v < 1844674407370955161 → d + 10 * v ≡ saturated (10 * v + d)
 unfolding saturated
 push_exact v d h k = omega arith
 
@@ -44,7 +44,7 @@ pub is_known : (k : ℕ) → ¬ (k ≡ 0) → not (eqb k 0) ≡ true
 is_known k n = ap not (ne_eqb k 0 n)
 
 pub value_small : (known : Bool) (v : ℕ) → v ≤ cond known 4294967295 18446744073709551610 → known ≡ true
-    → v ≤ 1844674407370955160
+    → v < 1844674407370955161
 value_small true v h e = omega arith
 value_small false v h e = absurd (false≢true e)
 
@@ -244,6 +244,23 @@ byte_here text p c b h e =
 pub byte_end : (text : List ℕ) (p c : ℕ) → length text ≤ p → read_byte c (since text p) ≡ none
 unfolding read_byte
 byte_end text p c h = ap (read_byte c) (since_end text p h)
+
+-- what an answer about the byte at a place says of it
+module _ (text : List ℕ) (p c : ℕ) {b : Bool}
+    (t : read_byte c (since text p) ≡ cond b (some (since text (p + 1))) none) (h : p < length text) where
+  pub byte_stands : b ≡ true → word text p ≡ c
+  byte_stands e = go (eqb (word text p) c) refl
+    where
+      go : (a : Bool) → eqb (word text p) c ≡ a → word text p ≡ c
+      go true f = eqb-true (word text p) c f
+      go false f =
+          absurd (some-ne-none _ (sym (t ∙ ap (λ (d : Bool). cond d (some (since text (p + 1))) none) e)
+          ∙ byte_here text p c false h f))
+
+  pub byte_lacking : b ≡ false → ¬ (word text p ≡ c)
+  byte_lacking e f =
+      some-ne-none _ (sym (byte_here text p c true h (eq-eqb (word text p) c f))
+      ∙ t ∙ ap (λ (d : Bool). cond d (some (since text (p + 1))) none) e)
 
 -- ---- a number and a byte
 

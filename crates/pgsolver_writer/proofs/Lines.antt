@@ -1,28 +1,31 @@
 -- The line of a vertex of a game that can be written: where its successors stand, what the line is made of, and which
 -- games have such lines. Assumes nothing.
 use mathlib.Core.Path.{◌≡◌, refl, sym, ap, ◌∙◌}
-use mathlib.Core.Bool.{Bool, true, false}
+use mathlib.Core.Bool.{Bool, true, false, not}
 use mathlib.Core.List.{List, [], ◌∷◌, ◌++◌}
 use Prim.Native.Nat.{ℕ, suc, ◌+◌, ◌≤◌, ◌<◌}
 use native.Mathlib.Omega.{arith}
-use lib.ListN.{length, length-append}
+use lib.ListN.{length, length-append, get_or}
 use lib.Dec.{eqb}
 use Rattle.std.specs.declared.result.Result.TheVariants.{Ok}
-use Rattle.rules.specs.Answers.{Check, fault, fault_if}
+use Rattle.std.specs.Bool.{MatchBool}
+use Rattle.std.specs.List.{AllWithin, HoldsAt, range_with_len}
+use Rattle.std.proofs.lemmas.List.FromFn.{length-range_with_len, get_or-range_with_len}
+use Rattle.lists.proofs.Tallies.{every-at, every-all}
+use Rattle.rules.specs.Answers.{Check, fault_if}
 use Rattle.rules.specs.Lists.{word, In, once, every}
 use Rattle.rules.specs.Game.{vertex_count, owner_in, priority_in, targets_in}
 use Rattle.rules.specs.GameRefusal.{game_refusal}
 use Rattle.rules.specs.Texts.{decimal}
 use Rattle.rules.specs.Pgsolver.{name_text, line_text}
 use Rattle.rules.specs.PgsolverWriting.{line_in, has_successor, refusal98, writing_refusal}
-use borrow.Author.Tests.{eqb-true, eqb-false}
-use Rattle.tables.proofs.Faults.{if-true, if-false, if_fault, if_passed, then_both}
+use Rattle.tables.proofs.Faults.{then_both}
 use Rattle.lists.proofs.Inserts.{once_in}
 use Rattle.lists.proofs.Members.{in_at}
 use Rattle.lists.proofs.Equalities.{number_equality}
 use Rattle.restrictions.specs.GoodGame.{GoodGame}
 use Rattle.restrictions.proofs.Accepted.{good_game, most_offset, degree, target_below}
-use Rattle.game_texts.proofs.Exact.{not_stuck, passes98}
+use Rattle.game_texts.proofs.Exact.{not_stuck}
 use Rattle.parity_game.specs.Readable.{Readable}
 use Rattle.pgsolver_writer.specs.Lines.{line_by}
 use Rattle.pgsolver_writer.specs.Successors.{Writable, spaced_list, Vertices}
@@ -65,31 +68,34 @@ module _ (g : List ℕ) (good : GoodGame g) where
             good.few,
           )
 
--- whether vertex v has no successors is checked
-module _ (g : List ℕ) (v : ℕ) {targets : List ℕ} {empty : Bool} {check : Check} (read : targets ≡ targets_in g v)
-    (told : empty ≡ eqb (length targets) 0) (checked : check ≡ fault_if 98 0 empty) where
-  tested : check ≡ fault_if 98 0 (eqb (length (targets_in g v)) 0)
-  tested = checked ∙ ap (fault_if 98 0) (told ∙ ap (λ (ts : List ℕ). eqb (length ts) 0) read)
+-- whether a test holds at each place below n, as a search among them says
+every_searched : (f : ℕ → Bool) (n : ℕ) (r : Bool)
+    → MatchBool r (AllWithin (λ i. f i ≡ true) (range_with_len 0 n) 0 (length (range_with_len 0 n)))
+    ((k : ℕ) × (k < length (range_with_len 0 n)) × HoldsAt (λ i. f i ≡ false) (range_with_len 0 n) k)
+    → r ≡ every f 0 n
+every_searched f n true all =
+    sym (every-all f 0 n
+    (λ q a b. let e : get_or (range_with_len 0 n) q 0 ≡ q = get_or-range_with_len 0 n q 0 (omega arith) ∙ omega arith in
+    ap f (sym e) ∙ all q 0 (omega arith) (omega (arith, length-range_with_len 0 n))))
+every_searched f n false (k, l, none) = go (every f 0 n) refl
+  where
+    e : get_or (range_with_len 0 n) k 0 ≡ k
+    e = get_or-range_with_len 0 n k 0 (omega (arith, length-range_with_len 0 n)) ∙ omega arith
 
-  pub stuck_refused : {k p : ℕ} → v < vertex_count g → check ≡ fault k p → refusal98 g ≡ fault k p
-  unfolding refusal98
-  stuck_refused {k} {p} below f = go (every (has_successor g) 0 (vertex_count g)) refl
-    where
-      bad : (eqb (length (targets_in g v)) 0 ≡ true) × (98 ≡ k) × (0 ≡ p)
-      bad = if_fault 98 0 _ (sym tested ∙ f)
+    go : (t : Bool) → every f 0 n ≡ t → false ≡ t
+    go true h = sym (ap f (sym e) ∙ none 0) ∙ every-at f 0 n h k (omega arith) (omega (arith, length-range_with_len 0 n))
+    go false h = refl
 
-      go : (b : Bool) → every (has_successor g) 0 (vertex_count g) ≡ b → refusal98 g ≡ fault k p
-      go true t =
-          let some = not_stuck g (if-false 98 0 (rw t refl)) v below in
-          absurd (omega (arith, eqb-true _ _ bad.0))
-      go false t = if-true 98 0 (rw t refl) ∙ sym (if-true 98 0 bad.0) ∙ sym tested ∙ f
-
-  pub some_successor : check ≡ Ok tt → ¬ (targets_in g v ≡ [])
-  some_successor f none = eqb-false _ _ (if_passed 98 0 _ (sym tested ∙ f)) (ap length none)
-
-pub none_stuck : (g : List ℕ) (v : ℕ) → vertex_count g ≤ v → ((u : ℕ) → u < v → ¬ (targets_in g u ≡ []))
-    → refusal98 g ≡ Ok tt
-none_stuck g v h f = passes98 g (λ u k. f u (omega arith))
+-- 98 goes by whether each vertex below so many has a successor
+pub successors_searched : (g : List ℕ) (n : ℕ) (r : Bool) (check : Check) → n ≡ vertex_count g
+    → check ≡ fault_if 98 0 (not r)
+    → MatchBool r (AllWithin (λ v. has_successor g v ≡ true) (range_with_len 0 n) 0 (length (range_with_len 0 n)))
+    ((k : ℕ) × (k < length (range_with_len 0 n)) × HoldsAt (λ v. has_successor g v ≡ false) (range_with_len 0 n) k)
+    → check ≡ refusal98 g
+unfolding refusal98
+successors_searched g n r check many said found =
+    said ∙ ap (λ (b : Bool). fault_if 98 0 (not b))
+    (every_searched (has_successor g) n r found ∙ ap (every (has_successor g) 0) many)
 
 -- ---- the line of a vertex
 

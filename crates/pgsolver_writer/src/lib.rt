@@ -2,8 +2,7 @@
 // `write_pgsolver` is the one function for users; the others are its parts.
 #![tactic(auto)]
 
-ghost use Rattle.std.specs.Prelude.{Ok, ◌≡◌, cond, [], ◌∷◌, ◌*◌, ◌<◌, ◌≤◌, length, eqb, MatchResult};
-ghost use Rattle.rules.specs.declared.Answer.TheVariants.{Refused};
+ghost use Rattle.std.specs.Prelude.{Ok, ◌≡◌, cond, [], ◌∷◌, ◌*◌, ◌<◌, ◌≤◌, length, eqb};
 ghost use Rattle.rules.specs.Answers.{said};
 ghost use Rattle.rules.specs.Lists.{once};
 ghost use Rattle.rules.specs.Game.{vertex_count};
@@ -15,6 +14,7 @@ ghost use Rattle.text_writer.specs.Appending.{Room, Appended};
 ghost use Rattle.restrictions.specs.GoodGame.{GoodGame};
 ghost use Rattle.bitmap.specs.Marks.{bitmap_numbers, marked, Met, Holds, Only};
 ghost use Rattle.pgsolver_writer.specs.Successors.{Writable, spaced_list, unless, Vertices};
+ghost use Rattle.pgsolver_writer.specs.Told.{Told};
 
 use bitmap::{Bitmap, WORDS};
 use parity_game::{Game, OWNER, PRIORITY, TARGET};
@@ -29,11 +29,10 @@ fn check_successors(game: &[u32]) -> Result<(), Fault>
     ensures { result ≡ refusal98 game.now }
 {
     let game = Game { words: game };
-    // Kept (proof): by `any` over the range, the search does not get from its run of calls to a vertex.
-    for vertex in 0..game.vertices() {
-        faults::fault_if(98, 0, game.edge_words(TARGET, vertex).is_empty())?;
-    }
-    Ok(())
+    let all_lead_on = (0..game.vertices()).all(|vertex| !game
+        .edge_words(TARGET, vertex)
+        .is_empty());
+    faults::fault_if(98, 0, !all_lead_on)
 }
 
 // 51, 52, 53, then 98.
@@ -90,6 +89,7 @@ struct Targets<'a> {
 impl<'a> Targets<'a> {
     // Empties the bitmap, in which only these vertices are marked; where there are more of them than words of the
     // bitmap, by clearing all of it.
+    // Kept (no plainer): `empty_list` of crate pgsolver_check chooses alike, but by the bytes of a list in a text.
     fn empty(self, bits: &mut Bitmap)
         requires { Only bits.old self.words.now }
         ensures { Holds bits.new [] }
@@ -241,32 +241,27 @@ impl<'a> WritableGame<'a> {
 }
 
 // The text of a game that is not refused, and zeros past it; 2 for a slice that is too short.
-fn write_checked(game: &[u32], text: &mut [u8]) -> Answer
+fn write_checked(game: &[u32], text: &mut [u8]) -> Result<Answer, Fault>
     requires { writing_refusal game.now ≡ Ok tt }
-    ensures { record { answer = result; text = text.new }
-        ≡ written_game game.now text.old }
+    ensures { Told game.now text.old text.new result }
 {
     let shown = WritableGame {
         game: Game { words: game },
     };
     let mut bits = Bitmap::new();
     let size = shown.text_length(&mut bits);
-    if text.len() < size {
-        return Answer::Refused(2, 0);
-    }
+    faults::fault_if(2, 0, text.len() < size)?;
     let mut written = Text::new(text);
     shown.put_text(&mut written, &mut bits);
-    written.finish()
+    Ok(written.finish())
 }
 
 // A game is written, or has a fault.
 fn write_text(game: &[u32], text: &mut [u8]) -> Result<Answer, Fault>
-    ensures { let whole = written_game game.now text.old in MatchResult result
-        (λ answer. ◌≡◌ {A = Written} (record { answer = answer; text = text.new }) whole)
-        (λ fault. ◌≡◌ {A = Written} (record { answer = Refused fault.number fault.place; text = text.new }) whole) }
+    ensures { Told game.now text.old text.new result }
 {
     check_writing(game)?;
-    Ok(write_checked(game, text))
+    write_checked(game, text)
 }
 
 // Writes a game as PGSolver text into the text slice. Refused are 51, 52 and 53 as a restriction is, 98 for a vertex

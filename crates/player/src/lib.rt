@@ -11,7 +11,7 @@ pub enum Player {
     Odd,
 }
 
-// The number of a vertex. Only where words are written is it taken apart.
+// The number of a vertex. Only where words are read or written is it taken apart.
 #[derive(Clone, Copy, Debug, PartialEq, Eq)]
 pub struct VertexIndex(pub u32);
 
@@ -24,10 +24,7 @@ impl From<Player> for u32 {
     ghost from_gives = { λ player word. word ≡ player_index player };
 
     fn from(player: Player) -> u32 {
-        match player {
-            Player::Even => 0,
-            Player::Odd => 1,
-        }
+        player as u32
     }
 }
 

@@ -2,10 +2,11 @@
 // each at its new number, and the map the new number of each vertex, UNREACHED for one that is not met.
 #![tactic(auto)]
 
-ghost use Rattle.std.specs.Prelude.{◌≡◌, map, ℕ, ◌+◌, ◌*◌, ◌<◌, ◌≤◌, length, take, eqb};
+ghost use Rattle.std.specs.Prelude.{◌≡◌, map, ℕ, ◌+◌, ◌*◌, ◌<◌, length, take, eqb};
 ghost use Rattle.rules.specs.Lists.{word, insert, insert_all};
 ghost use Rattle.rules.specs.Answers.{said, Accepted};
 ghost use Rattle.rules.specs.Game.{edge_columns, vertex_count, edge_words_in};
+ghost use Rattle.faults.specs.Answers.{answer_of};
 ghost use Rattle.game_columns.specs.Shown.{edges_of};
 ghost use Rattle.rules.specs.Restrict.{reached_vertices, restriction_refusal, restricted_to, restriction};
 ghost use Rattle.rules.specs.Restricts.{Restricts, RestrictionDemand1};
@@ -161,6 +162,8 @@ impl Vertices for Reached<'_, '_> {
 }
 
 // The restriction of a game that is not refused, into slices of the right lengths.
+// Kept (no plainer): the lent slices are parameters one by one, here and below: a struct of three would have to promise
+// besides, in each contract, that each slice stays the same.
 fn restrict(game: &[u32], out: &mut [u32], mapping: &mut [u32], work: &mut [u32]) -> Answer
     requires { restriction_refusal game.now (length out.old) (length mapping.old) (length work.old)
         ≡ Ok tt }
@@ -182,6 +185,20 @@ fn restrict(game: &[u32], out: &mut [u32], mapping: &mut [u32], work: &mut [u32]
     Answer::Done(vertices, vertices, edges)
 }
 
+// A game is restricted, or it or a slice has a fault.
+fn restrict_lent(
+    game: &[u32],
+    out: &mut [u32],
+    mapping: &mut [u32],
+    work: &mut [u32],
+) -> Result<Answer, Fault>
+    ensures { record { answer = answer_of result; out = out.new; mapping = mapping.new; work = work.new }
+        ≡ restriction game.now out.old mapping.old work.old }
+{
+    check_lent(game, out.len(), mapping.len(), work.len())?;
+    Ok(restrict(game, out, mapping, work))
+}
+
 // The part of the game that its initial vertex reaches; the map has the new number of each vertex, 4,294,967,295 for
 // one that is not reached.
 pub fn compute_reachable(game: &[u32], out: &mut [u32], map: &mut [u32], work: &mut [u32]) -> Answer
@@ -195,10 +212,5 @@ pub fn compute_reachable(game: &[u32], out: &mut [u32], map: &mut [u32], work: &
         game.now out.old map.old work.old result
         out.new map.new work.new }
 {
-    // Kept (no plainer): for `unwrap_or_else(Answer::from)` the two calls would be one function more, which would have to
-    // promise of both outcomes what stands here.
-    match check_lent(game, out.len(), map.len(), work.len()) {
-        Ok(()) => restrict(game, out, map, work),
-        Err(fault) => Answer::from(fault),
-    }
+    restrict_lent(game, out, map, work).unwrap_or_else(Answer::from)
 }

@@ -9,6 +9,8 @@ use std::io;
 use std::io::Read;
 
 // Reads until the buffer is full or the input ends. Answers how many bytes it then holds of the input, at its front.
+// Kept (no plainer): an answer whether the buffer is full would serve those who want all of it, but not the program
+// that reads what there is.
 // Kept (rule): read_exact refuses an input that ends earlier, and take(n).read_to_end(v) puts the bytes on the heap.
 pub fn read_full<R: Read>(input: &mut R, buffer: &mut [u8]) -> io::Result<usize>
     ensures bound { ReadsAtMost result buffer.new }

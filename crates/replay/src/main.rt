@@ -45,16 +45,8 @@ enum Call<'a> {
     Restrict(&'a [u32], Lent),
 }
 
-// So many words, and those behind them; None where there are fewer.
-fn split(words: &[u32], length: u32) -> Option<(&[u32], &[u32])> {
-    let length = length as usize;
-    if words.len() < length {
-        return None;
-    }
-    Some(words.split_at(length))
-}
-
-// The four groups of words stand one after the other.
+// The four groups of words stand one after the other. None where fewer words are handed over than they have, or where
+// more is to be lent than there is.
 fn build_of(record: &Record) -> Option<Build<'_>> {
     let [
         _,
@@ -70,10 +62,10 @@ fn build_of(record: &Record) -> Option<Build<'_>> {
         work,
         fill,
     ] = record.head;
-    let (labels, rest) = split(&record.handed, labels)?;
-    let (system, rest) = split(rest, system)?;
-    let (actions, rest) = split(rest, actions)?;
-    let (formula, _) = split(rest, formula)?;
+    let (labels, rest) = record.handed.split_at_checked(labels as usize)?;
+    let (system, rest) = rest.split_at_checked(system as usize)?;
+    let (actions, rest) = rest.split_at_checked(actions as usize)?;
+    let (formula, _) = rest.split_at_checked(formula as usize)?;
     let (game, work) = (game as usize, work as usize);
     if 117 < game || 193 < work {
         return None;
@@ -97,7 +89,7 @@ fn build_of(record: &Record) -> Option<Build<'_>> {
 
 fn restriction_of(record: &Record) -> Option<Call<'_>> {
     let [_, _, _, _, game, _, _, _, out, map, work, fill] = record.head;
-    let (game, _) = split(&record.handed, game)?;
+    let (game, _) = record.handed.split_at_checked(game as usize)?;
     let lent = Lent {
         fill,
         out: lent_length(out),

@@ -24,7 +24,7 @@ use Rattle.pairs.specs.Table.{keys_of}
 use Rattle.pairs.proofs.Uses.{keys_kept, table_kept}
 use Rattle.settling.specs.declared.Counters.{Counters}
 use Rattle.settling.specs.Stand.{waiting_in, waiting_of, edges_of, counts_of, marks_of, put_edge}
-use Rattle.settling.specs.Made.{Marks, Ready, Meeting, Made, TooMany, Answer, MarksCleared}
+use Rattle.settling.specs.Made.{with_edges, Appended, Marks, Ready, Meeting, Made, TooMany, Answer, MarksCleared}
 use Rattle.settling.proofs.Buffer.{regions_same, edges_same, counts_same, past_marks, mark_at}
 use Rattle.settling.proofs.Buffer.{region_edge, edges_more, counts_more, edges_rest, counts_rest}
 use Rattle.settling.proofs.Buffer.{length-put_edge, ready_on}
@@ -153,10 +153,6 @@ many_early w v e c ts us f =
 
 -- ---- one target
 
--- the counters with so many edges
-abbrev pub with_edges : Counters → ℕ → Counters
-with_edges c n = record { known = c.known; settled = c.settled; edges = n; waiting = c.waiting }
-
 -- met, then perhaps marked, then given an edge, behind which so many transitions stand
 module _ (v e : ℕ) (w w₁ w₂ w₃ : List ℕ) (c : Counters) (t u count : ℕ) (c₁ : Counters) (r : Ready w v e c)
     (p : Meeting w w₁ v c t u c₁) (room : c.edges < e) (long : length w₂ ≡ length w)
@@ -223,3 +219,15 @@ marks_rest w w' v b e m i h = subst (λ (l : List ℕ). word l i ≤ b) (sym (re
 
 pub marks_rise : (w : List ℕ) (v b b' : ℕ) → b ≤ b' → Marks w v b → Marks w v b'
 marks_rise w v b b' l m i h = omega (arith, m i h)
+
+-- a target that was met gets an edge, if there is room for it
+pub answer_appended : (v e : ℕ) (w w₁ w₂ : List ℕ) (c : Counters) (t u count : ℕ) (c₁ : Counters) → Ready w v e c
+    → Meeting w w₁ v c t u c₁ → length w₁ ≡ length w → (r : Result Counters NoRoom)
+    → Appended v e c₁ u count w₁ w₂ r → Answer w v e c (t ∷ []) (count ∷ []) w₂ r
+answer_appended v e w w₁ w₂ c t u count c₁ r p long (Ok c₂) a =
+    subst (λ (d : Counters). Made w v e c w₂ d (t ∷ []) (count ∷ []))
+    (sym (a.2 ∙ ap (λ (k : ℕ). with_edges c₁ (k + 1)) p.same_edges))
+    (edge_made v e w w₁ w₁ w₂ c t u count c₁ r p (omega (arith, a.0, p.same_edges)) long (λ x h. refl) refl refl
+    (λ m. marks_rise w₁ v c.edges (c.edges + 1) (omega arith) (marks_rest w w₁ v c.edges p.rest m))
+    (a.1 ∙ ap (λ (k : ℕ). put_edge v e k u count w₁) p.same_edges))
+answer_appended v e w w₁ w₂ c t u count c₁ r p long (Err x) a = inr (omega (arith, a.0, p.same_edges))

@@ -17,7 +17,6 @@ use Rattle.std.specs.declared.result.Result.TheVariants.{Ok, Err}
 use Rattle.pairs.specs.declared.NoRoom.{NoRoom}
 use Rattle.rules.specs.Lists.{word, In, Distinct, one, occurrences, position, insert, insert_all, once}
 use Rattle.rules.specs.Walk.{push_new}
-use Rattle.rules.specs.Words.{most_vertices, most_edges}
 use Rattle.lists.specs.Shapes.{Begins, positions}
 use Rattle.lists.proofs.Members.{in_left, in_last, in_either, map_at, map-append, distinct_positions}
 use Rattle.lists.proofs.Members.{position_below, position_at, position_append, position_out}
@@ -38,12 +37,12 @@ use Rattle.settling.specs.declared.MarkedBy.TheVariants.{State, Vertex}
 use Rattle.settling.specs.declared.Operand.{Operand}
 use Rattle.settling.specs.Stand.{waiting_in, waiting_of, edges_of, counts_of, marks_of, put_edge, put_count}
 use Rattle.settling.specs.Made.{Ready, Meeting, Made, TooMany, MarkedIn, Marked, tallies, Gathering, Gathered}
-use Rattle.settling.specs.Made.{Apart, Raisable, marker}
+use Rattle.settling.specs.Made.{Apart, Raisable, marker, with_edges, Appended}
 use Rattle.settling.proofs.Buffer.{region_edge, region_count, length-put_count, length_counts}
 use Rattle.settling.proofs.Buffer.{edges_rest, counts_rest, edges_raised, counts_raised, counts_word, ready_on}
 use Rattle.settling.proofs.Buffer.{length_marks, mark_at, mark_put, first_marks, marks_rest}
 use Rattle.settling.proofs.Buffer.{marks_count, marks_edge, region_mark, edges_mark, counts_mark}
-use Rattle.settling.proofs.Make.{made_none, made_more, many_more, many_early, many_one, with_edges, edge_made}
+use Rattle.settling.proofs.Make.{made_none, made_more, many_more, many_early, many_one, edge_made}
 
 -- ---- how often each key was met
 
@@ -294,7 +293,7 @@ module _ (v e many : ℕ) (w w₁ : List ℕ) (c : Counters) (operand : Operand)
 
   -- above the start, the edge that it tells has a count, which can rise
   pub mark_raises : (mark : ℕ) → mark ≡ word w₁ (7 * v + i) → operand.start < mark
-      → ((v ≤ most_vertices) × (e ≤ most_edges) × (mark - 1 < e) × (8 * v + 2 * e ≤ length w₁))
+      → ((mark - 1 < e) × (8 * v + 2 * e ≤ length w₁))
       × (word (counts_of w₁ v e e) (mark - 1) < 4_294_967_295)
   mark_raises mark at h =
       let back : mark ≡ word (marks_of w v many) i =
@@ -305,7 +304,7 @@ module _ (v e many : ℕ) (w w₁ : List ℕ) (c : Counters) (operand : Operand)
       let z : word (counts_of w₁ v e e) (mark - 1) ≡ word (counts_of w v e c.edges) (mark - 1) =
       counts_word v e e c.edges (mark - 1) w₁ (omega (arith, r.buffer)) (omega arith)
       ∙ ap (λ (l : List ℕ). word l (mark - 1)) (counts_rest v e c.edges w w₁ r.buffer rest) in (
-        (r.most, r.most-edges, omega (arith, r.buffer), omega (arith, r.whole)),
+        (omega (arith, r.buffer), omega (arith, r.whole)),
         omega (arith, z, a.counts (mark - 1) (omega arith) (omega arith)),
       )
 
@@ -541,7 +540,7 @@ module _ (v e : ℕ) (w w₁ : List ℕ) (c : Counters) (t u : ℕ) (c₁ : Coun
         met_not_above many apart.0 operand.item.number s i c₀.edges (once eqb ks) all
         operand.marked_by o g.marked (subst (λ (k : ℕ). k ≤ c₀.edges) mark_kept h)
 
-    pub once_new : (w₂ w₃ : List ℕ) → word w₁ (7 * v + i) ≤ c₀.edges → c.edges < e
+    once_new : (w₂ w₃ : List ℕ) → word w₁ (7 * v + i) ≤ c₀.edges → c.edges < e
         → w₂ ≡ put_word 7 v i (c.edges + 1) w₁ → w₃ ≡ put_edge v e c.edges u 1 w₂
         → Gathering w₀ v e many c₀ operand (ks ++ (t ∷ [])) w₃ (with_edges c₁ (c.edges + 1))
     once_new w₂ w₃ h room g₂ g₃ =
@@ -591,7 +590,7 @@ module _ (v e : ℕ) (w w₁ : List ℕ) (c : Counters) (t u : ℕ) (c₁ : Coun
         mark_bound l y s i b (yes q) h = rw q (rw (get_or-set_same l y s 0 h) (omega arith))
         mark_bound l y s i b (no q) h = rw (get_or-set_other l y i s 0 q) b
 
-    pub once_many : word w₁ (7 * v + i) ≤ c₀.edges → e ≤ c.edges
+    once_many : word w₁ (7 * v + i) ≤ c₀.edges → e ≤ c.edges
         → TooMany w₀ v e c₀ (once eqb (ks ++ (t ∷ [])))
     once_many h l =
         inr (omega (
@@ -600,6 +599,17 @@ module _ (v e : ℕ) (w w₁ : List ℕ) (c : Counters) (t u : ℕ) (c₁ : Coun
           length-append (once eqb ks) (t ∷ []),
           g.made.row_length,
         ))
+
+    pub once_appended : (w₂ w₃ : List ℕ) (r : Result Counters NoRoom) → word w₁ (7 * v + i) ≤ c₀.edges
+        → w₂ ≡ put_word 7 v i (c₁.edges + 1) w₁ → Appended v e c₁ u 1 w₂ w₃ r
+        → Gathered w₀ v e many c₀ operand (ks ++ (t ∷ [])) w₃ r
+    once_appended w₂ w₃ (Ok c₂) h g₂ a =
+        subst (λ (d : Counters). Gathering w₀ v e many c₀ operand (ks ++ (t ∷ [])) w₃ d)
+        (sym (a.2 ∙ ap (λ (k : ℕ). with_edges c₁ (k + 1)) p.same_edges))
+        (once_new w₂ w₃ h (omega (arith, a.0, p.same_edges))
+        (g₂ ∙ ap (λ (k : ℕ). put_word 7 v i (k + 1) w₁) p.same_edges)
+        (a.1 ∙ ap (λ (k : ℕ). put_edge v e k u 1 w₂) p.same_edges))
+    once_appended w₂ w₃ (Err x) h g₂ a = once_many h (omega (arith, a.0, p.same_edges))
 
 -- marked by its state: that the pair is known need not be looked up, since to meet it again would change nothing
 pub once_early : (v e : ℕ) (w : List ℕ) (c : Counters) (t : ℕ) → Ready w v e c → (operand : Operand) (many : ℕ)

@@ -15,7 +15,7 @@ use Rattle.settling.specs.declared.Met.{Met}
 use Rattle.settling.specs.declared.MarkedBy.{MarkedBy}
 use Rattle.settling.specs.declared.MarkedBy.TheVariants.{State, Vertex}
 use Rattle.settling.specs.declared.Operand.{Operand}
-use Rattle.settling.specs.Stand.{waiting_of, edges_of, counts_of, marks_of}
+use Rattle.settling.specs.Stand.{waiting_of, edges_of, counts_of, marks_of, put_edge}
 
 -- every mark is at most b
 abbrev pub Marks : List ℕ → ℕ → ℕ → Type 0
@@ -30,6 +30,17 @@ pub record Ready (w : List ℕ) (v e : ℕ) (c : Counters) : Type 0 where
   pub table : Table w v c.known
   pub stack : c.settled + c.waiting ≤ c.known
   pub buffer : c.edges ≤ e
+
+-- the counters with so many edges
+abbrev pub with_edges : Counters → ℕ → Counters
+with_edges c n = record { known = c.known; settled = c.settled; edges = n; waiting = c.waiting }
+
+-- an edge to vertex x, behind which so many transitions stand, was put behind those that there were: nothing else
+-- changed, and nothing at all where there was no room for it
+abbrev pub Appended : (v e : ℕ) (c : Counters) (x count : ℕ) (w w' : List ℕ) → Result Counters NoRoom → Type 0
+Appended v e c x count w w' (Ok c') =
+    (c.edges < e) × (w' ≡ put_edge v e c.edges x count w) × (c' ≡ with_edges c (c.edges + 1))
+Appended v e c x count w w' (Err n) = (c.edges ≡ e) × (w' ≡ w)
 
 -- a pair that is to be numbered fits its key
 pub record Fitting (s q : ℕ) : Type 0 where

@@ -1,9 +1,12 @@
 // The parts of a step that are the same whatever a pair's targets come from: a target is numbered, pushed if it is new,
 // and given an edge in the lent work slice.
-// Kept (no plainer): the work slice and its room are two parameters. This differs from the structs over a lent slice in
-// crates `text_writer` and `reachability`: what is asked here holds between the parts of a step, and not between the
-// writes of one, so it could not be the invariant of a struct, and each contract would have to say besides that slice
-// and room are still the same.
+// Kept (no plainer): counters, work slice and room are three parameters. A struct of slice and room could promise only
+// that the slice is long enough (`Sized`): `Ready` speaks of the counters too, and does not hold between the writes of
+// a step. So three functions would lose a clause, and each contract would still speak of the slice inside the struct,
+// and say besides that slice and room stay the same.
+// Kept (no plainer): that a state can be numbered with an item (`Fitting`) is a clause of four functions: states come
+// from the words of the system as numbers, and a type for them would be made at each transition and be taken apart for
+// the key.
 #![tactic(auto)]
 
 ghost use Rattle.std.specs.Prelude.{◌≡◌, List, [], ◌∷◌, ◌++◌, map, ℕ, ◌+◌, ◌-◌, ◌*◌, ◌≤◌, ◌<◌, length};
@@ -14,15 +17,15 @@ ghost use Rattle.settling.specs.declared.Counters.{Counters};
 ghost use Rattle.settling.specs.Stand.{counts_of, put_edge, put_count};
 ghost use Rattle.settling.specs.declared.MarkedBy.TheVariants.{State};
 ghost use Rattle.settling.specs.Made.{Ready, Fitting, AllFit, MeetAnswer, Answer, Gathering, Gathered, Raisable};
-ghost use Rattle.settling.specs.Made.{marker, MarksCleared, CloseAnswer};
+ghost use Rattle.settling.specs.Made.{Appended, marker, MarksCleared, CloseAnswer};
 
 use pairs::{ByteMultiples, NoRoom, Numbered, ScaledItem};
 use player::VertexIndex;
 use rules::Room;
-use work_slice::{REGIONS, Region, put_word, region_word};
+use work_slice::{Region, edges_end, put_word, region_word};
 
 // Where a walk stands, in numbers.
-#[derive(Clone, Copy)]
+#[derive(Clone, Copy, Default)]
 pub struct Counters {
     pub known: u32,
     pub settled: u32,
@@ -38,29 +41,49 @@ pub struct Met {
 }
 
 // Where the target of the edge at a place stands. Its count stands behind it by as many words as edges fit.
+// Kept (no plainer): 0 is the column of the targets, TARGET of crate `parity_game`, on which this crate does not stand.
 fn edge_word(room: Room, place: u32) -> usize
-    requires { (room.vertices ≤ most_vertices) × (room.edges ≤ most_edges) × (place < room.edges) }
+    requires { place < room.edges }
     ensures { result ≡ 8 * room.vertices + (room.edges - 1 - place) }
 {
-    REGIONS * (room.vertices as usize) + (room.edges as usize - 1 - (place as usize))
+    edges_end(room.vertices, room.edges, 0) - 1 - (place as usize)
 }
 
 // An edge is put at a place of the edge buffer, behind which so many transitions stand.
 fn put_edge(work: &mut [u32], room: Room, place: u32, target: VertexIndex, count: u32)
-    requires { (room.vertices ≤ most_vertices) × (room.edges ≤ most_edges) × (place < room.edges)
-        × (8 * room.vertices + 2 * room.edges ≤ length work.old) }
-    ensures { work.new
-        ≡ put_edge room.vertices room.edges place target.0 count work.old }
+    requires { (place < room.edges) × (8 * room.vertices + 2 * room.edges ≤ length work.old) }
+    ensures { work.new ≡ put_edge room.vertices room.edges place target.0 count work.old }
 {
     let edge = edge_word(room, place);
     work[edge] = target.0;
     work[edge + room.edges as usize] = count;
 }
 
+// One edge more is put behind those that there are. Where there is no room for it, nothing is written.
+fn append_edge(
+    counters: Counters,
+    work: &mut [u32],
+    room: Room,
+    target: VertexIndex,
+    count: u32,
+) -> Result<Counters, NoRoom>
+    requires { (counters.edges ≤ room.edges) × (8 * room.vertices + 2 * room.edges ≤ length work.old) }
+    ensures { Appended room.vertices room.edges counters target.0 count work.old work.new result }
+{
+    let edges = counters.edges;
+    if edges == room.edges {
+        return Err(NoRoom);
+    }
+    put_edge(work, room, edges, target, count);
+    Ok(Counters {
+        edges: edges + 1,
+        ..counters
+    })
+}
+
 // One more transition stands behind the edge at a place.
 fn raise_count(work: &mut [u32], room: Room, place: u32)
-    requires inside { (room.vertices ≤ most_vertices) × (room.edges ≤ most_edges) × (place < room.edges)
-        × (8 * room.vertices + 2 * room.edges ≤ length work.old) }
+    requires inside { (place < room.edges) × (8 * room.vertices + 2 * room.edges ≤ length work.old) }
     requires can_rise { word (counts_of work.old room.vertices room.edges room.edges) place < 4294967295 }
     ensures { work.new ≡ put_count room.vertices room.edges place
         (word (counts_of work.old room.vertices room.edges room.edges) place + 1)
@@ -108,16 +131,8 @@ fn number_target(
     ensures { Answer work.old room.vertices room.edges counters (key_of state item.entry.number ∷ [])
         (0 ∷ []) work.new result }
 {
-    let edges = counters.edges;
     let met = meet(counters, work, room, state, item)?;
-    if edges == room.edges {
-        return Err(NoRoom);
-    }
-    put_edge(work, room, edges, met.vertex, 0);
-    Ok(Counters {
-        edges: edges + 1,
-        ..met.counters
-    })
+    append_edge(met.counters, work, room, met.vertex, 0)
 }
 
 // The marks past their region become 0, where a step has so many.
@@ -159,8 +174,9 @@ pub struct Operand<'a> {
 // One target of a modality is met, by one transition. The first time it gets an edge, and its mark holds the place of
 // that edge: so one word shows whether it has its edge and where, and a later transition raises the edge's count
 // without a search.
-// Kept (no plainer): the mark is asked here as in `target_once`, which asks it before the pair is looked up. A function of
-// both would answer a flag, whether a count was raised, with a clause for what it left in either case.
+// Kept (no plainer): the mark is asked here as in `target_once`, which asks it before the pair is looked up. A function
+// of both would save two lines at each of the two places, and its contract would have eight: what it asks for a mark
+// and for the count behind it, that it answers whether one was found, and what it left in either case.
 fn meet_once(
     counters: Counters,
     work: &mut [u32],
@@ -177,7 +193,6 @@ fn meet_once(
         → Gathered w room.vertices room.edges marks c operand.entry
         (ks ++ key_of state operand.entry.item.number ∷ []) work.new result }
 {
-    let edges = counters.edges;
     let Met { vertex, counters } = meet(counters, work, room, state, operand.item)?;
     let index = mark_index(operand.marked_by, state, vertex);
     let mark = region_word(work, room.vertices, Region::Marks, index);
@@ -185,19 +200,15 @@ fn meet_once(
         raise_count(work, room, mark - 1);
         return Ok(counters);
     }
-    if edges == room.edges {
-        return Err(NoRoom);
-    }
+    // The mark is put before the edge: put behind it, `boxes` takes 1.1 % more instructions. Where there is no room for
+    // the edge the walk ends, and the mark is not read.
+    let edges = counters.edges;
     put_word(work, room.vertices, Region::Marks, index, edges + 1);
-    put_edge(work, room, edges, vertex, 1);
-    Ok(Counters {
-        edges: edges + 1,
-        ..counters
-    })
+    append_edge(counters, work, room, vertex, 1)
 }
 
-// The same. A mark that goes by the state is read before the pair is looked up, so that only the first of all
-// transitions to a state looks it up.
+// One target of a modality is met as in `meet_once`, but a mark that goes by the state is read first: so only the first
+// of all transitions to a state looks the pair up.
 pub fn target_once(
     counters: Counters,
     work: &mut [u32],
@@ -260,21 +271,13 @@ pub fn close(
     ensures { CloseAnswer work.old room.vertices room.edges vertex.0 start counters
         work.new result }
 {
-    let edges = counters.edges;
     let settled = counters.settled + 1;
-    if edges == start {
-        if edges == room.edges {
-            return Err(NoRoom);
-        }
-        put_edge(work, room, edges, vertex, 0);
+    if counters.edges == start {
+        let looped = append_edge(counters, work, room, vertex, 0)?;
         put_word(work, room.vertices, Region::Degrees, vertex.0, 2);
-        return Ok(Counters {
-            settled,
-            edges: edges + 1,
-            ..counters
-        });
+        return Ok(Counters { settled, ..looped });
     }
-    let degree = edges - start + 1;
+    let degree = counters.edges - start + 1;
     put_word(work, room.vertices, Region::Degrees, vertex.0, degree);
     Ok(Counters {
         settled,

@@ -28,7 +28,7 @@ use Rattle.settling.specs.Made.{Fitting, AllFit}
 use Rattle.modalities.specs.declared.Modality.{Modality}
 use Rattle.modalities.specs.Matched.{Inside as InsideModality, modality_keys, modality_counts}
 use Rattle.stepping.specs.Tables.{Tables}
-use Rattle.stepping.specs.Parts.{operands_of, ModalityIn}
+use Rattle.stepping.specs.Parts.{operands_of}
 use Rattle.stepping.proofs.Operands.{operands_none, operands_two, operands_one}
 
 key_each : (l : ℕ) (ts : List ℕ) → map pair_key (map (λ t. (t, l)) ts) ≡ map (λ t. key_of t l) ts
@@ -39,6 +39,12 @@ key_each l (t ∷ ts) = ap (λ (ks : List ℕ). key_of t l ∷ ks) (key_each l t
 all-zero : (f : Pair → ℕ) (ps : List Pair) → ((p : Pair) → f p ≡ 0) → map f ps ≡ replicate (length ps) 0
 all-zero f [] none = refl
 all-zero f (p ∷ ps) none = ap₂ (λ (n : ℕ) (l : List ℕ). n ∷ l) (none p) (all-zero f ps none)
+
+-- the modality that the table's words say for item q, at state s
+pub record ModalityIn (compiled : Compiled) (s q : ℕ) (m : Modality) : Type 0 where
+  pub state : m.state ≡ s
+  pub action : m.action ≡ word (rights_in compiled) q
+  pub operand : m.operand ≡ word (lefts_in compiled) q
 
 module _ (x : Input) (compiled : Compiled) (matched : MatchRows) (t : Tables x compiled matched) (s q : ℕ) (i : Inside x (s, q)) where
   abbrev kinds : List ℕ
@@ -161,7 +167,7 @@ module _ (x : Input) (compiled : Compiled) (matched : MatchRows) (t : Tables x c
               ⊎_elim (λ (e : o ≡ l). subst (Fitting s) (sym e) (left_fits l refl (omega arith))) absurd m)
 
     -- the modality
-    module _ (m : Modality) (is : ModalityIn compiled (record { state = s; item = q }) m) (modal : k / 2 ≡ 2) where
+    module _ (m : Modality) (is : ModalityIn compiled s q m) (modal : k / 2 ≡ 2) where
       pub modality_inside : InsideModality x m
       modality_inside = (
         omega (arith, i.0, is.state),

@@ -22,10 +22,9 @@ module _ (k l r : ℕ) where
   operands_one a = rw (le-ltb k 2 (omega arith), le-ltb k 4 a) refl
 
   -- the operands as they are read, so many of them
-  pub operands_read : (first second : ℕ) → first ≡ l → second ≡ r → (n : ℕ) → (k < 4 → n ≡ 2) → (4 ≤ k → n ≡ 1) → 2 ≤ k
-      → operands_of k l r ≡ take n (first ∷ second ∷ [])
-  operands_read first second is-first is-second n two one some = go (dec_lt k 4)
+  pub operands_read : (n : ℕ) → (k < 4 → n ≡ 2) → (4 ≤ k → n ≡ 1) → 2 ≤ k → operands_of k l r ≡ take n (l ∷ r ∷ [])
+  operands_read n two one some = go (dec_lt k 4)
     where
-      go : Dec (k < 4) → operands_of k l r ≡ take n (first ∷ second ∷ [])
-      go (yes h) = rw (two h, operands_two some h, is-first, is-second) refl
-      go (no h) = rw (one (omega arith), operands_one (omega arith), is-first) refl
+      go : Dec (k < 4) → operands_of k l r ≡ take n (l ∷ r ∷ [])
+      go (yes h) = rw (two h, operands_two some h) refl
+      go (no h) = rw (one (omega arith), operands_one (omega arith)) refl

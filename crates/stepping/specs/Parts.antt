@@ -1,14 +1,11 @@
--- What the parts of a step answer: the vertex that is taken off the stack, and what the table's words say of its item.
+-- What the parts of a step answer: the vertex that is taken off the stack, and the operands of its item.
 -- Assumes nothing: these are definitions.
 use Rattle.std.specs.Prelude.{◌≡◌, cond, List, [], ◌∷◌, ℕ, ◌-◌, ltb}
 use Rattle.rules.specs.Lists.{word}
 use Rattle.rules.specs.Pairs.{Pair as RulesPair}
 use Rattle.work_slice.specs.Regions.{region, put_word}
-use Rattle.compiled.specs.declared.Compiled.{Compiled}
-use Rattle.compiled.specs.Tables.{lefts_in, rights_in}
 use Rattle.pairs.specs.Table.{state_at, item_at}
 use Rattle.settling.specs.declared.Counters.{Counters}
-use Rattle.modalities.specs.declared.Modality.{Modality}
 use Rattle.stepping.specs.declared.Pair.{Pair}
 use Rattle.stepping.specs.declared.Popped.{Popped}
 
@@ -36,13 +33,3 @@ pub record PopAnswer (w : List ℕ) (v : ℕ) (c : Counters) (w' : List ℕ) (p 
 -- disjunction, else the left one
 unfoldable pub operands_of : (kind left right : ℕ) → List ℕ
 operands_of kind left right = cond (ltb kind 2) [] (cond (ltb kind 4) (left ∷ right ∷ []) (left ∷ []))
-
--- those that the table's words give
-abbrev pub operands_in : (compiled : Compiled) (kind item : ℕ) → List ℕ
-operands_in compiled kind item = operands_of kind (word (lefts_in compiled) item) (word (rights_in compiled) item)
-
--- the modality that the table's words say for the item of a pair, at its state
-pub record ModalityIn (compiled : Compiled) (p : Pair) (m : Modality) : Type 0 where
-  pub state : m.state ≡ p.state
-  pub action : m.action ≡ word (rights_in compiled) p.item
-  pub operand : m.operand ≡ word (lefts_in compiled) p.item

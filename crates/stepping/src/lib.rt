@@ -16,15 +16,14 @@ ghost use Rattle.settling.specs.Keys.{pair_key, key_targets, key_behind, root_ke
 ghost use Rattle.settling.specs.Made.{AllFit, Answer, Ready, Sized};
 ghost use Rattle.modalities.specs.Matched.{Unmarked};
 ghost use Rattle.settling.specs.Good.{Good, StepAnswer, WalkMade, WalkAnswer};
-ghost use Rattle.stepping.specs.Parts.{pair_in, top_of, PopAnswer, operands_in, ModalityIn};
+ghost use Rattle.stepping.specs.Parts.{pair_in, top_of, PopAnswer, operands_of};
 ghost use Rattle.stepping.specs.Answers.{TriedAnswer};
 
 mod walk_tables;
 
-use compiled::Compiled;
+use compiled::Item;
 use lent_input::Input;
 use modalities::Modality;
-use node_kinds::FormulaKind;
 use pairs::{ByteMultiples, NoRoom, Slots};
 use player::VertexIndex;
 use rules::Room;
@@ -80,48 +79,35 @@ fn pop(counters: Counters, work: &mut [u32], room: Room) -> Popped
     }
 }
 
-// The targets of a pair whose item is no modality are met and get their edges: they stay at its state.
+// The targets of a pair of this state and an item that is no modality are met and get their edges: they stay at the
+// state.
 fn settle_at_state(
     counters: Counters,
     tables: &WalkTables<'_>,
     work: &mut [u32],
     room: Room,
-    pair: Pair,
-    kind: FormulaKind,
+    state: u32,
+    item: Item,
 ) -> Result<Counters, NoRoom>
-    requires ready { Ready work.old room.vertices room.edges counters × (pair.item < 2048) }
-    requires all_fit { AllFit pair.state (operands_in tables.now.compiled.now (formula_code kind) pair.item) }
-    ensures { let items = operands_in tables.now.compiled.now (formula_code kind) pair.item in
-        Answer work.old room.vertices room.edges counters (map (key_of pair.state) items) (zeros items)
+    requires ready { Ready work.old room.vertices room.edges counters }
+    requires all_fit { AllFit state (operands_of (formula_code item.kind) item.left item.right) }
+    ensures { let items = operands_of (formula_code item.kind) item.left item.right in
+        Answer work.old room.vertices room.edges counters (map (key_of state) items) (zeros items)
         work.new result }
 {
-    if kind.is_constant() {
+    if item.kind.is_constant() {
         return Ok(counters);
     }
-    let left = tables.compiled.left_of(pair.item);
-    let right = tables.compiled.right_of(pair.item);
-    let operands = [left, right];
-    let items = &operands[..kinds::operand_count(kind)];
+    let operands = [item.left, item.right];
+    let items = &operands[..kinds::operand_count(item.kind)];
     settling::settle_operands(
         counters,
         tables.model().multiples(),
         work,
         room,
-        pair.state,
+        state,
         items,
     )
-}
-
-// The modality that a pair stands for, where its item is one.
-fn modality_of(compiled: &Compiled, pair: Pair) -> Modality
-    requires { pair.item < 2048 }
-    ensures { ModalityIn compiled.now pair result }
-{
-    Modality {
-        state: pair.state,
-        action: compiled.right_of(pair.item),
-        operand: compiled.left_of(pair.item),
-    }
 }
 
 // The targets of a popped vertex are met and get their edges, by the kind of its item: crate `kinds` has the rules.
@@ -140,12 +126,16 @@ fn settle(
 {
     let counters = popped.counters;
     let pair = popped.pair;
-    let kind = tables.compiled.kind_of(pair.item);
-    if kind.is_modality() {
-        let modality = modality_of(tables.compiled, pair);
+    let item = tables.compiled.item_at(pair.item);
+    if item.kind.is_modality() {
+        let modality = Modality {
+            state: pair.state,
+            action: item.right,
+            operand: item.left,
+        };
         return modalities::settle_modality(counters, &tables.model(), work, room, modality);
     }
-    settle_at_state(counters, tables, work, room, pair, kind)
+    settle_at_state(counters, tables, work, room, pair.state, item)
 }
 
 // The waiting vertex that was numbered last is settled.
@@ -235,12 +225,7 @@ pub fn begin(
     work_slice::clear(work, vertices, Region::Marks, 0, vertices);
     work_slice::clear(work, vertices, Region::Degrees, 0, vertices);
     let initial = input.system[2];
-    let none = Counters {
-        known: 0,
-        settled: 0,
-        edges: 0,
-        waiting: 0,
-    };
+    let none = Counters::default();
     let met = settling::meet(none, work, room, initial, multiples.scale(0))?;
     Ok(met.counters)
 }

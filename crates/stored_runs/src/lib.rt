@@ -4,6 +4,7 @@
 
 ghost use Rattle.std.specs.Prelude.{◌≡◌, ◌≤◌, ◌<◌, min, length, count_by, nat_lt, IfNone, IfOk, IfSome, All};
 ghost use Rattle.std.specs.Io.KnownBytes.{Consumes, IsAtEnd};
+ghost use Rattle.stored_runs.specs.Records.{EachRan};
 
 use rules::Answer;
 use std::io::Read;
@@ -28,11 +29,10 @@ fn read_array<R: Read, const N: usize>(input: &mut R) -> io::Result<Option<[u8; 
 }
 
 // The most records that a program reads, so that it ends whatever is handed to it.
-const MOST_RECORDS: u32 = 1_000_000;
+pub const MOST_RECORDS: u32 = 1_000_000;
 
-// Runs each record: it is given by its head, and the reader stands behind that. Answers how many there were.
-// Kept (no plainer): no caller uses the count, but by it the contract says that the input was read to its end. More it
-// cannot say, as what `run` reads and does is not known here.
+// Runs each record: it is given by its head, and the reader stands behind that. Answers how many there were; no caller
+// uses that, but by it the contract says that all were run.
 pub fn each_record<
     R: Read,
     const N: usize,
@@ -41,7 +41,8 @@ pub fn each_record<
 >(input: &mut R, mut run: F) -> io::Result<u32>
     requires short { N ≤ 4096 }
     requires callable { F.IsAlwaysCallable run }
-    ensures { IfOk result (λ n. (n ≤ 1000000) × (n < 1000000 → IsAtEnd (R.remaining input.new))) }
+    ensures whole { IfOk result (λ n. (n ≤ 1000000) × (n < 1000000 → IsAtEnd (R.remaining input.new))) }
+    ensures ran { IfOk result (λ n. EachRan R.remaining H.from_gives F.FnMut N 1000000 n (run, input.old)) }
 {
     for number in 0..MOST_RECORDS {
         let Some(head) = read_array::<R, N>(input)? else {
@@ -75,7 +76,7 @@ pub struct Groups<'a> {
     pub formula: &'a [u32],
 }
 
-// ---- printing: nothing is promised of what is written
+// ---- printing: nothing is promised of what is written, since std's `Print` promises nothing of it
 
 // An answer, as the thin program prints it.
 #[derive(Clone, Copy)]

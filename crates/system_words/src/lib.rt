@@ -3,25 +3,12 @@
 
 ghost use Rattle.std.specs.Prelude.{◌≡◌, [], ◌∷◌, ◌+◌, ◌*◌, ◌<◌, ◌≤◌, length};
 ghost use Rattle.rules.specs.Words.{most_states, most_transitions};
-ghost use Rattle.rules.specs.Lists.{sum_words};
 ghost use Rattle.rules.specs.Answers.{first_fault};
 ghost use Rattle.rules.specs.System.{state_count, transition_count};
 ghost use Rattle.rules.specs.Refusal.{refusal21, refusal22, refusal23, refusal24, refusal25, refusal26};
 
 use faults::fault_if;
 use rules::Fault;
-
-// The sum of `count` words from `first` on: at most 65,535 words, so it does not wrap.
-fn sum_words(ws: &[u32], first: usize, count: usize) -> usize
-    requires { (first + count ≤ length ws.now) × (count ≤ most_states) × (first ≤ 3) }
-    ensures { result ≡ sum_words ws.now first count }
-{
-    let mut sum = 0;
-    for degree in &ws[first..first + count] {
-        sum += *degree as usize;
-    }
-    sum
-}
 
 // The most states and transitions of a system.
 const MOST_STATES: usize = 65_535;
@@ -42,7 +29,7 @@ fn check_sizes(system: &[u32]) -> Result<(), Fault>
 }
 
 // 23 to 26, of words with the right sizes.
-#[tactic(auto, unfolding(rules::specs::Answers::first_fault, rules::specs::Answers::and_then, rules::specs::Refusal::differ, rules::specs::Refusal::refusal23, rules::specs::Refusal::refusal24, rules::specs::Refusal::refusal25, rules::specs::Refusal::refusal26))]
+#[tactic(auto, using(crate::proofs::System::degrees_summed), unfolding(rules::specs::Answers::first_fault, rules::specs::Answers::and_then, rules::specs::Refusal::differ, rules::specs::Refusal::refusal23, rules::specs::Refusal::refusal24, rules::specs::Refusal::refusal25, rules::specs::Refusal::refusal26))]
 fn check_transitions(labels: &[u32], system: &[u32]) -> Result<(), Fault>
     requires sized { (0 < length labels.now)
         × (length system.now ≡ 3 + state_count system.now + 2 * transition_count system.now) }
@@ -53,8 +40,8 @@ fn check_transitions(labels: &[u32], system: &[u32]) -> Result<(), Fault>
     let states = words::at(system, 0);
     let transitions = words::at(system, 1);
     fault_if(23, 2, states <= words::at(system, 2))?;
-    fault_if(24, 1, sum_words(system, 3, states) != transitions)?;
     let numbers = 3 + states;
+    fault_if(24, 1, words::sum(&system[3..numbers]) != transitions)?;
     let targets = numbers + transitions;
     faults::check_below(system, numbers, targets, words::at(labels, 0), 25)?;
     faults::check_below(system, targets, targets + transitions, states, 26)

@@ -13,10 +13,12 @@ mod trees;
 use faults::fault_if;
 use rules::Fault;
 pub use shapes::{NodeKind, OperandRule, Shape};
-pub use trees::{FirstNodes, Row, TreeEnds, Trees, first_nodes};
+pub use trees::{FirstNodes, Row, TreeEnds, Trees, first_nodes, tree_ends};
 use words::NODES;
 
 // Fault `number` at the first node whose kind is above `most`.
+// Kept (rule): the greatest kind is a number, here and below: the check is of any table, and by the kinds of a
+// `NodeKind` it would be of two only.
 fn check_kinds(ws: &[u32], most: usize, number: u32) -> Result<(), Fault>
     requires { Sized ws.now }
     ensures { result ≡ fault_from number 0 (size ws.now)

@@ -1,7 +1,8 @@
 // What the kind of a node says of it: how many children it has, and what its operand is.
 
 ghost use Rattle.std.specs.Prelude.{◌≡◌, List, ℕ, ◌<◌, Result};
-ghost use Rattle.rules.specs.Table.{Shape as NodeShape, size, kind, action_node, action_shape, formula_node, formula_shape};
+ghost use Rattle.rules.specs.Table.{Shape as NodeShape, size, kind};
+ghost use Rattle.rules.specs.Table.{action_node, action_shape, formula_node, formula_shape};
 ghost use Rattle.node_kinds.specs.declared.UnknownKind.{UnknownKind};
 ghost use Rattle.node_kinds.specs.Codes.{ReadsAction, ReadsFormula};
 ghost use Rattle.table_words.specs.Shapes.{shape_in, shape_read, action_kind_shape, formula_kind_shape};
@@ -33,6 +34,8 @@ pub struct Shape {
 }
 
 // The kinds of the nodes of a table.
+// Kept (no plainer): `read` is `try_from` under the law of this trait: with `TryFrom` as a bound, its error would be a
+// type to be bound as well, and what it answers be said of that.
 pub trait NodeKind: Copy {
     // what is read for a word
     ghost read_gives: { ℕ → Result Self UnknownKind → Type 0 };

@@ -12,6 +12,8 @@ use std::marker::PhantomData;
 use words::NODES;
 
 // Where the tree of each node ends, and of the two places past the nodes.
+// Kept (no plainer): an unfinished tree has a number past the nodes as its end, for the reason at `node_end`: an Option
+// would need a case of its own at each child.
 pub type TreeEnds = [usize; NODES + 2];
 
 // Whether a tree of the row begins at each node, and at the place past the nodes.
@@ -151,7 +153,8 @@ pub fn first_nodes(ends: &TreeEnds, count: usize, firsts: &mut FirstNodes)
 {
     firsts.fill(false);
     let mut node = 0;
-    // Kept (no plainer): each node is told by the end of the tree before it; no range has them.
+    // Kept (no plainer): each node is told by the end of the tree before it. By `successors` the closure would need a
+    // clause of its own that its node lies in the row, beside the test that its answer does.
     while node <= count {
         firsts[node] = true;
         node = ends[node];
@@ -159,6 +162,10 @@ pub fn first_nodes(ends: &TreeEnds, count: usize, firsts: &mut FirstNodes)
 }
 
 // The words of a table, with the first nodes of the trees of its row.
+// Kept (no plainer): `size` is asked of this and of `Trees`. A row cannot hold the trees: it is read, too, when their
+// ends are lent on to another table (crate `formula_words`). A struct for the words would be one more to go through for
+// all that read `words`, in code and in clauses; so that they are a table (`Sized`) is a clause of those who are handed
+// words before their `Trees` are made.
 #[derive(Drop)]
 pub struct Row<'a, 'c, K: NodeKind> {
     pub words: &'a [u32],

@@ -42,6 +42,14 @@ impl<'a> Text<'a> {
         Text { bytes, size }
     }
 
+    // How many bytes are written.
+    pub fn size(&self) -> usize
+        ensures { result ≡ written_size self.now }
+    {
+        let Text { size, .. } = self;
+        *size
+    }
+
     pub fn put_byte(&mut self, byte: u8)
         requires { Room self.old (byte ∷ []) }
         ensures { Appended (byte ∷ []) self.old self.new }
@@ -60,7 +68,8 @@ impl<'a> Text<'a> {
     }
 
     // The digits of a number: first those in front of the last one.
-    // Kept (no plainer): the library's `itoa` writes the digits into a buffer of its own, to be copied from there.
+    // Kept (no plainer): `itoa::write_digits` of the library writes them backwards from an end, so the end would have
+    // to be worked out first, by `digit_count`, and kept after: three statements for these two.
     pub fn put_decimal(&mut self, number: usize)
         requires { Room self.old (decimal number) }
         ensures { Appended (decimal number) self.old self.new }
@@ -68,7 +77,7 @@ impl<'a> Text<'a> {
         if 9 < number {
             self.put_decimal(number / 10);
         }
-        self.put_byte(48 + (number % 10) as u8);
+        self.put_byte(b'0' + (number % 10) as u8);
     }
 
     // A space and a number.
@@ -76,7 +85,7 @@ impl<'a> Text<'a> {
         requires { Room self.old (32 ∷ decimal number) }
         ensures { Appended (32 ∷ decimal number) self.old self.new }
     {
-        self.put_byte(32);
+        self.put_byte(b' ');
         self.put_decimal(number);
     }
 
@@ -98,7 +107,7 @@ impl<'a> Text<'a> {
     {
         self.put_bytes(name);
         self.put_numbers(numbers);
-        self.put_byte(10);
+        self.put_byte(b'\n');
     }
 
     // The text is at its end: zeros past it, and the answer.

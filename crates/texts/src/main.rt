@@ -11,7 +11,7 @@ use gate_text::READ;
 use rules::Answer;
 use std::io::Read;
 use std::{fmt, io};
-use stored_runs::Printed;
+use stored_runs::{MOST_RECORDS, Printed};
 
 // How a record differs from what is stored.
 #[derive(Clone, Copy)]
@@ -143,12 +143,9 @@ fn next_record<R: Read>(stdin: &mut R) -> io::Result<Option<Result<(), Differenc
     }
 }
 
-// The most records that it reads, so that it ends whatever is handed to it.
-const MOST_RECORDS: u64 = 1_000_000;
-
 // Compares each record and prints how it differs. Answers how many there were, and how many of them differ.
 // Kept (no plainer): `each_record` passes over a head that is cut short, which counts here as a record that differs.
-fn compare_all<R: Read>(rt: &impl Print, stdin: &mut R) -> io::Result<(u64, u64)> {
+fn compare_all<R: Read>(rt: &impl Print, stdin: &mut R) -> io::Result<(u32, u32)> {
     let mut differences = 0;
     for number in 0..MOST_RECORDS {
         let Some(judged) = next_record(stdin)? else {

@@ -12,6 +12,8 @@ use words::at;
 const STRIDE: usize = 16;
 
 // Writes the first transition of every sixteenth state.
+// Kept (proof): the index, where `samples.iter_mut().zip(degrees.chunks(STRIDE))` needs none: of a slice that was lent
+// to a `zip` only the length is known afterwards, so the goal `Samples system.now samples.new` (`returns`) stays open.
 pub fn sample_transitions(system: &[u32], samples: &mut [u32])
     requires system { System system.now }
     requires sample_count_in_bounds { sample_count ≤ length samples.old }
@@ -29,7 +31,8 @@ pub fn sample_transitions(system: &[u32], samples: &mut [u32])
 
 // The first transition of a state: the sample before it and the out-degrees from there on.
 // Kept (no plainer): the system and its samples are two parameters, for one caller, whose own struct holds both and
-// says of them what is asked here.
+// says of them what is asked here. That the system words are in order (`System`) is a clause of this and of the two
+// that make the samples: a struct of the words would be made for one call of each.
 pub fn first_transition(system: &[u32], samples: &[u32], state: usize) -> usize
     requires system { System system.now }
     requires samples { Samples system.now samples.now }
@@ -37,9 +40,6 @@ pub fn first_transition(system: &[u32], samples: &[u32], state: usize) -> usize
     ensures { result ≡ first_transition system.now state }
 {
     let sample = state / STRIDE;
-    let mut first = samples[sample] as usize;
-    for s in sample * STRIDE..state {
-        first += at(system, 3 + s);
-    }
-    first
+    let sampled = sample * STRIDE;
+    samples[sample] as usize + words::sum(&system[3 + sampled..3 + state])
 }

@@ -11,14 +11,10 @@ use lib.Dec.{eqb}
 use Rattle.rules.specs.declared.Answer.{Answer}
 use Rattle.rules.specs.declared.Answer.TheVariants.{Done, Cut, Refused}
 use Rattle.std.specs.declared.result.Result.TheVariants.{Ok, Err}
-use Rattle.rules.specs.declared.Fault.{Fault}
-use Rattle.rules.specs.Answers.{Check, fault}
-use Rattle.inputs.specs.Accepting.{checked}
-use Rattle.lent_input.specs.declared.Input.{Input as LentInput}
-use Rattle.lent_input.specs.Inputs.{input_in}
+use Rattle.rules.specs.Answers.{fault}
 use Rattle.rules.specs.Lists.{zeros, In}
 use Rattle.rules.specs.declared.Room.{Room}
-use Rattle.rules.specs.Words.{Input, input_of, room_of, game_length, work_length}
+use Rattle.rules.specs.Words.{Input, room_of, game_length, work_length}
 use Rattle.rules.specs.Answers.{said}
 use Rattle.rules.specs.Depth.{Ranking, by_depth}
 use Rattle.rules.specs.Walk.{Stand}
@@ -249,18 +245,3 @@ whole_run x r k game work a g w e =
 -- the work slice after the walk is as long as before
 pub walked_passed : (x : Input) (r : Room) (game work other : ℕ) → other ≡ work → refusal x r game work ≡ Ok tt → refusal x r game other ≡ Ok tt
 walked_passed x r game work other e p = ap (refusal x r game) e ∙ p
-
--- ---- what accepting the words says of them
-
-pub accepted_input : (r : Result LentInput Fault) (i : LentInput) (l s a f : List ℕ) → r ≡ Ok i
-    → ((j : LentInput) → r ≡ Ok j
-    → (j.labels.now ≡ l) × (j.system.now ≡ s) × (j.actions.now ≡ a) × (j.formula.now ≡ f))
-    → input_in i ≡ input_of l s a f
-accepted_input r i l s a f e same = let h = same i e in rw (h.0, h.1, h.2, h.3) refl
-
-pub accepted_check : (r : Result LentInput Fault) (i : LentInput) (c : Check) → checked r ≡ c → r ≡ Ok i → c ≡ Ok tt
-accepted_check r i c e g = sym e ∙ ap checked g
-
-pub refused_check : (r : Result LentInput Fault) (n : Fault) (c : Check) → checked r ≡ c → r ≡ Err n
-    → c ≡ fault n.number n.place
-refused_check r n c e g = sym e ∙ ap checked g

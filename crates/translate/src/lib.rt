@@ -11,6 +11,7 @@ ghost use Rattle.rules.specs.Refusal.{refusal};
 ghost use Rattle.rules.specs.Run.{Outcome, run};
 ghost use Rattle.rules.specs.Demands.{Demand1, Demand3};
 ghost use Rattle.satisfaction.specs.Claims.{NoFalsePass};
+ghost use Rattle.faults.specs.Answers.{answer_of};
 ghost use Rattle.compiled.specs.Tables.{kinds_in, priorities_in};
 ghost use Rattle.lent_input.specs.Inputs.{input_in};
 ghost use Rattle.settling.specs.Keys.{key_targets, key_behind, root_key};
@@ -19,10 +20,11 @@ ghost use Rattle.settling.specs.Good.{WalkAnswer};
 ghost use Rattle.translate.specs.Runs.{Prepared, Writable, WroteOut, RunBy, RunByRanks};
 
 use compiled::Compiled;
+use inputs::Lent;
 use lent_input::Input;
 use match_table::{ActionWords, MatchRows};
 use pairs::NoRoom;
-use rules::{Answer, Room};
+use rules::{Answer, Fault, Room};
 use settling::Counters;
 use stepping::{Bounds, WalkTables};
 
@@ -38,6 +40,8 @@ fn explore(tables: &WalkTables<'_>, work: &mut [u32], bounds: Bounds) -> Result<
 }
 
 // The walk's game is written out and the work slice cleared, or both are cleared where there was no room.
+// Kept (no plainer): game and work are two parameters, here and below: a struct of two lent slices would have to
+// promise besides, in each contract, that each slice stays the same.
 fn write_out(
     walked: Result<Counters, NoRoom>,
     compiled: &Compiled,
@@ -53,7 +57,7 @@ fn write_out(
         Ok(counters) => {
             let known = counters.known;
             let edges = counters.edges;
-            game_writer::write_game(game, work, compiled, room, known, edges);
+            game_writer::write_game(game, work, compiled, room, counters);
             work.fill(0); // nothing of the walk stays
             if counters.waiting == 0 {
                 return Answer::Done(counters.settled, known, edges);
@@ -110,6 +114,28 @@ fn build(input: &Input<'_>, bounds: Bounds, game: &mut [u32], work: &mut [u32]) 
     build_game(input, &compiled, items, bounds, game, work)
 }
 
+// The words are accepted and their game is built, or they, the room or a length have a fault.
+fn run_lent(
+    labels: &[u32],
+    system: &[u32],
+    actions: &[u32],
+    formula: &[u32],
+    bounds: Bounds,
+    game: &mut [u32],
+    work: &mut [u32],
+) -> Result<Answer, Fault>
+    ensures { RunBy by_depth (input_of labels.now system.now actions.now formula.now) bounds.room bounds.limit
+        game.old work.old (answer_of result) game.new work.new }
+{
+    let lent = Lent {
+        room: bounds.room,
+        game: game.len(),
+        work: work.len(),
+    };
+    let input = inputs::accept(labels, system, actions, formula, lent)?;
+    Ok(build(&input, bounds, game, work))
+}
+
 // Builds the parity game of a model and a formula: document 01's run. The words handed over are `labels`, `system`,
 // `actions` and `formula`; there is room for so many vertices and edges, and at most `limit` steps are made. For every
 // input, refused ones included:
@@ -119,6 +145,7 @@ fn build(input: &Input<'_>, bounds: Bounds, game: &mut [u32], work: &mut [u32]) 
 // - `demand3` is the cut theorem, of the answer and the words in the game slice;
 // - `no_false_pass`: where the run is Done and a verdict on the game slice's words is accepted with its reasons, the
 //   initial state satisfies the formula (after Bradfield and Stirling's mu-calculus).
+// Kept (rule): the parameters are those of the C interface; the numbers are made a `Bounds` at once.
 pub fn translate(
     labels: &[u32],
     system: &[u32],
@@ -146,10 +173,5 @@ pub fn translate(
 {
     let room = Room { vertices, edges };
     let bounds = Bounds { room, limit };
-    let (game_len, work_len) = (game.len(), work.len());
-    // Kept (rule): the answer is an enum of the rules and no `Result`, so a refusal is handed on by this match.
-    match inputs::accept(labels, system, actions, formula, room, game_len, work_len) {
-        Ok(input) => build(&input, bounds, game, work),
-        Err(fault) => Answer::from(fault),
-    }
+    run_lent(labels, system, actions, formula, bounds, game, work).unwrap_or_else(Answer::from)
 }

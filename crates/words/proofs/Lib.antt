@@ -1,3 +1,4 @@
 pub mod Reading
 pub mod Regions
 pub mod Stretches
+pub mod Sums

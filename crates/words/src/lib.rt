@@ -2,7 +2,7 @@
 #![tactic(auto)]
 
 ghost use Rattle.std.specs.Prelude.{◌≡◌, map, ℕ, ◌+◌, ◌*◌, ◌≤◌, ◌<◌, length};
-ghost use Rattle.rules.specs.Lists.{word};
+ghost use Rattle.rules.specs.Lists.{word, sum_words};
 ghost use Rattle.rules.specs.Table.{kind, operand};
 ghost use Rattle.words.specs.Bytes.{word_at, words_at};
 ghost use Rattle.words.specs.Node.{has_kind, has_operand};
@@ -14,6 +14,14 @@ pub fn at(ws: &[u32], index: usize) -> usize
     ensures { (result ≡ word ws.now index) × (result < 4294967296) }
 {
     ws[index] as usize
+}
+
+// The sum of so many words that it does not wrap.
+pub fn sum(ws: &[u32]) -> usize
+    requires { length ws.now ≤ 4294967296 }
+    ensures { result ≡ sum_words ws.now 0 (length ws.now) }
+{
+    ws.iter().map(|word| *word as usize).sum()
 }
 
 // ---- nodes of a table of trees: m, m kinds, m operands. A run has two, for the action formulas and for the formula
@@ -48,6 +56,8 @@ pub fn carry(src: &[u32], numbers: &[u32], out: &mut [u32], start: usize) -> usi
     requires inside { (i : ℕ) → i < length numbers.now → word numbers.now i < length src.now }
     ensures { Wrote start (map (word src.now) numbers.now) out.old out.new result }
 {
+    // Kept (proof): the index, as in `copy_down` of crate `game_writer`: after a `for` over `iter_mut().zip(numbers)`
+    // no word that it wrote is known, so the goal `Wrote` is left.
     for (i, number) in numbers.iter().enumerate() {
         out[start + i] = src[*number as usize];
     }
@@ -70,6 +80,9 @@ pub fn word_at(bytes: &[u8], place: usize) -> u32
 }
 
 // As many words as `words` holds, from the front of the bytes.
+// Kept (proof): the place `4 * i`, where `words.iter_mut().zip(bytes.as_chunks::<4>().0)` needs none: of a slice that
+// was lent to a `zip` only the length is known afterwards, so the goal `words.new ≡ words_at (length words.old)
+// bytes.now` (`returns`) stays open.
 pub fn read_words(bytes: &[u8], words: &mut [u32])
     requires { 4 * length words.old ≤ length bytes.now }
     ensures { words.new ≡ words_at (length words.old) bytes.now }

@@ -1,15 +1,18 @@
 // The map of a run's work slice. It begins with eight regions of a word for each vertex that fits. Behind them stand
 // the edges: a word for the target of each that fits, then one for its count, both taken from the last word downwards.
 // The first three regions are the slots in which a pair is looked up (crate `pairs`).
-// Kept (no plainer): the work slice and its number of vertices are two parameters, as crate `settling` says.
+// Kept (rule): document 01 lends a run one slice of words, so this is a map of regions in it: the regions are no slices
+// and no structs of their own.
+// Kept (no plainer): the work slice and its number of vertices are two parameters, as crate `pairs` says.
 #![tactic(auto)]
 
 ghost use Rattle.std.specs.Prelude.{◌≡◌, ◌+◌, ◌*◌, ◌<◌, ◌≤◌, length};
+ghost use Rattle.rules.specs.Game.{edge_columns};
 ghost use Rattle.rules.specs.Lists.{word};
 ghost use Rattle.work_slice.specs.Regions.{region_code, region, put_word, Zeroed};
 
 // How many regions there are: the edges begin behind them.
-pub const REGIONS: usize = 8;
+const REGIONS: usize = 8;
 
 // A region, by its number. The slots are three: an index goes on from the first into the others.
 #[derive(Clone, Copy, Debug, PartialEq, Eq)]
@@ -64,4 +67,12 @@ pub fn clear(work: &mut [u32], vertices: u32, area: Region, from: u32, to: u32)
     let start = place(vertices, area, from);
     let end = place(vertices, area, to);
     work[start..end].fill(0);
+}
+
+// Where a column of the edges ends in the work slice: it is filled from there downwards.
+pub fn edges_end(vertices: u32, edges: u32, column: usize) -> usize
+    requires { column < length edge_columns }
+    ensures { result ≡ 8 * vertices + (column + 1) * edges }
+{
+    REGIONS * (vertices as usize) + (column + 1) * (edges as usize)
 }

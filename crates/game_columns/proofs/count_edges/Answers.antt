@@ -1,25 +1,33 @@
--- The edges of one more vertex are counted.
-use Prim.Native.Nat.{◌<◌, ◌≤◌}
+-- The edges of all vertices, summed.
+use borrow.Author.Rules.{rules}
+use borrow.Author.Tests.{tests}
+use Prim.Native.Nat.{ℕ, ◌-◌}
+use mathlib.Core.Path.{◌≡◌, ◌∙◌}
 use lib.ListN.{length}
 use native.Mathlib.Omega.{arith}
-use Rattle.game_columns.proofs.Written.{count_most, count_put, count_done}
+use Rattle.std.specs.List.{range_with_len}
+use Rattle.std.proofs.lemmas.Iterator.{YieldsList-from_range, YieldsList-from_map}
+use Rattle.std.proofs.lemmas.Iterator.Consumers.{sum_by_from_yields_List, fits_by_from_yields_list}
+use Rattle.game_columns.specs.Shown.{edges_of}
+use Rattle.game_columns.proofs.Written.{summed}
 use Rattle.game_columns.proofs.count_edges.Goals as goal
 
-pub overflow_add-total : goal.overflow_add-total
-overflow_add-total g c =
+pub sum-requires-clause-fits : goal.sum-requires-clause-fits
+sum-requires-clause-fits g c =
     let shown = g.V.Vertices.shown c.args.vertices.now in
-    let below : c.loop-vertex.vertex < length shown = omega (arith, c.loop-vertex-test.true, c.count-count.ensures) in
-    let most = count_most shown c.loop-vertex.total c.loop-vertex.vertex _ c.degree-total.ensures below c.loop-vertex.invariant in
-    omega (arith, most, c.requires.few)
-
-pub loop-vertex-preserved : goal.loop-vertex-preserved
-loop-vertex-preserved g c =
-    let shown = g.V.Vertices.shown c.args.vertices.now in
-    let below : c.loop-vertex.vertex < length shown = omega (arith, c.loop-vertex-test.true, c.count-count.ensures) in
-    count_put shown c.loop-vertex.total c.loop-vertex.vertex _ c.degree-total.ensures below c.loop-vertex.invariant
+    let degree = λ (i : ℕ). length (edges_of shown i) in
+    let n : c.count.result - 0 ≡ length shown = omega (arith, c.count.ensures) in
+    fits_by_from_yields_list degree (range_with_len 0 (length shown)) c.map.result _
+    (YieldsList-from_map _ degree (YieldsList-from_range 0 c.count.result _ c.map.ensures.source n)
+    c.map.ensures.closure (λ x r q k. search (rules, tests)))
+    (omega (arith, summed shown, c.requires.few))
 
 pub returns : goal.returns
 returns g c =
     let shown = g.V.Vertices.shown c.args.vertices.now in
-    let past : length shown ≤ c.loop-vertex.vertex = omega (arith, c.loop-vertex-test.false, c.count-count.ensures) in
-    count_done shown c.loop-vertex.total c.loop-vertex.vertex past c.loop-vertex.invariant
+    let degree = λ (i : ℕ). length (edges_of shown i) in
+    let n : c.count.result - 0 ≡ length shown = omega (arith, c.count.ensures) in
+    sum_by_from_yields_List degree (range_with_len 0 (length shown)) c.map.result _ c.sum.ensures.ran
+    (YieldsList-from_map _ degree (YieldsList-from_range 0 c.count.result _ c.map.ensures.source n)
+    c.map.ensures.closure (λ x r q k. search (rules, tests)))
+    ∙ summed shown

@@ -9,10 +9,10 @@ use Rattle.text_writer.proofs.Endings.{text_refused, text_finished}
 use Rattle.gate_text.proofs.Fits.{gate_fits}
 use Rattle.gate_text.proofs.gate.Goals as goal
 
-pub returns-then-text-lt16384 : goal.returns-then-text-lt16384
+pub returns-then-text-lt-TEXT : goal.returns-then-text-lt-TEXT
 unfolding program_text gate_text_length
-returns-then-text-lt16384 c =
-    text_refused gate_text_length (printed c.args.bytes.now) c.args.text.now c.if-text-lt16384.true
+returns-then-text-lt-TEXT c =
+    text_refused gate_text_length (printed c.args.bytes.now) c.args.text.now c.if-text-lt-TEXT.true
 
 pub put_program-requires : goal.put_program-requires
 unfolding gate_text_length
@@ -33,6 +33,6 @@ finish-requires c =
 pub returns : goal.returns
 unfolding program_text gate_text_length
 returns c =
-    text_finished gate_text_length (printed c.args.bytes.now) c.args.text.now c.if-text-lt16384.false
+    text_finished gate_text_length (printed c.args.bytes.now) c.args.text.now c.if-text-lt-TEXT.false
     c.new-written.ensures.empty c.put_program.ensures c.finish.ensures.value
     (search rules ∙ c.finish.ensures.text_after)

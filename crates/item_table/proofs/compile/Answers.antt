@@ -10,8 +10,8 @@ use Rattle.modal_equation_system.proofs.Good.{good_formula}
 use Rattle.item_table.proofs.Filling.{ranks_made, table_kept}
 use Rattle.item_table.proofs.compile.Goals as goal
 
-pub list_equations-count-requires : goal.list_equations-count-requires
-list_equations-count-requires c =
+pub list_equations-requires : goal.list_equations-requires
+list_equations-requires c =
     let i = c.args.input.now in good_formula (size i.actions.now) i.formula.now i.good.formula
 
 pub returns-clause-item_table : goal.returns-clause-item_table
@@ -26,6 +26,6 @@ pub returns-clause-ranks : goal.returns-clause-ranks
 returns-clause-ranks c =
     let i = c.args.input.now in
     let x = input_in i in
-    ranks_made x i.good by_depth (λ q. by_depth_words (formula_only x.formula) x q refl) c.list_equations-count.result _
-    (priorities_in c.put_priorities.new.compiled) c.list_equations-count.ensures.value
+    ranks_made x i.good by_depth (λ q. by_depth_words (formula_only x.formula) x q refl) c.list_equations.new.self.count _
+    (priorities_in c.put_priorities.new.compiled) c.list_equations.ensures.listed.count
     (omega (arith, c.put_priorities.ensures.priorities_only.room)) c.put_priorities.ensures.ranked_by

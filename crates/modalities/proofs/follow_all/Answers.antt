@@ -11,10 +11,10 @@ use Rattle.modalities.proofs.follow_all.Goals.{then-index-targets, else-index-ta
 pub returns-then-is_empty : goal.returns-then-is_empty
 returns-then-is_empty g c =
     let none = eqb-true _ 0 (sym c.is_empty.ensures ∙ c.if-is_empty.true) in
-    following_end _ _ _ _ _ _ _ _ _ _ 0 (following_start _ _ _ _ _ _ _ _ _ c.requires.0.0 c.requires.0.3) (sym none)
+    following_end _ _ _ _ _ _ _ _ _ _ 0 (following_start _ _ _ _ _ _ _ _ _ c.requires.0.0 c.requires.0.2) (sym none)
 
 pub loop-index-init : goal.loop-index-init
-loop-index-init g c = (following_start _ _ _ _ _ _ _ _ _ c.requires.0.0 c.requires.0.3, λ h. refl)
+loop-index-init g c = (following_start _ _ _ _ _ _ _ _ _ c.requires.0.0 c.requires.0.2, λ h. refl)
 
 pub follow-requires : goal.follow-requires
 follow-requires g c =
@@ -26,11 +26,10 @@ follow-requires g c =
     omega (arith, c.loop-index.invariant.1 inside, within.reach c.loop-index.index inside) in (
       (
         following.gathering.made.ready,
-        c.requires.0.2,
-        following_raisable _ _ _ _ _ _ _ _ _ within _ _ _ following (omega (arith, inside)) c.requires.0.1 c.requires.0.3,
+        following_raisable _ _ _ _ _ _ _ _ _ within _ _ _ following (omega (arith, inside)) c.requires.0.1 c.requires.0.2,
       ),
       (
-        (omega (arith, target, within.few_states), λ by. omega (arith, target, c.requires.0.3.one-each by)),
+        (omega (arith, target, within.few_states), λ by. omega (arith, target, c.requires.0.2.one-each by)),
         c.requires.1 c.loop-index.index c.loop-index-test.true,
       ),
     )

@@ -1,7 +1,6 @@
 -- `settle_matched` meets its contract: there are marks for the step that its edges do not meet, and none of them is
 -- past the edges. Assumes nothing.
 use mathlib.Core.Path.{refl}
-use native.Mathlib.Omega.{arith}
 use Rattle.modalities.proofs.Spaces.{marks_inside, cleared_ready, cleared_spacious, cleared_answer}
 use Rattle.modalities.proofs.settle_matched.Goals as goal
 
@@ -14,12 +13,10 @@ pub follow_all-requires : goal.follow_all-requires
 follow_all-requires c =
     let unmarked = c.requires.unmarked.0 in
     let count = c.mark_count-marks.ensures in
-    let cleared = c.clear_marks.ensures in
-    let scaled = c.scale.ensures in (
+    let cleared = c.clear_marks.ensures in (
       (
         cleared_ready _ _ _ _ _ _ count _ unmarked cleared,
         refl,
-        omega (arith, scaled, c.requires.unmarked.1),
         rw (← count) (cleared_spacious _ _ _ _ _ _ count _ unmarked cleared c.scale.result _ c.marked_by.ensures),
       ),
       c.requires.answers,

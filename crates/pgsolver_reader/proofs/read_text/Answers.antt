@@ -29,7 +29,7 @@ pub invariant_of-source : goal.invariant_of-source
 invariant_of-source c =
     let sizes = room_sizes c.args.room.vertices c.args.room.edges (length c.args.game.now)
     (sym c.in_ok-check_lent.ensures) in
-    record { whole = plan_whole c.in_ok-plan.ensures sizes.0 }
+    record { whole = plan_whole c.in_ok-plan.ensures sizes.0; few = omega (arith, plan_small c.in_ok-plan.ensures, sizes.1) }
 
 pub write_game-edges-requires : goal.write_game-edges-requires
 write_game-edges-requires c =

@@ -10,13 +10,12 @@ loop-digit-init g c = scan-start c.args.text.now c.args.place c.requires.within
 pub digit_at-requires : goal.digit_at-requires
 digit_at-requires g c = λ e. known_inside (c.requires.known e) c.loop-digit.invariant
 
-pub pushed-value-requires-clause-digit_most : goal.pushed-value-requires-clause-digit_most
-pushed-value-requires-clause-digit_most g c = digit_most c.args.text.now c.loop-digit.next c.in-Some.ensures
-
-pub pushed-value-requires-clause-value_most : goal.pushed-value-requires-clause-value_most
-pushed-value-requires-clause-value_most g c =
-    value_most _ c.loop-digit.value (λ e. known_small (c.requires.known e) c.loop-digit.invariant)
-    c.loop-digit.invariant.small
+pub pushed-value-requires : goal.pushed-value-requires
+pushed-value-requires g c = (
+  digit_most c.args.text.now c.loop-digit.next c.in-Some.ensures,
+  value_most _ c.loop-digit.value (λ e. known_small (c.requires.known e) c.loop-digit.invariant)
+      c.loop-digit.invariant.small,
+)
 
 pub loop-digit-smaller : goal.loop-digit-smaller
 loop-digit-smaller g c = omega (arith, c.in-Some.ensures.0)

@@ -1,24 +1,19 @@
-use mathlib.Core.Path.{sym}
+-- Each vertex has a successor, or 98 is said. Assumes nothing.
+use mathlib.Core.Path.{◌≡◌, refl}
+use mathlib.Core.Bool.{true, false}
+use borrow.Author.Rules.{rules}
+use borrow.Author.Tests.{tests}
+use Prim.Native.Nat.{ℕ, ◌-◌}
 use native.Mathlib.Omega.{arith}
-use Rattle.std.proofs.Common.{rules}
-use borrow.Author.Count.{below_more}
-use Rattle.pgsolver_writer.proofs.Lines.{stuck_refused, some_successor, none_stuck}
+use Rattle.std.proofs.lemmas.Iterator.{cases_from_all, YieldsList-from_range}
+use Rattle.rules.specs.PgsolverWriting.{has_successor}
+use Rattle.pgsolver_writer.proofs.Lines.{successors_searched}
 use Rattle.pgsolver_writer.proofs.check_successors.Goals as goal
 
-pub loop-vertex-init : goal.loop-vertex-init
-loop-vertex-init c = λ u h. absurd (omega arith)
-
-pub returns-in_err-fault_if : goal.returns-in_err-fault_if
-returns-in_err-fault_if c =
-    let same =
-    sym (stuck_refused c.args.game.now c.loop-vertex.vertex c.edge_words.ensures c.is_empty.ensures c.fault_if.ensures
-    (omega (arith, c.vertices-vertex-end.ensures.0)) c.in_err-fault_if.was) in
-    search rules
-
-pub loop-vertex-preserved : goal.loop-vertex-preserved
-loop-vertex-preserved c =
-    below_more _ _ c.loop-vertex.invariant (some_successor c.args.game.now c.loop-vertex.vertex
-    c.edge_words.ensures c.is_empty.ensures c.fault_if.ensures c.in_ok-fault_if.was)
-
 pub returns : goal.returns
-returns c = sym (none_stuck c.args.game.now c.loop-vertex.vertex (omega (arith, c.vertices-vertex-end.ensures.0)) c.loop-vertex.invariant)
+unfolding has_successor
+returns c =
+    let g = c.args.game.now in
+    successors_searched g (c.vertices.result - 0) c.all-all_lead_on.result _ (omega (arith, c.vertices.ensures.0)) c.fault_if.ensures
+    (cases_from_all _ _ c.all-all_lead_on.result (λ (v : ℕ). has_successor g v ≡ true) (λ (v : ℕ). has_successor g v ≡ false)
+    c.all-all_lead_on.ensures.ran (YieldsList-from_range 0 c.vertices.result _ refl refl) (λ v q k. search (rules, tests)) (λ v q k. search (rules, tests)))

@@ -1,17 +1,12 @@
--- The call is refused, or what is left is the restriction.
-use mathlib.Core.Path.{sym, ◌∙◌}
-use Rattle.reachability.proofs.Whole.{refused, restricted}
+-- What equals the restriction restricts, and is refused as demanded.
+use Rattle.std.proofs.Common.{rules}
+use Rattle.restrictions.proofs.Refusals.{restriction_demand1}
+use Rattle.reachability.proofs.Whole.{read_back}
 use Rattle.reachability.proofs.compute_reachable.Goals as goal
 
-pub restrict-requires : goal.restrict-requires
-restrict-requires c = sym c.check_lent.ensures ∙ c.in-Ok.is
+pub returns-clause-restricts : goal.returns-clause-restricts
+returns-clause-restricts c =
+    read_back _ c.args.out.now c.args.map.now c.args.work.now _ _ _ c.restrict_lent.new.work (search rules)
 
-pub returns-in-Err : goal.returns-in-Err
-returns-in-Err c =
-    let it = refused _ _ _ _ c.in-Err.fault.number c.in-Err.fault.place (sym c.check_lent.ensures ∙ c.in-Err.is) in
-    rw c.from.ensures (record { equals = it.0; coded = it.1.0; restricts = it.1.1.0; demand1 = it.1.1.1 })
-
-pub returns-in-Ok : goal.returns-in-Ok
-returns-in-Ok c =
-    let it = restricted _ _ c.args.map.now _ _ (sym c.check_lent.ensures ∙ c.in-Ok.is) c.restrict.ensures in
-    record { equals = it.0; coded = it.1.0; restricts = it.1.1.0; demand1 = it.1.1.1 }
+pub returns-clause-demand1 : goal.returns-clause-demand1
+returns-clause-demand1 c = restriction_demand1 _ _ _ _ _ _ _ _ (search rules)

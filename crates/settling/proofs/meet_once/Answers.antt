@@ -1,6 +1,6 @@
 use native.Mathlib.Omega.{arith}
 use Rattle.settling.proofs.Marking.{mark_inside, mark_raises, mark_of, met_below_mark, once_old}
-use Rattle.settling.proofs.Marking.{once_new, once_many, once_crowded, gathered_failed}
+use Rattle.settling.proofs.Marking.{once_appended, once_crowded, gathered_failed}
 use Rattle.settling.proofs.meet_once.Goals as goal
 
 pub returns-in_err-vertex : goal.returns-in_err-vertex
@@ -36,15 +36,6 @@ returns-then-operand-mark g c =
     c.requires.0.2.apart _ _ mark w₀ c₀ ks k _ _
     c.region_word-mark.ensures.at_place (omega (arith, same, c.if-operand-mark.true)) c.raise_count.ensures
 
-pub returns-then-edges-room : goal.returns-then-edges-room
-returns-then-edges-room g c =
-    let p = c.in_ok-vertex.ensures in
-    let mark = mark_of _ c.args.operand.item.number _ _ _ _ c.mark_index-index.ensures c.requires.1 in
-    λ w₀ c₀ ks same k.
-    once_many _ _ _ _ _ _ _ _ c.requires.0.0 p c.meet.auto.work _ _
-    c.requires.0.2.apart _ _ mark w₀ c₀ ks k
-    (omega (arith, same, c.region_word-mark.ensures.at_place, c.if-operand-mark.false)) (omega (arith, c.if-edges-room.true))
-
 pub put_word-requires : goal.put_word-requires
 put_word-requires g c =
     let p = c.in_ok-vertex.ensures in
@@ -58,7 +49,7 @@ returns g c =
     let p = c.in_ok-vertex.ensures in
     let mark = mark_of _ c.args.operand.item.number _ _ _ _ c.mark_index-index.ensures c.requires.1 in
     λ w₀ c₀ ks same k.
-    once_new _ _ _ _ _ _ _ _ c.requires.0.0 p c.meet.auto.work _ _
-    c.requires.0.2.apart _ _ mark w₀ c₀ ks k _ _
-    (omega (arith, same, c.region_word-mark.ensures.at_place, c.if-operand-mark.false))
-    (omega (arith, c.requires.0.0.buffer, c.if-edges-room.false)) c.put_word.ensures c.put_edge.ensures
+    once_appended _ _ _ _ _ _ _ _ c.requires.0.0 p c.meet.auto.work _ _
+    c.requires.0.2.apart _ _ mark w₀ c₀ ks k _ _ _
+    (omega (arith, same, c.region_word-mark.ensures.at_place, c.if-operand-mark.false)) c.put_word.ensures
+    c.append_edge.ensures

@@ -1,6 +1,4 @@
-use mathlib.Core.Path.{refl}
-use native.Mathlib.Omega.{arith}
-use Rattle.settling.proofs.Make.{answer_failed, edge_made, many_one, marks_rest, marks_rise}
+use Rattle.settling.proofs.Make.{answer_failed, answer_appended, many_one}
 use Rattle.settling.proofs.number_target.Goals as goal
 
 pub returns-in_err-met : goal.returns-in_err-met
@@ -10,7 +8,5 @@ returns-in_err-met c =
 
 pub returns : goal.returns
 returns c =
-    let p = c.in_ok-met.ensures in
-    edge_made _ _ _ _ _ _ c.args.counters _ _ 0 _ c.requires.0 p
-    (omega (arith, c.requires.0.buffer, c.if-edges-room.false)) c.meet.auto.work (λ a h. refl) refl refl
-    (λ m. marks_rise _ _ _ _ (omega arith) (marks_rest _ _ _ _ p.rest m)) c.put_edge.ensures
+    answer_appended _ _ _ _ _ c.args.counters _ _ _ _ c.requires.0 c.in_ok-met.ensures c.meet.auto.work _
+    c.append_edge.ensures

@@ -9,8 +9,8 @@ overflow_add-work c =
     omega (
       arith,
       c.requires.can_rise,
-      count_word v e c.args.place c.edge_word.result c.args.work.now c.requires.inside.2 c.edge_word.ensures,
+      count_word v e c.args.place c.edge_word.result c.args.work.now c.requires.inside.0 c.edge_word.ensures,
     )
 
 pub returns : goal.returns
-returns c = count_stored _ _ _ _ _ c.requires.inside.2 c.edge_word.ensures
+returns c = count_stored _ _ _ _ _ c.requires.inside.0 c.edge_word.ensures

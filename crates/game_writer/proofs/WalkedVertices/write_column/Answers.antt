@@ -1,5 +1,6 @@
 -- One more word stands behind those that were written.
 use Prim.Native.Nat.{◌+◌, ◌≤◌}
+use mathlib.Core.Path.{◌∙◌}
 use lib.ListN.{length}
 use native.Mathlib.Omega.{arith}
 use Rattle.compiled.specs.Tables.{kinds_in, priorities_in}
@@ -23,7 +24,8 @@ loop-vertex-preserved c =
     c.args.self.now.slots.work.now c.args.self.now.slots.vertices c.args.self.now.edge_room c.args.self.now.known in
     let room : c.args.start + c.args.self.now.known ≤ length c.args.out.now = omega (arith, c.requires.1, many) in
     row_put (word_in c.args.self.now c.args.column) c.args.self.now.known c.loop-vertex.vertex c.args.start _
-    c.column_word-shown.ensures c.loop-vertex-test.true room c.loop-vertex.invariant
+    (c.column_word-shown.ensures ∙ (λ i. word_in (c.at.ensures.0 i) c.args.column (c.at.ensures.1 i).0))
+    c.loop-vertex-test.true room c.loop-vertex.invariant
 
 pub returns : goal.returns
 returns c =

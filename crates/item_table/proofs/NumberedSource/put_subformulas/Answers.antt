@@ -1,13 +1,11 @@
-use mathlib.Core.Path.{◌≡◌, ap, ◌∙◌}
-use Prim.Native.Nat.{◌<◌, min}
-use lib.ListN.{set}
+use mathlib.Core.Path.{◌≡◌}
+use Prim.Native.Nat.{◌<◌}
 use native.Mathlib.Omega.{arith}
 use Rattle.rules.specs.Table.{size}
 use Rattle.arena.specs.Arena.{BodyNode}
 use Rattle.arena.proofs.ItemNumbers.{items_few}
 use Rattle.lent_input.specs.Inputs.{input_in}
-use Rattle.compiled.specs.Tables.{kinds_in}
-use Rattle.alike_nodes.proofs.Showing.{shown_kind}
+use Rattle.node_kinds.specs.Codes.{formula_code}
 use Rattle.item_table.proofs.Numbers.{first_most}
 use Rattle.item_table.proofs.Filling.{number-room, nodes_next, nodes_last, only_more}
 use Rattle.item_table.proofs.NumberedSource.put_subformulas.Goals as goal
@@ -28,9 +26,7 @@ loop-node-preserved c =
     let i = c.args.self.now.source.input in
     let p = c.put_entry.ensures in
     let s = c.shape_in_body-shape.result in
-    let old = c.loop-node.compiled in
-    let shown = rw c.formula_nodes-nodes.ensures.input at c.shape_in_body-shape.ensures in
-    let same : min s.kind 8 ≡ s.kind = omega (arith, shown_kind _ _ _ s.kind s.left s.right shown) in
+    let shown = rw c.formula_nodes-nodes.ensures at c.shape_in_body-shape.ensures in
     let here : BodyNode i.formula.now c.loop-node.node = (omega (arith, first_most i.formula.now), omega arith) in
     let few : c.at.result < 2_048 = omega (
       arith,
@@ -39,9 +35,9 @@ loop-node-preserved c =
       items_few (input_in i) i.good,
     ) in (
       nodes_next (input_in i) i.good c.args.self.now.numbers.now c.args.self.now.item_numbers c.loop-node.node here _ _ _ _ _ _
-          c.at.result s.kind s.left s.right (omega (arith, few, p.kinds_room)) (omega (arith, few, p.rooms.lefts))
+          c.at.result (formula_code s.kind) s.left s.right (omega (arith, few, p.kinds_room)) (omega (arith, few, p.rooms.lefts))
           (omega (arith, few, p.rooms.rights)) c.at.ensures.0 shown
-          (p.kinds ∙ ap (set (kinds_in old) c.at.result) (c.of.ensures ∙ same)) p.lefts p.rights c.loop-node.invariant.0,
+          p.kinds p.lefts p.rights c.loop-node.invariant.0,
       only_more _ _ _ c.loop-node.invariant.1 p.only,
     )
 

@@ -11,6 +11,5 @@ pub returns-clause-ranked_by : goal.returns-clause-ranked_by
 unfolding zeros
 returns-clause-ranked_by c =
     let s = c.args.self.now in
-    let zs = c.list_priorities.new.priorities in
-    subst (λ (before : List ℕ). RankedBy by_depth s.input.formula.now s.count before zs) (c.fill.ensures.after (λ y e. e))
-    (subst (λ (f : List ℕ). RankedBy by_depth f s.count c.fill.new.self zs) s.same c.list_priorities.ensures)
+    subst (λ (before : List ℕ). RankedBy by_depth s.input.formula.now s.table.now.count before c.list_priorities.new.priorities)
+    (c.fill.ensures.after (λ y e. e)) c.list_priorities.ensures

@@ -9,17 +9,17 @@ use Rattle.modal_equation_system.proofs.EquationTable.list_equations.Goals as go
 
 pub loop-node-init : goal.loop-node-init
 loop-node-init c =
-    listing_first c.args.formula.now c.from-number.result c.args.self.now c.is_fixpoint_at.result c.from-number.ensures
+    listing_first c.args.formula.now c.from-self.result c.args.self.now c.is_fixpoint_at.result c.from-self.ensures
     c.is_fixpoint_at.ensures (search rules)
 
 pub returns-clause-value : goal.returns-clause-value
 returns-clause-value c =
     let e : c.loop-node.node ≡ size c.args.formula.now = omega arith in
-    (listing_last c.args.formula.now _ c.loop-node.self c.requires
-    (subst (λ (v : ℕ). Listing c.args.formula.now v c.loop-node.number c.loop-node.self) e c.loop-node.invariant)).0
+    (listing_last c.args.formula.now c.loop-node.self c.requires
+    (subst (λ (v : ℕ). Listing c.args.formula.now v c.loop-node.self) e c.loop-node.invariant)).count
 
 pub returns-clause-listed : goal.returns-clause-listed
 returns-clause-listed c =
     let e : c.loop-node.node ≡ size c.args.formula.now = omega arith in
-    (listing_last c.args.formula.now c.loop-node.number c.loop-node.self c.requires
-    (subst (λ (v : ℕ). Listing c.args.formula.now v c.loop-node.number c.loop-node.self) e c.loop-node.invariant)).1
+    listing_last c.args.formula.now c.loop-node.self c.requires
+    (subst (λ (v : ℕ). Listing c.args.formula.now v c.loop-node.self) e c.loop-node.invariant)

@@ -10,13 +10,13 @@ loop-vertex-init c = (
   refl,
   part_at c.game_words-end.ensures c.requires.part.0,
   c.requires.part.1,
-  ordering_start c.requires.begins.0 c.requires.in_order,
+  ordering_start c.requires.begins c.requires.in_order,
   bound_start,
 )
 
 pub write_line-written-requires-clause-turn : goal.write_line-written-requires-clause-turn
 write_line-written-requires-clause-turn c = (
-  ordering_turn c.requires.begins.0 c.loop-vertex.invariant.3 c.loop-vertex-test.true
+  ordering_turn c.requires.begins c.loop-vertex.invariant.3 c.loop-vertex-test.true
       c.digits_of-digits.result.count c.digits_of-digits.ensures.1,
   c.loop-vertex-test.true,
 )
@@ -26,7 +26,7 @@ loop-vertex-preserved c = (
   c.write_line-written.auto.game ∙ c.loop-vertex.invariant.0,
   c.write_line-written.ensures.written,
   c.write_line-written.ensures.emptied,
-  ordering_more c.requires.begins.0 c.loop-vertex.invariant.3 c.loop-vertex-test.true
+  ordering_more c.requires.begins c.loop-vertex.invariant.3 c.loop-vertex-test.true
       c.digits_of-digits.result.count c.digits_of-digits.ensures.1
       c.write_line-written.result.next c.write_line-written.ensures.same_line c.past_line-line.ensures,
   c.digits_of-digits.ensures.0,
