@@ -107,6 +107,7 @@ fn print(answer: Answer, game: &[u32], text: &mut Text<'_>)
 // ---- the whole program
 
 // A run in room for 512 vertices and 1,024 edges, of at most 512 steps, and what is printed of it.
+// Kept (no plainer): the four slices are parameters, as crate `inputs` says.
 fn run_input(labels: &[u32], system: &[u32], actions: &[u32], formula: &[u32], text: &mut Text<'_>)
     requires { let x = input_of labels.now system.now actions.now formula.now in
         Room text.old (reported (gate_run x)) }
@@ -151,6 +152,7 @@ pub const TEXT: usize = 16_384;
 
 // What the program writes, of what it reads: the answer says how many bytes stand at the front of the text slice, with
 // zeros past them. A slice in which not every text fits is refused and left as it is.
+// Kept (rule): the answer is Done with two zeros, as `program_text` of the rules has it.
 pub fn gate(bytes: &[u8], text: &mut [u8]) -> Answer
     ensures { record { answer = result; text = text.new }
         ≡ program_text bytes.now text.old }

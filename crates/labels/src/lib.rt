@@ -97,6 +97,7 @@ impl<'a> Labels<'a> {
 fn weight_of(action: u32) -> u64
     ensures { result ≡ weight action }
 {
+    // Kept (no plainer): a cast that widens; `u64::from` would say the same.
     let stirred = ((action as u64) * 2654435761 + 1013904223) % 4294967296;
     stirred * stirred / 4294967296
 }

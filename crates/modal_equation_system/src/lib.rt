@@ -152,6 +152,8 @@ impl EquationTable {
             kind,
             body: node as u32 + 1,
         };
+        // Kept (no plainer): the truth value as 0 or 1 counts the entry or does not; an `if` around both statements
+        // would say no more.
         self.count += usize::from(kind.is_fixpoint());
     }
 

@@ -236,6 +236,7 @@ impl<'a> Iterator for Successors<'a> {
     fn next(&mut self) -> Option<Number> {
         let number = known_number(self.text, self.at?);
         let more = self.text[number.next] == b',';
+        // Kept (no plainer): by then_some the place behind a comma would be worked out for the last number too.
         self.at = None;
         if more {
             self.at = Some(number.next + 1);
