@@ -115,8 +115,8 @@ impl<'a> Game<'a> {
     }
 
     /// For each of its edges, how many transitions stand behind it: those of the vertex's state that its modality
-    /// matches and that lead to the edge's target. 0 where the vertex is no modality, for a loop added to a vertex
-    /// without targets, and in games read from text.
+    /// matches and that lead to the target's state. 0 where the vertex is no modality, for a loop added to a vertex
+    /// without targets, and in games read from text; a game that is handed over may say any number.
     pub fn counts(&self, vertex: u32) -> &'a [u32] {
         &self.column(1)[self.edges_of(vertex)]
     }

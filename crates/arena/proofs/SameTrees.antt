@@ -10,7 +10,7 @@ use native.Mathlib.Omega.{arith}
 use lib.Dec.{eqb, ltb}
 use lib.ListN.{get_or, length}
 use Rattle.rules.specs.Answers.{Check}
-use Rattle.rules.specs.Lists.{In, largest, occurrences, position, once}
+use Rattle.rules.specs.Lists.{In, largest, position, once}
 use Rattle.rules.specs.declared.Room.{Room}
 use Rattle.rules.specs.Words.{Input}
 use Rattle.rules.specs.Labels.{multiset}
@@ -24,7 +24,7 @@ use Rattle.rules.specs.Depth.{references, contribution, reading_to, reading, dep
 use Rattle.rules.specs.Items.{alike, Item, equation, subformula, subformulas, items, item_number}
 use Rattle.rules.specs.Pairs.{Pair, same_pair, initial_pair, item_at, item_owner, owner, priority, matching_transitions}
 use Rattle.rules.specs.Pairs.{successors, formula_targets, item_targets, targets}
-use Rattle.rules.specs.Pairs.{formula_transitions, item_transitions, modal_transitions, transitions_behind}
+use Rattle.rules.specs.Pairs.{formula_transitions, item_transitions, modal_transitions, leading_to, transitions_behind}
 use Rattle.rules.specs.Walk.{Stand, walk}
 use Rattle.rules.specs.Game.{Vertex, vertices}
 use Rattle.rules.specs.Refusal.{refusal}
@@ -199,7 +199,7 @@ module _ (x : Input) (ls' acts' : List ℕ) (trees : (v : ℕ) → action_tree l
         → transitions_behind (reworded x ls' acts') (s, q) r ≡ transitions_behind x (s, q) r
     unfolding transitions_behind
     same_behind q r =
-        ap (λ (ts : List ℕ). occurrences eqb r.0 (map (transition_target x.system) ts)) (same_transitions q)
+        ap (λ (ts : List ℕ). leading_to x ts r.0) (same_transitions q)
 
   -- ---- runs, where all labels have the same multisets
 

@@ -12,7 +12,7 @@ use Rattle.rules.specs.Game.{game_of, padded, game_words}
 use Rattle.games.specs.Columns.{edge_column, edge_column_of}
 use Rattle.games.proofs.Reading.{length_edges, length_edge_column}
 use Rattle.words.specs.Stretches.{Wrote}
-use Rattle.words.proofs.Stretches.{Writing, start, turn, put, called, done}
+use Rattle.words.proofs.Stretches.{Writing, turn, put, called, done}
 use Rattle.parity_game.proofs.Stretches.{columns_room, column_none, column-more}
 use Rattle.parity_game.proofs.Stretches.{edges_none as no_edges, edges_more as more_edges}
 use Rattle.parity_game.proofs.Stretches.{offsets_none as no_offsets, offsets_more as more_offsets}
@@ -21,7 +21,7 @@ use Rattle.parity_game.proofs.Calls.{edges_fit, last_done, game_done}
 use Rattle.game_columns.specs.Shown.{edges_of}
 
 -- the place of the next word, told otherwise
-moved : {p q : ℕ} {left out : List ℕ} {at₀ : ℕ} {stretch out₀ : List ℕ} → p ≡ q
+pub moved : {p q : ℕ} {left out : List ℕ} {at₀ : ℕ} {stretch out₀ : List ℕ} → p ≡ q
     → Writing p left out at₀ stretch out₀ → Writing q left out at₀ stretch out₀
 moved {left = left} {out} {at₀} {stretch} {out₀} e w = subst (λ (k : ℕ). Writing k left out at₀ stretch out₀) e w
 
@@ -40,9 +40,6 @@ module _ (vs : List Vertex) where
 
   abbrev pub Counted : (b i : ℕ) → Type 0
   Counted b i = b + edge_count (drop i vs) ≡ edge_count vs
-
-  pub count_start : Counted 0 0
-  count_start = omega arith
 
   count-more : (i : ℕ) → i < length vs → edge_count (drop i vs) ≡ length (edges_of vs i) + edge_count (drop (i + 1) vs)
   count-more i h = ap edge_count (more i h) ∙ more_edges (get_or vs i waiting_vertex) (drop (i + 1) vs)
@@ -73,9 +70,6 @@ module _ (vs : List Vertex) where
   abbrev pub Offsets : (b i at : ℕ) → (out out₀ : List ℕ) → Type 0
   Offsets b i at out out₀ = Counted b i × Writing (at + i) (offsets b (drop i vs)) out at (offsets 0 vs) out₀
 
-  pub offsets_start : (at : ℕ) (out : List ℕ) → Offsets 0 0 at out out
-  offsets_start at out = let here : at ≡ at + 0 = omega arith in (count_start, moved here start)
-
   pub offsets_put : (b i degree at : ℕ) {out out₀ : List ℕ} → degree ≡ length (edges_of vs i) → i < length vs
       → at + length vs < length out₀ → Offsets b i at out out₀
       → Offsets (b + degree) (i + 1) at (set out (at + i) b) out₀
@@ -96,10 +90,6 @@ module _ (vs : List Vertex) where
       done (put here (moved same (turn last w.1)))
 
   -- ---- a column of the edges
-
-  pub edges_start : (c : ℕ) {at : ℕ} {out : List ℕ}
-      → Writing at (edge_column_of c (drop 0 vs)) out at (edge_column_of c vs) out
-  edges_start c = start
 
   -- there is room for the words of the next vertex
   pub edges_room : (c i : ℕ) {p at₀ : ℕ} {out out₀ : List ℕ} → i < length vs → at₀ + edge_count vs ≤ length out₀

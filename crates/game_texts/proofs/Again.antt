@@ -21,6 +21,7 @@ use Rattle.lists.proofs.Inserts.{once_in}
 use Rattle.lists.proofs.Equalities.{number_equality}
 use Rattle.lists.proofs.Ranges.{in_from}
 use Rattle.tables.proofs.Faults.{then_passed}
+use Rattle.games.proofs.Columns.{map_same}
 use Rattle.games.proofs.Reading.{count_read}
 use Rattle.games.proofs.Handed.{owned_passes}
 use Rattle.restrictions.specs.Trimmed.{trimmed}
@@ -29,7 +30,7 @@ use Rattle.game_texts.specs.Repeats.{vertex_once, without_repeats, Held}
 use Rattle.game_texts.proofs.Parsing.{parse_says}
 use Rattle.game_texts.proofs.Exact.{passes98}
 use Rattle.game_texts.proofs.Numbered.{named}
-use Rattle.game_texts.proofs.Saying.{once_once, once_some, map_same}
+use Rattle.game_texts.proofs.Saying.{once_once, once_some}
 use Rattle.game_texts.proofs.ReadingExact.{reading_passed}
 use Rattle.game_texts.proofs.Readable.{Readable, reading_readable, readable_done, read_passes, read_length}
 use Rattle.game_texts.proofs.Readable.{line_of, read_at_lem, read_few, read_priorities, room_most}

@@ -5,13 +5,12 @@ use native.Mathlib.Omega.{arith}
 use native.Mathlib.Decide.{ℕ_discrete}
 use mathlib.Core.Path.{◌≡◌, refl, sym, ap, ap₂, ◌∙◌, subst}
 use mathlib.Core.List.{List, [], ◌∷◌, map}
-use mathlib.Core.Logic.{inl, inr}
 use lib.ListN.{length, length-map}
 use lib.Dec.{eqb}
 use borrow.Author.Tests.{eq-eqb, ne_eqb}
 use Rattle.std.specs.declared.result.Result.TheVariants.{Ok}
 use Rattle.rules.specs.Lists.{word, zeros, In, Distinct, from, once}
-use Rattle.rules.specs.Game.{Edge, Vertex, edge_to, vertex_count, owner_in, priority_in, targets_in}
+use Rattle.rules.specs.Game.{Edge, edge_to, vertex_count, owner_in, priority_in, targets_in}
 use Rattle.rules.specs.Pgsolver.{SolverLine, ProperLine, HasForm}
 use Rattle.rules.specs.PgsolverWriting.{line_in, text_in, game_text, writing_refusal}
 use Rattle.rules.specs.PgsolverReading.{vertex_of, vertex_named, read_vertices, numbers_of}
@@ -20,6 +19,7 @@ use Rattle.lists.proofs.Inserts.{once_in, once_distinct, inserts_new}
 use Rattle.lists.proofs.Equalities.{number_equality}
 use Rattle.lists.proofs.Ranges.{from-length, in_from}
 use Rattle.tables.proofs.Faults.{then_both}
+use Rattle.games.proofs.Columns.{map_same}
 use Rattle.restrictions.specs.GoodGame.{GoodGame}
 use Rattle.restrictions.proofs.Accepted.{good_game, target_below}
 use Rattle.restrictions.proofs.Kept.{from_distinct}
@@ -41,10 +41,6 @@ once_some xs h = go (once eqb xs) ((once_in number_equality xs (word xs 0)).1 (i
     go : (ys : List ℕ) → In (word xs 0) ys → 1 ≤ length ys
     go [] j = absurd j
     go (y ∷ ys) j = omega arith
-
-pub map_same : (f h : ℕ → Vertex) (vs : List ℕ) → ((v : ℕ) → In v vs → f v ≡ h v) → map f vs ≡ map h vs
-map_same f h [] e = refl
-map_same f h (v ∷ vs) e = ap₂ ◌∷◌ (e v (inl refl)) (map_same f h vs (λ u i. e u (inr i)))
 
 -- the counts of edges that lead to these numbers
 pub counts_plain : (ts : List ℕ) → map (λ (e : Edge). e.count) (map (λ t. edge_to t) ts) ≡ zeros ts

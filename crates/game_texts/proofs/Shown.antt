@@ -1,15 +1,20 @@
--- A game as a text shows it: what is read of its words, and that it is the game itself where every count is 0. Assumes
--- nothing.
+-- A game as a text shows it: what is read of its words, that it is the game itself where every count is 0, and that its
+-- text is the game's. Assumes nothing.
 use Prim.Native.Nat.{ℕ, zero, suc, ◌+◌, ◌*◌, ◌-◌, ◌≤◌, ◌<◌}
 use native.Mathlib.Omega.{arith}
 use mathlib.Core.Path.{◌≡◌, refl, sym, ap, ap₂, ◌∙◌}
-use mathlib.Core.List.{List, ◌∷◌}
+use mathlib.Core.List.{List, ◌∷◌, map}
 use lib.ListN.{length, take, drop, replicate, length-append, length-replicate, get_or-eq_default}
 use lib.Seq.{slice, length-take-le, take-take, take-append-le, get_or-take}
-use Rattle.rules.specs.Lists.{word, zeros}
+use lib.Dec.{eqb}
+use Rattle.std.proofs.Math.Option.{none as no_name}
+use Rattle.rules.specs.Lists.{word, zeros, from, once}
 use Rattle.rules.specs.Game.{vertex_columns, vertex_count, edges_in, initial_in, vertex_column_at, offsets_at}
 use Rattle.rules.specs.Game.{edge_column_at, vertex_word, offset_in, edges_from, edge_words_in, targets_in, counts_in}
-use Rattle.games.proofs.Columns.{each_edge_column, left_at, slice_right, rise}
+use Rattle.rules.specs.Pgsolver.{spelled}
+use Rattle.rules.specs.PgsolverWriting.{line_in, text_in, game_text}
+use Rattle.lists.proofs.Ranges.{in_from}
+use Rattle.games.proofs.Columns.{each_edge_column, map_same, left_at, slice_right, rise}
 use Rattle.games.proofs.Rewriting.{Whole, words_alike}
 use Rattle.restrictions.specs.GoodGame.{GoodGame}
 use Rattle.restrictions.proofs.Accepted.{degree, most_offset}
@@ -149,3 +154,25 @@ module _ (g : List ℕ) (good : GoodGame g) where
             (λ v h. shown_targets v (omega (arith, shown_count)))
             (λ v h. let l : v < vertex_count g = omega (arith, shown_count) in shown_counts v l ∙ sym (none v l));
       })
+
+  -- a line has no count, so the text of a game does not depend on its counts
+  shown_line : (v : ℕ) → v < vertex_count g → line_in (without_counts g) v ≡ line_in g v
+  unfolding line_in
+  shown_line v h = λ i. record {
+    number = v;
+    priority = shown-vertex 1 (omega arith) v h i;
+    owner = shown-vertex 0 (omega arith) v h i;
+    successors = once eqb (shown_targets v h i);
+    name = no_name;
+  }
+
+  pub text_without_counts : game_text (without_counts g) ≡ game_text g
+  unfolding game_text text_in
+  text_without_counts = λ i. spelled (record { highest = shown_count i - 1; lines = lines i })
+    where
+      lines : map (line_in (without_counts g)) (from 0 (vertex_count (without_counts g)))
+          ≡ map (line_in g) (from 0 (vertex_count g))
+      lines =
+          ap (λ (n : ℕ). map (line_in (without_counts g)) (from 0 n)) shown_count
+          ∙ map_same (line_in (without_counts g)) (line_in g) (from 0 (vertex_count g))
+          (λ v m. shown_line v (omega (arith, (in_from v 0 (vertex_count g) m).1)))

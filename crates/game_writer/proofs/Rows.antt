@@ -1,5 +1,5 @@
 -- A word for each of the first n vertices, written from left to right. Assumes nothing.
-use mathlib.Core.Path.{◌≡◌, refl, sym, ap, ◌∙◌, subst}
+use mathlib.Core.Path.{◌≡◌, refl, sym, ap, ◌∙◌}
 use mathlib.Core.List.{List, [], ◌∷◌, ◌++◌, map}
 use Prim.Native.Nat.{ℕ, suc, ◌+◌, ◌-◌, ◌≤◌, ◌<◌}
 use native.Mathlib.Numerals.{add-one}
@@ -12,6 +12,7 @@ use Rattle.rules.specs.Lists.{word, from}
 use Rattle.lists.proofs.Ranges.{from-length, from_at}
 use Rattle.words.specs.Stretches.{Wrote}
 use Rattle.words.proofs.Stretches.{Writing, start, turn, put, done, inside}
+use Rattle.game_columns.proofs.Written.{moved}
 
 -- ---- the numbers from u up to n
 
@@ -29,11 +30,6 @@ from_more n u h =
 pub from_none : (n u : ℕ) → n ≤ u → from u (n - u) ≡ []
 unfolding from
 from_none n u h = let e : n - u ≡ 0 = omega arith in ap (from u) e
-
--- the place of the next word, told otherwise
-pub moved : {p q : ℕ} {left out : List ℕ} {at₀ : ℕ} {stretch out₀ : List ℕ} → p ≡ q
-    → Writing p left out at₀ stretch out₀ → Writing q left out at₀ stretch out₀
-moved {left = left} {out} {at₀} {stretch} {out₀} e w = subst (λ (k : ℕ). Writing k left out at₀ stretch out₀) e w
 
 -- ---- a word for each of them, the first at place `at`
 
@@ -53,11 +49,6 @@ module _ (f : ℕ → ℕ) (n u at : ℕ) {out out₀ : List ℕ} where
       let more = ap (map f) (from_more n u h) ∙ ap (λ (y : ℕ). y ∷ map f (from (u + 1) (n - (u + 1)))) (sym e) in
       let next : at + u + 1 ≡ at + (u + 1) = omega arith in
       moved next (put here (turn more w))
-
-pub row-start : (f : ℕ → ℕ) (n at : ℕ) (out : List ℕ) → Row f n 0 at out out
-row-start f n at out =
-    let here : at ≡ at + 0 = omega arith in
-    moved here (turn (ap (map f) (sym (from_all n))) start)
 
 pub row_done : (f : ℕ → ℕ) (n u at : ℕ) {out out₀ : List ℕ} → u ≤ n → n ≤ u → Row f n u at out out₀
     → Wrote at (map f (from 0 n)) out₀ out (at + n)

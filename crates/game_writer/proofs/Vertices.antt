@@ -3,13 +3,13 @@
 use mathlib.Core.Path.{◌≡◌, refl, sym, ap, ◌∙◌, subst}
 use mathlib.Core.Bool.{true, false}
 use mathlib.Core.List.{List, [], ◌∷◌, map, append-nil}
-use Prim.Native.Nat.{ℕ, zero, suc, ◌+◌, ◌*◌, ◌-◌, ◌≤◌, ◌<◌}
+use Prim.Native.Nat.{ℕ, zero, suc, ◌+◌, ◌-◌, ◌≤◌, ◌<◌}
 use native.Mathlib.Omega.{arith}
 use lib.ListN.{length, take, drop, length-map}
 use Rattle.std.proofs.Common.{reverse}
 use lib.Dec.{eqb}
 use borrow.Author.Tests.{lt-ltb, le-ltb}
-use Rattle.std.specs.Prelude.{is_some, unwrap_or, Option, Some, None}
+use Rattle.std.specs.Prelude.{is_some, Option, Some, None}
 use Rattle.std.specs.Option.{SomeIff}
 use Rattle.player.specs.Player.{player_index}
 use Rattle.player.specs.declared.Player.{Player}
@@ -18,25 +18,21 @@ use Rattle.rules.specs.Game.{Edge, edge_columns, stuck_priority, waiting_vertex}
 use Rattle.lists.proofs.Ranges.{from-length}
 use Rattle.games.specs.Columns.{edge_column}
 use Rattle.games.proofs.Columns.{each_edge_column}
-use Rattle.work_slice.specs.Regions.{region}
+use Rattle.work_slice.specs.Regions.{region, edges_end, edge_word}
 use Rattle.words.specs.Stretches.{Wrote}
 use Rattle.item_table.specs.Entries.{kind_owner}
 use Rattle.settling.specs.Stand.{edges_of, counts_of, settled_in, start_in, degree_in}
-use Rattle.settling.proofs.Buffer.{settled-in, unsettled_in, count_unsettled}
+use Rattle.settling.proofs.Buffer.{settled-in, unsettled_in, degree_unsettled}
 use Rattle.game_writer.proofs.Rows.{down_below}
-use Rattle.game_writer.specs.Shown.{item_in, loops_in, shown_player, shown_owner, shown_priority}
-use Rattle.game_writer.specs.Shown.{buffer_end, shown_edge, shown_edges, shown_vertex}
+use Rattle.game_writer.specs.Shown.{item_in, first_target, loops_in, shown_player, shown_owner, shown_priority}
+use Rattle.game_writer.specs.Shown.{shown_edge, shown_edges, shown_vertex}
 
--- ---- whether it is settled and how many edges it has, as code reads it: `degree` is none before it is settled
+-- ---- whether it is settled, as code reads it: `degree` is none before it is settled
 
 module _ (w : List ℕ) (v u held : ℕ) (e : held ≡ word (region 6 v w) u) where
   pub settled_read : (degree : Option ℕ) → SomeIff degree (1 ≤ held) (held - 1) → is_some degree ≡ settled_in w v u
   settled_read (Some d) s = sym (settled-in w v u (omega (arith, s.0)))
   settled_read None s = sym (unsettled_in w v u (omega (arith, s)))
-
-  pub count_read : (degree : Option ℕ) → SomeIff degree (1 ≤ held) (held - 1) → unwrap_or degree 0 ≡ degree_in w v u
-  count_read (Some d) s = omega (arith, s.1)
-  count_read None s = omega (arith, s)
 
 -- ---- the words of owner and priority
 
@@ -60,7 +56,7 @@ module _ (w : List ℕ) (v e u : ℕ) where
   unfolding loops_in
   loops_none z = rw (le-ltb 0 (degree_in w v u) (omega arith)) refl
 
-  pub loops_read : (place : ℕ) → (¬ (degree_in w v u ≡ 0)) → place ≡ buffer_end v e 0 - suc (start_in w v u)
+  pub loops_read : (place : ℕ) → (¬ (degree_in w v u ≡ 0)) → place ≡ edge_word v e 0 (start_in w v u)
       → eqb (word w place) u ≡ loops_in w v e u
   unfolding loops_in
   loops_read place d s = rw (lt-ltb 0 (degree_in w v u) (omega arith)) (ap (λ (k : ℕ). eqb (word w k) u) s)
@@ -133,17 +129,10 @@ same_edges (e ∷ es) (d ∷ ds) p q =
     let first : e ≡ d = λ i. record { target = word (p i) 0; count = word (q i) 0 } in
     ap (λ (x : Edge). x ∷ es) first ∙ ap (λ (l : List Edge). d ∷ l) (same_edges es ds (ap (drop 1) p) (ap (drop 1) q))
 
--- each column ends in the buffer, and e words stand in front of its end
-pub column_end : (v e c : ℕ) → c < length edge_columns
-    → (8 * v + e ≤ buffer_end v e c) × (buffer_end v e c ≤ 8 * v + 2 * e)
-column_end v e =
-    each_edge_column (λ c. (8 * v + e ≤ buffer_end v e c) × (buffer_end v e c ≤ 8 * v + 2 * e))
-    (omega arith, omega arith) (omega arith, omega arith)
-
 module _ (w : List ℕ) (v e u : ℕ) where
   pub edges_none : settled_in w v u ≡ false → shown_edges w v e u ≡ []
   unfolding shown_edges from
-  edges_none d = ap (λ (k : ℕ). map (shown_edge w v e) (from (start_in w v u) k)) (count_unsettled w v u d)
+  edges_none d = ap (λ (k : ℕ). map (shown_edge w v e) (from (start_in w v u) k)) (degree_unsettled w v u d)
 
   -- there are as many as is counted
   pub edges_length : length (shown_edges w v e u) ≡ degree_in w v u
@@ -154,30 +143,30 @@ module _ (w : List ℕ) (v e u : ℕ) where
 
   -- the words at these places of the buffer in a column
   words-at : (c : ℕ) → c < length edge_columns → (is : List ℕ)
-      → map (edge_column c) (map (shown_edge w v e) is) ≡ map (λ i. word w (buffer_end v e c - suc i)) is
+      → map (edge_column c) (map (shown_edge w v e) is) ≡ map (λ i. word w (edge_word v e c i)) is
   unfolding shown_edge
   words-at c h [] = refl
   words-at c h (i ∷ is) =
       ap (λ (l : List ℕ). edge_column c (shown_edge w v e i) ∷ l) (words-at c h is)
-      ∙ ap (λ (x : ℕ). x ∷ map (λ i. word w (buffer_end v e c - suc i)) is)
-      (each_edge_column (λ c. edge_column c (shown_edge w v e i) ≡ word w (buffer_end v e c - suc i)) refl refl c h)
+      ∙ ap (λ (x : ℕ). x ∷ map (λ i. word w (edge_word v e c i)) is)
+      (each_edge_column (λ c. edge_column c (shown_edge w v e i) ≡ word w (edge_word v e c i)) refl refl c h)
 
   -- their words in a column
   column_words : (c : ℕ) → c < length edge_columns
       → map (edge_column c) (shown_edges w v e u)
-      ≡ map (λ i. word w (buffer_end v e c - suc i)) (from (start_in w v u) (degree_in w v u))
+      ≡ map (λ i. word w (edge_word v e c i)) (from (start_in w v u) (degree_in w v u))
   unfolding shown_edges
   column_words c h = words-at c h (from (start_in w v u) (degree_in w v u))
 
   -- they stand below a place of the buffer, the last one first
   pub edges_words : (c : ℕ) → c < length edge_columns
       → map (edge_column c) (shown_edges w v e u)
-      ≡ map (λ i. word w (buffer_end v e c - start_in w v u - suc i)) (from 0 (degree_in w v u))
-  edges_words c h = column_words c h ∙ words_below w (buffer_end v e c) (start_in w v u) (degree_in w v u)
+      ≡ map (λ i. word w (edges_end v e c - start_in w v u - suc i)) (from 0 (degree_in w v u))
+  edges_words c h = column_words c h ∙ words_below w (edges_end v e c) (start_in w v u) (degree_in w v u)
 
   -- as code copies them
   pub wrote_some : (c past count : ℕ) {start r : ℕ} {out out' : List ℕ} → c < length edge_columns
-      → past ≡ buffer_end v e c - start_in w v u → count ≡ degree_in w v u → count ≤ past → past ≤ length w
+      → past ≡ edges_end v e c - start_in w v u → count ≡ degree_in w v u → count ≤ past → past ≤ length w
       → Wrote start (reverse (take (past - (past - count)) (drop (past - count) w))) out out' r
       → Wrote start (map (edge_column c) (shown_edges w v e u)) out out' r
   wrote_some c past count {start} {r} {out} {out'} h p q below within wrote =
@@ -208,29 +197,22 @@ module _ (w : List ℕ) (v e u n : ℕ) where
       → shown_edges w v e u ≡ es
   unfolding edges_of counts_of
   edges_settled h es p q =
-      let a : buffer_end v e 0 ≡ 8 * v + e = omega arith in
-      same_edges (shown_edges w v e u) es (column 0 (8 * v + e) (omega arith) a ∙ p)
-      (column 1 (8 * v + 2 * e) (omega arith) refl ∙ q)
+      same_edges (shown_edges w v e u) es (column 0 (omega arith) ∙ p) (column 1 (omega arith) ∙ q)
     where
-      column : (c end : ℕ) → c < length edge_columns → buffer_end v e c ≡ end
+      column : (c : ℕ) → c < length edge_columns
           → map (edge_column c) (shown_edges w v e u)
-          ≡ take (degree_in w v u) (drop (start_in w v u) (map (λ i. word w (end - suc i)) (from 0 n)))
-      column c end k f =
-          column_words w v e u c k
-          ∙ ap (λ (b : ℕ). map (λ i. word w (b - suc i)) (from (start_in w v u) (degree_in w v u))) f
-          ∙ sym (part_read end h)
+          ≡ take (degree_in w v u) (drop (start_in w v u) (map (λ i. word w (edge_word v e c i)) (from 0 n)))
+      column c k = column_words w v e u c k ∙ sym (part_read (edges_end v e c) h)
 
   -- the first of its targets
   pub first_edge : 0 < degree_in w v u → start_in w v u + degree_in w v u ≤ n → (t : ℕ) (ts : List ℕ)
       → take (degree_in w v u) (drop (start_in w v u) (edges_of w v e n)) ≡ t ∷ ts
-      → word w (buffer_end v e 0 - suc (start_in w v u)) ≡ t
+      → first_target w v e u ≡ t
   unfolding edges_of
-  first_edge some h t ts p =
-      let a : buffer_end v e 0 - suc (start_in w v u) ≡ 8 * v + e - suc (start_in w v u) = omega arith in
-      ap (word w) a ∙ head (degree_in w v u) some (sym (part_read (8 * v + e) h) ∙ p)
+  first_edge some h t ts p = head (degree_in w v u) some (sym (part_read (edges_end v e 0) h) ∙ p)
     where
-      head : (d : ℕ) → 0 < d → map (λ i. word w (8 * v + e - suc i)) (from (start_in w v u) d) ≡ t ∷ ts
-          → word w (8 * v + e - suc (start_in w v u)) ≡ t
+      head : (d : ℕ) → 0 < d → map (λ i. word w (edge_word v e 0 i)) (from (start_in w v u) d) ≡ t ∷ ts
+          → first_target w v e u ≡ t
       head zero h q = absurd (omega arith)
       head (suc d) h q = unfold from in ap (λ (l : List ℕ). word l 0) q
 

@@ -11,19 +11,10 @@ use Rattle.games.specs.Columns.{vertex_column}
 use Rattle.settling.specs.Stand.{degree_in}
 use Rattle.game_columns.specs.Shown.{edges_of}
 use Rattle.game_writer.specs.Shown.{shown_owner, shown_priority, shown_edges, shown_vertex, shown_word, shown_vertices}
-use Rattle.game_writer.specs.Shown.{Showing, Showable}
+use Rattle.game_writer.specs.Shown.{Showable}
 use Rattle.game_writer.proofs.Edges.{total}
 use Rattle.game_writer.proofs.Vertices.{edges_length}
 use Rattle.lists.proofs.Ranges.{from-length, from_at}
-
--- ---- what the parts ask for
-
-pub showing : {w : List ℕ} {v e n m size : ℕ} → Showable w v e n m size → Showing w v e n
-showing s =
-    record {
-      placed = s.placed;
-      edged = record { stretch = λ u h d. omega (arith, s.few, s.stretches u h d) };
-    }
 
 -- ---- the vertices
 

@@ -1,7 +1,7 @@
 -- The vertices of a walk as the work words and the item table show them (document 01, "Words handed over": the work
 -- slice; "A cut game shows a waiting vertex with owner 2, priority 0 and no edges"). Assumes nothing: these are
 -- definitions.
-use Rattle.std.specs.Prelude.{◌≡◌, Bool, true, cond, ◌&&◌, List, map, ℕ, suc, ◌+◌, ◌*◌, ◌-◌, ◌≤◌, ◌<◌, length, eqb, ltb}
+use Rattle.std.specs.Prelude.{◌≡◌, Bool, true, cond, ◌&&◌, List, map, ℕ, ◌+◌, ◌*◌, ◌≤◌, ◌<◌, length, eqb, ltb}
 use Rattle.player.specs.Player.{player_index}
 use Rattle.player.specs.declared.Player.{Player}
 use Rattle.rules.specs.Lists.{word, from}
@@ -9,6 +9,7 @@ use Rattle.rules.specs.Words.{most_vertices, most_edges}
 use Rattle.rules.specs.Game.{Edge, Vertex, stuck_priority, game_words}
 use Rattle.games.specs.Columns.{vertex_column}
 use Rattle.item_table.specs.Entries.{kind_owner}
+use Rattle.work_slice.specs.Regions.{edge_word}
 use Rattle.pairs.specs.Table.{item_at}
 use Rattle.settling.specs.Stand.{settled_in, start_in, degree_in, degrees_in}
 
@@ -26,13 +27,13 @@ shown_player kinds w v u = kind_owner (word kinds (item_in w v u))
 unfoldable pub shown_owner : List ℕ → List ℕ → ℕ → ℕ → ℕ
 shown_owner kinds w v u = cond (settled_in w v u) (player_index (shown_player kinds w v u)) 2
 
--- where a column of the edges ends in the buffer
-abbrev pub buffer_end : (v e column : ℕ) → ℕ
-buffer_end v e column = 8 * v + suc column * e
+-- where the first edge of vertex u leads
+abbrev pub first_target : List ℕ → (v e u : ℕ) → ℕ
+first_target w v e u = word w (edge_word v e 0 (start_in w v u))
 
--- the first edge of vertex u leads to itself, as only the edge does that is added where there is none
+-- it leads to u itself, as only the edge does that is added where there is none
 unfoldable pub loops_in : List ℕ → (v e u : ℕ) → Bool
-loops_in w v e u = ltb 0 (degree_in w v u) && eqb (word w (buffer_end v e 0 - suc (start_in w v u))) u
+loops_in w v e u = ltb 0 (degree_in w v u) && eqb (first_target w v e u) u
 
 -- the item's priority, but with an added edge that of a vertex without targets
 unfoldable pub shown_priority : (kinds priorities w : List ℕ) (v e u : ℕ) → ℕ
@@ -42,7 +43,7 @@ shown_priority kinds priorities w v e u =
 
 -- the edge at place i of the buffer
 unfoldable pub shown_edge : List ℕ → (v e i : ℕ) → Edge
-shown_edge w v e i = record { target = word w (buffer_end v e 0 - suc i); count = word w (buffer_end v e 1 - suc i) }
+shown_edge w v e i = record { target = word w (edge_word v e 0 i); count = word w (edge_word v e 1 i) }
 
 -- the edges of vertex u: none before it is settled
 unfoldable pub shown_edges : List ℕ → (v e u : ℕ) → List Edge
@@ -73,9 +74,9 @@ pub record Placed (w : List ℕ) (v e n : ℕ) : Type 0 where
   pub most : (v ≤ most_vertices) × (e ≤ most_edges)
   pub whole : 8 * v + 2 * e ≤ length w
 
--- the edges of those that are settled stand in the buffer
-pub record EdgesWithin (w : List ℕ) (v e n : ℕ) : Type 0 where
-  pub stretch : (u : ℕ) → u < n → settled_in w v u ≡ true → start_in w v u + degree_in w v u ≤ e
+-- the edges of those that are settled stand at the first m places of the buffer
+pub record EdgesWithin (w : List ℕ) (v m n : ℕ) : Type 0 where
+  pub stretch : (u : ℕ) → u < n → settled_in w v u ≡ true → start_in w v u + degree_in w v u ≤ m
 
 -- all this: every column of the first n vertices can be told
 pub record Showing (w : List ℕ) (v e n : ℕ) : Type 0 where
@@ -87,6 +88,6 @@ pub record Showing (w : List ℕ) (v e n : ℕ) : Type 0 where
 pub record Showable (w : List ℕ) (v e n m size : ℕ) : Type 0 where
   pub placed : Placed w v e n
   pub few : m ≤ e
-  pub stretches : (u : ℕ) → u < n → settled_in w v u ≡ true → start_in w v u + degree_in w v u ≤ m
+  pub edged : EdgesWithin w v m n
   pub total : degrees_in w v n ≡ m
   pub room : game_words n m ≤ size

@@ -6,10 +6,10 @@ ghost use Rattle.std.specs.Prelude.{◌≡◌, reverse, ◌+◌, ◌≤◌, ◌<
 ghost use Rattle.rules.specs.Lists.{word};
 ghost use Rattle.rules.specs.Game.{stuck_priority, vertex_columns, edge_columns, game_of, padded};
 ghost use Rattle.words.specs.Stretches.{Wrote};
-ghost use Rattle.work_slice.specs.Regions.{region_code, region};
+ghost use Rattle.work_slice.specs.Regions.{region_code, region, edges_end};
 ghost use Rattle.compiled.specs.Tables.{kinds_in, priorities_in};
 ghost use Rattle.settling.specs.Stand.{settled_in, degree_in};
-ghost use Rattle.game_writer.specs.Shown.{loops_in, buffer_end, shown_vertices, Showing, Showable};
+ghost use Rattle.game_writer.specs.Shown.{loops_in, shown_vertices, Showing, Showable};
 
 use compiled::Compiled;
 use game_columns::Vertices;
@@ -58,7 +58,7 @@ impl<'w, 'c> Walked<'w, 'c> {
     // Where a column of the edges ends in the work slice: it is filled from there downwards.
     fn buffer_end(&self, column: usize) -> usize
         requires { column < length edge_columns }
-        ensures { result ≡ buffer_end self.now.slots.vertices self.now.edge_room column }
+        ensures { result ≡ edges_end self.now.slots.vertices self.now.edge_room column }
     {
         edges_end(self.slots.vertices, self.edge_room, column)
     }
@@ -138,8 +138,8 @@ impl KnownVertex<'_, '_> {
         ensures { let walked = self.entry.walked in
             result ≡ loops_in walked.slots.work.now walked.slots.vertices walked.edge_room self.entry.vertex.0 }
     {
-        let count = self.degree().unwrap_or(0);
-        if count == 0 {
+        let degree = self.degree().unwrap_or(0);
+        if degree == 0 {
             return false;
         }
         let start = self.region_word(Region::Starts) as usize;
@@ -205,12 +205,12 @@ impl Vertices for Walked<'_, '_> {
         start: usize,
     ) -> usize {
         let known = self.at(vertex);
-        let Some(count) = known.degree() else {
+        let Some(degree) = known.degree() else {
             return start;
         };
         let first = known.region_word(Region::Starts) as usize;
         let past = self.buffer_end(column) - first;
-        let edges = &self.slots.work[past - count as usize..past];
+        let edges = &self.slots.work[past - degree as usize..past];
         copy_down(edges, out, start)
     }
 }

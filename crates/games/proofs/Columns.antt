@@ -1,14 +1,16 @@
 -- Columns of words, one after another: each word and each stretch of them; and what holds of each column holds of all.
 -- Assumes nothing.
-use mathlib.Core.Path.{◌≡◌, refl, ap, ◌∙◌, subst}
+use mathlib.Core.Path.{◌≡◌, refl, ap, ap₂, ◌∙◌, subst}
 use mathlib.Core.List.{List, [], ◌∷◌, ◌++◌, map, append_assoc}
+use mathlib.Core.Logic.{inl, inr}
 use Prim.Native.Nat.{ℕ, zero, suc, ◌+◌, ◌*◌, ◌≤◌, ◌<◌}
 use native.Mathlib.Nat.{not-suc-le-zero, le_of_suc-le-suc, mul-le-mul_right, suc-mul}
 use native.Mathlib.Omega.{arith}
 use lib.ListN.{length, get_or, take, drop, length-append, length-map, drop_of_length-le, get_or-append}
 use lib.Seq.{slice, drop-cons, get_or-append-add, take-append-le, take-append-add, drop-append-add}
-use Rattle.rules.specs.Lists.{word}
+use Rattle.rules.specs.Lists.{word, In}
 use Rattle.rules.specs.Game.{Edge, edge_to, vertex_columns, edge_columns, columns}
+use Rattle.lists.proofs.Members.{map_at}
 
 -- ---- the columns of a game, one by one: a column that is added is one more argument here
 
@@ -23,18 +25,14 @@ each_edge_column P target count (suc zero) h = count
 each_edge_column P target count (suc (suc c)) h = absurd (omega arith)
 
 -- the targets of edges that lead to these numbers
-pub targets_edges : {A : Type 0} (f : A → ℕ) (xs : List A)
-    → map (λ (e : Edge). e.target) (map (λ x. edge_to (f x)) xs) ≡ map f xs
-targets_edges f [] = refl
-targets_edges f (x ∷ xs) = ap (λ (l : List ℕ). f x ∷ l) (targets_edges f xs)
-
-pub edges_map : {A : Type 0} (f : A → ℕ) (xs : List A) → map (λ t. edge_to t) (map f xs) ≡ map (λ x. edge_to (f x)) xs
-edges_map f [] = refl
-edges_map f (x ∷ xs) = ap (λ (l : List Edge). edge_to (f x) ∷ l) (edges_map f xs)
-
 pub targets_plain : (ts : List ℕ) → map (λ (e : Edge). e.target) (map (λ t. edge_to t) ts) ≡ ts
 targets_plain [] = refl
 targets_plain (t ∷ ts) = ap (λ (l : List ℕ). t ∷ l) (targets_plain ts)
+
+-- functions that agree at each element give the same column
+pub map_same : {A B : Type 0} (f h : A → B) (xs : List A) → ((x : A) → In x xs → f x ≡ h x) → map f xs ≡ map h xs
+map_same f h [] e = refl
+map_same f h (x ∷ xs) e = ap₂ ◌∷◌ (e x (inl refl)) (map_same f h xs (λ y i. e y (inr i)))
 
 -- a product that rises by whole columns
 pub rise : (c s n : ℕ) → c < s → c * n + n ≤ s * n
@@ -57,11 +55,6 @@ slice_left xs ys a b h = ap (drop a) (take-append-le b xs ys h)
 -- ---- columns
 
 module _ {A : Type 0} where
-  map_at : (f : A → ℕ) (xs : List A) (v : ℕ) (d : A) → v < length xs → word (map f xs) v ≡ f (get_or xs v d)
-  map_at f [] v d h = absurd (not-suc-le-zero h)
-  map_at f (x ∷ xs) zero d h = refl
-  map_at f (x ∷ xs) (suc v) d h = map_at f xs v d (le_of_suc-le-suc h)
-
   pub length-columns : (fs : List (A → ℕ)) (xs : List A) → length (columns fs xs) ≡ length fs * length xs
   unfolding columns
   length-columns [] xs = omega arith
@@ -94,7 +87,7 @@ module _ {A : Type 0} where
       ap (λ (l : List ℕ). word l (0 * length xs + v)) (append_assoc (map f xs) (columns fs xs) rest)
       ∙ ap (word (map f xs ++ (columns fs xs ++ rest))) e
       ∙ left_at (map f xs) (columns fs xs ++ rest) v (omega (arith, length-map xs f))
-      ∙ map_at f xs v d k
+      ∙ map_at f xs v d 0 k
   column-at (f ∷ fs) xs rest (suc c) v d h k =
       let e : suc c * length xs + v ≡ length (map f xs) + (c * length xs + v)
       = omega (arith, length-map xs f, suc-mul c (length xs)) in

@@ -12,6 +12,7 @@ use Rattle.rules.specs.Lists.{word, sum}
 use Rattle.rules.specs.Game.{Edge, Vertex, vertex_columns, edge_columns, game_words, edge_count, offsets, all_edges, columns}
 use Rattle.rules.specs.Game.{game_of, vertex_count, edges_in, vertex_column_at, edge_column_at, vertex_word, edge_word, offset_in}
 use Rattle.rules.specs.Game.{edges_from, edge_words_in}
+use Rattle.lists.proofs.Members.{map-append}
 use Rattle.games.specs.Columns.{vertex_column, edge_column}
 use Rattle.games.proofs.Columns.{length-columns, left_at, right_at, slice_right, column-at, column_slice}
 
@@ -27,10 +28,6 @@ length_edges (v ∷ vs) = length-append v.edges (all_edges vs) ∙ ap (λ n. len
 
 pub length_edge_column : (f : Edge → ℕ) (vs : List Vertex) → length (map f (all_edges vs)) ≡ edge_count vs
 length_edge_column f vs = length-map (all_edges vs) f ∙ length_edges vs
-
-pub map-append : {A : Type 0} (f : A → ℕ) (xs ys : List A) → map f (xs ++ ys) ≡ map f xs ++ map f ys
-map-append f [] ys = refl
-map-append f (x ∷ xs) ys = ap (λ (l : List ℕ). f x ∷ l) (map-append f xs ys)
 
 offsets-at : (vs : List Vertex) (e v : ℕ) → v ≤ length vs → word (offsets e vs) v ≡ e + edge_count (take v vs)
 unfolding offsets edge_count sum

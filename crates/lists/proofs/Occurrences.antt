@@ -14,6 +14,13 @@ use Rattle.lists.proofs.Members.{without, without_length}
 use Rattle.lists.proofs.Inserts.{once_in, once_distinct}
 use Rattle.lists.proofs.Equalities.{number_equality}
 
+-- what stands in the list occurs
+pub in_count : (z : ℕ) (xs : List ℕ) → In z xs → 1 ≤ occurrences eqb z xs
+unfolding occurrences
+in_count z [] i = absurd i
+in_count z (x ∷ xs) (inl e) = omega (arith, ap one (eq-eqb x z (sym e)))
+in_count z (x ∷ xs) (inr i) = omega (arith, in_count z xs i)
+
 -- what occurs stands in the list
 count_in : (z : ℕ) (xs : List ℕ) → 0 < occurrences eqb z xs → In z xs
 unfolding occurrences

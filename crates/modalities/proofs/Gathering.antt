@@ -78,8 +78,8 @@ module _ (answers : List Bool) (labels targets : List ℕ) (room : Room) (many :
       record {
         marks = gathering_marks w₀ v e many c₀ o (given i) w c k.gathering;
         apart = (
-          wide.least,
-          λ h. omega (arith, (wide.apart h).1, once-few, k.gathering.made.row_length),
+          wide.counted.least,
+          λ h. omega (arith, (wide.counted.apart h).1, once-few, k.gathering.made.row_length),
         );
         counts = λ j h l. gathering_counts w₀ v e c₀ (given i) w c short k.gathering.made j (omega (arith, start)) l;
       }

@@ -15,9 +15,10 @@ use Rattle.pairs.specs.declared.ScaledItem.{ScaledItem}
 use Rattle.std.specs.Prelude.{Result}
 use Rattle.std.specs.declared.result.Result.TheVariants.{Ok, Err}
 use Rattle.pairs.specs.declared.NoRoom.{NoRoom}
-use Rattle.settling.specs.Made.{Ready, Made, Answer, MarksCleared}
+use Rattle.work_slice.specs.Regions.{Zeroed}
+use Rattle.settling.specs.Made.{Ready, Made, Answer}
 use Rattle.settling.proofs.Make.{made_more, many_more, made_cleared, marks_cleared}
-use Rattle.modalities.specs.Matched.{mark_count, marked_by, Unmarked, Spacious}
+use Rattle.modalities.specs.Matched.{mark_count, marked_by, Unmarked, Counted, Spacious}
 
 -- ---- the number of marks, as the code finds it
 
@@ -43,11 +44,6 @@ module _ (v e edges states transitions : ℕ) where
       rw (lt-leb states v h, le-ltb transitions (states - v) l, le-ltb (edges + states + (states - v)) e k) refl
 
 -- ---- and what it is good for
-
--- m marks: one for each vertex that fits, or for each state
-record Counted (v e edges states m : ℕ) : Type 0 where
-  least : v ≤ m
-  apart : v < m → (m ≡ states) × (m + (edges + states) < v + e)
 
 counted : (v e edges states transitions : ℕ) → Counted v e edges states (mark_count v e edges states transitions)
 unfolding mark_count
@@ -96,7 +92,7 @@ module _ (w : List ℕ) (room : Room) (c : Counters) (states transitions marks :
       go false z = omega (arith, ltb-false room.vertices marks z, r.whole)
 
   -- once those past the region are 0
-  module _ (w₁ : List ℕ) (u : Unmarked w room c) (k : MarksCleared w w₁ room.vertices marks) where
+  module _ (w₁ : List ℕ) (u : Unmarked w room c) (k : Zeroed w w₁ (8 * room.vertices) (7 * room.vertices + marks)) where
     cleared : Made w room.vertices room.edges c w₁ c [] []
     cleared = made_cleared w w₁ room.vertices room.edges c marks u.0 k facts.least close
 
@@ -109,9 +105,8 @@ module _ (w : List ℕ) (room : Room) (c : Counters) (states transitions marks :
     cleared_spacious item by is =
         record {
           marks = marks_cleared w w₁ room.vertices marks c.edges k u.1;
-          least = facts.least;
+          counted = facts;
           one-each = λ z. leb-true states marks (told_state (leb states marks) by is z);
-          apart = facts.apart;
         }
 
     -- what is answered from there on is answered from the beginning

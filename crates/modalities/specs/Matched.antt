@@ -1,14 +1,14 @@
 -- The targets that a modality's transitions give, as keys, and what matching their labels asks of the words. Assumes
 -- nothing: these are definitions.
-use Rattle.std.specs.Prelude.{◌≡◌, Bool, false, cond, List, [], map, ℕ, ◌+◌, ◌-◌, ◌≤◌, ◌<◌, eqb, leb, ltb, length, get_or}
+use Rattle.std.specs.Prelude.{◌≡◌, Bool, false, cond, List, [], map, ℕ, ◌+◌, ◌-◌, ◌≤◌, ◌<◌, leb, ltb, length, get_or}
 use Rattle.rules.specs.declared.Room.{Room}
-use Rattle.rules.specs.Lists.{word, from, filter, occurrences}
+use Rattle.rules.specs.Lists.{word, from, filter}
 use Rattle.rules.specs.Words.{Input, input_of}
 use Rattle.rules.specs.Labels.{multiset}
 use Rattle.rules.specs.System.{state_count, transition_label, transition_target, transitions}
 use Rattle.rules.specs.Table.{size}
 use Rattle.rules.specs.Actions.{Action, action_tree, matches}
-use Rattle.rules.specs.Pairs.{matching_transitions, successors}
+use Rattle.rules.specs.Pairs.{matching_transitions, successors, leading_to}
 use Rattle.pairs.specs.Slot.{key_of}
 use Rattle.settling.specs.declared.Counters.{Counters}
 use Rattle.settling.specs.declared.MarkedBy.{MarkedBy}
@@ -34,13 +34,17 @@ mark_count v e edges states transitions =
 abbrev pub marked_by : (states marks : ℕ) → MarkedBy
 marked_by states marks = cond (leb states marks) State Vertex
 
--- none of so many marks is past the edges; marks by state have one for each state, and where that is more than the region
--- has, they and the edges of a step, at most one for each state, have different words
+-- So many marks, beside so many edges: one for each of v vertices, or one for each state. Where that is more than the
+-- region has, they and the edges of a step, at most one for each state, have different words
+pub record Counted (v e edges states many : ℕ) : Type 0 where
+  pub least : v ≤ many
+  pub apart : v < many → (many ≡ states) × (many + (edges + states) < v + e)
+
+-- none of so many marks is past the edges, and marks by state have one for each state
 pub record Spacious (w : List ℕ) (states : ℕ) (room : Room) (many : ℕ) (o : Operand) (c : Counters) : Type 0 where
   pub marks : (i : ℕ) → i < many → word (marks_of w room.vertices many) i ≤ c.edges
-  pub least : room.vertices ≤ many
+  pub counted : Counted room.vertices room.edges c.edges states many
   pub one-each : o.marked_by ≡ State → states ≤ many
-  pub apart : room.vertices < many → (many ≡ states) × (many + (c.edges + states) < room.vertices + room.edges)
 
 -- ---- a modality at a state
 
@@ -61,8 +65,7 @@ modality_keys x m =
 abbrev pub modality_counts : Input → Modality → List ℕ
 modality_counts x m =
     let a = action_tree x.labels x.actions m.action in
-    map (λ s. occurrences eqb s (map (transition_target x.system) (matching_transitions x a m.state)))
-    (successors x a m.state)
+    map (leading_to x (matching_transitions x a m.state)) (successors x a m.state)
 
 -- ---- transitions, each as its label and its target, and those of them that match
 

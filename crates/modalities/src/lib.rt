@@ -160,7 +160,7 @@ fn follow_all(
     Ok(so_far)
 }
 
-// The same with marks for the step, and with what its targets share.
+// The marks of the step are cleared, then all its transitions are followed.
 fn settle_matched(
     counters: Counters,
     multiples: ByteMultiples<'_>,

@@ -1,5 +1,5 @@
 -- The search for a key: along a stretch of slots, and over all of them from the key's own slot. Assumes nothing.
-use Rattle.std.proofs.Common.{◌≡◌, ℕ, ◌+◌, ◌<◌, ◌≤◌, List, length, subst, arith}
+use Rattle.std.proofs.Common.{◌≡◌, ℕ, ◌<◌, ◌≤◌, List, length, subst, arith}
 use native.Mathlib.Decide.{dec_lt, ℕ_discrete}
 use Rattle.std.specs.Prelude.{MatchOption}
 use Rattle.std.specs.declared.option.Option.{Option}
@@ -15,17 +15,6 @@ use Rattle.pairs.proofs.Filled.{length-keys_in, found_at, absent, crowded}
 
 pub none_yet : {slots : List ℕ} {a k : ℕ} → Others slots a a k
 none_yet = record { taken = λ q x y. absurd (omega arith); other = λ q x y e. absurd (omega arith) }
-
--- slot p is another's too
-pub one_more : {slots : List ℕ} {a p k : ℕ} → Others slots a p k → (held_in slots p ≡ 0 → ⊥) → (key_in slots p ≡ k → ⊥) → Others slots a (p + 1) k
-one_more {slots} {a} {p} {k} o h d =
-    record {
-      taken = λ q x y. elim (ℕ_discrete q p) [ yes e ↦ rw e (omega arith) | no e ↦ o.taken q x (omega arith) ];
-      other = λ q x y. elim (ℕ_discrete q p) [ yes e ↦ rw e d | no e ↦ o.other q x (omega arith) ];
-    }
-
-pub up_to : {slots : List ℕ} {a p b k : ℕ} → Others slots a p k → b ≤ p → Others slots a b k
-up_to o h = record { taken = λ q x y. o.taken q x (omega arith); other = λ q x y. o.other q x (omega arith) }
 
 -- ---- over all slots
 

@@ -14,12 +14,6 @@ scaled a c w =
 sums : (a b w : ℕ) → (a % w + b % w) % w ≡ (a + b) % w
 sums a b w = simp (mod-add-mod, add-mod-mod)
 
--- the product of a number, by its bytes
-pub bytes_product : (x : ℕ) → (x % 256 * 2654435761 % 4294967296 + (x / 256 * 2654435761 % 4294967296) * 256 % 4294967296) % 4294967296 ≡ x * 2654435761 % 4294967296
-bytes_product x =
-    rw (scaled (x / 256 * 2654435761) 256 4294967296)
-    (sums (x % 256 * 2654435761) (x / 256 * 2654435761 * 256) 4294967296 ∙ ap (λ (y : ℕ). y % 4294967296) (omega arith))
-
 -- the product of a key, by its state and its item
 pub key_product : (s q : ℕ) → ((s * 2654435761 % 4294967296) * 2048 % 4294967296 + q * 2654435761 % 4294967296) % 4294967296 ≡ key_of s q * 2654435761 % 4294967296
 key_product s q =

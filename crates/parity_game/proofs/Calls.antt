@@ -1,24 +1,19 @@
 -- A game of n vertices and m edges that calls write, one after the other: what is left of it behind each call, and that
--- the next one has room. The columns of the edges are written by one call, or the targets by one and the others by
--- another. Assumes nothing.
+-- the next one has room. Assumes nothing.
 use Prim.Native.Nat.{ℕ, ◌+◌, ◌-◌, ◌*◌, ◌≤◌}
 use native.Mathlib.Omega.{arith}
 use mathlib.Core.Path.{◌≡◌, sym}
 use mathlib.Core.List.{List, [], ◌∷◌, ◌++◌, append-nil}
-use lib.ListN.{length, take, drop, replicate, length-append}
+use lib.ListN.{length, take, replicate, length-append}
 use Rattle.rules.specs.Game.{Vertex, vertex_columns, edge_columns, game_words, edge_count, offsets, all_edges, columns}
 use Rattle.rules.specs.Game.{game_of, padded}
 use Rattle.words.specs.Stretches.{Wrote}
 use Rattle.words.proofs.Stretches.{Writing, start, turn, called, done}
-use Rattle.games.specs.Columns.{edge_column_of}
 use Rattle.games.proofs.Columns.{length-columns}
 use Rattle.games.proofs.Reading.{length-offsets, length_edges, length_read}
-use Rattle.parity_game.proofs.Stretches.{game_stretches, targets_first, game_padded}
+use Rattle.parity_game.proofs.Stretches.{game_stretches, game_padded}
 
--- what is left behind the targets, behind the offsets, behind the columns of the vertices, behind the header
-abbrev pub behind_targets : List Vertex → List ℕ
-behind_targets vs = columns (drop 1 edge_columns) (all_edges vs)
-
+-- what is left behind the offsets, behind the columns of the vertices, behind the header
 abbrev pub behind_offsets : List Vertex → List ℕ
 behind_offsets vs = columns edge_columns (all_edges vs)
 
@@ -34,18 +29,6 @@ module _ (vs : List Vertex) (n m : ℕ) (many : n ≡ length vs) (most : m ≡ e
   header_done k c = called k c (turn (game_stretches vs n m many most) start)
 
   module _ (room : game_words n m ≤ length out₀) where
-    pub columns_fit : Writing at (behind_header vs) out 0 (game_of 0 vs) out₀
-        → at + length vertex_columns * n ≤ length out
-    columns_fit w =
-        omega (
-          arith,
-          w.long,
-          w.last,
-          length_read 0 vs,
-          length-append (columns vertex_columns vs) (behind_columns vs),
-          length-columns vertex_columns vs,
-        )
-
     pub offsets_fit : Writing at (behind_columns vs) out 0 (game_of 0 vs) out₀ → at + (n + 1) ≤ length out
     offsets_fit w =
         omega (
@@ -67,30 +50,6 @@ module _ (vs : List Vertex) (n m : ℕ) (many : n ≡ length vs) (most : m ≡ e
           length-columns edge_columns (all_edges vs),
           length_edges vs,
         )
-
-    pub targets_fit : Writing at (behind_offsets vs) out 0 (game_of 0 vs) out₀ → at + m ≤ length out
-    targets_fit w = omega (arith, edges_fit w)
-
-    pub others_fit : Writing at (behind_targets vs) out 0 (game_of 0 vs) out₀
-        → at + (length edge_columns - 1) * m ≤ length out
-    others_fit w =
-        omega (
-          arith,
-          w.long,
-          w.last,
-          length_read 0 vs,
-          length-columns (drop 1 edge_columns) (all_edges vs),
-          length_edges vs,
-        )
-
-    pub game_fits : Writing at [] out 0 (game_of 0 vs) out₀ → at ≤ length out
-    game_fits w = omega (arith, w.long, w.last, length_read 0 vs)
-
--- the targets are written
-pub targets_done : (vs : List Vertex) {at r at₀ : ℕ} {stretch out out' out₀ : List ℕ} → length out' ≡ length out
-    → Wrote at (edge_column_of 0 vs) out out' r → Writing at (behind_offsets vs) out at₀ stretch out₀
-    → Writing r (behind_targets vs) out' at₀ stretch out₀
-targets_done vs l c w = called l c (turn (targets_first vs) w)
 
 -- a call writes all that is left
 pub last_done : {at r at₀ : ℕ} {left stretch out out' out₀ : List ℕ} → length out' ≡ length out

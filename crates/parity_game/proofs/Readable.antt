@@ -1,4 +1,5 @@
--- The words of a vertex's edges in a column of a readable game: where they stand, as code cuts them out. Assumes nothing.
+-- The words of a vertex's edges in a column of a readable game: where they stand, as code cuts them out. Assumes
+-- nothing.
 use Prim.Native.Nat.{ℕ, suc, ◌+◌, ◌-◌, ◌*◌, ◌^◌, ◌≤◌, ◌<◌}
 use native.Mathlib.Omega.{arith}
 use native.Mathlib.Numerals.{add-one}

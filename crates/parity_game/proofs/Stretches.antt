@@ -5,14 +5,14 @@ use native.Mathlib.Numerals.{add-one}
 use native.Mathlib.Omega.{arith}
 use mathlib.Core.Path.{◌≡◌, refl, sym, ap, ◌∙◌}
 use mathlib.Core.List.{List, [], ◌∷◌, ◌++◌, map, append-nil, append_assoc}
-use lib.ListN.{length, get_or, take, drop, set, replicate, length-append, length-map, length-drop, length-replicate, replicate-append-replicate}
+use lib.ListN.{length, get_or, take, drop, set, replicate, length-append, length-map, length-replicate, replicate-append-replicate}
 use Rattle.rules.specs.Game.{Edge, Vertex, edge_to, vertex_columns, edge_columns, edge_count, offsets, all_edges, columns}
 use Rattle.rules.specs.Game.{game_of, padded}
+use Rattle.lists.proofs.Members.{map-append}
 use Rattle.words.specs.Stretches.{Wrote}
 use Rattle.words.proofs.Stretches.{Writing, turn, called, done}
 use Rattle.games.specs.Columns.{edge_column_of}
 use Rattle.games.proofs.Columns.{length-columns, columns_more, columns_none}
-use Rattle.games.proofs.Reading.{map-append}
 
 -- the header
 pub three : (a b c : ℕ) (out : List ℕ) → 3 ≤ length out → Wrote 0 (a ∷ b ∷ c ∷ []) out (set (set (set out 0 a) 1 b) 2 c) 3
@@ -54,22 +54,6 @@ module _ {A : Type 0} (fs : List (A → ℕ)) (xs : List A) where
         w.long,
         w.last,
         length-columns fs xs,
-        ap length (columns_more fs xs c h),
-        length-append (map (get_or fs c (λ x. 0)) xs) (columns (drop (suc c) fs) xs),
-        length-map xs (get_or fs c (λ x. 0)),
-      )
-
-  -- so there is where the columns from b on are written
-  pub columns_room_from : (b c : ℕ) {p at₀ : ℕ} {out out₀ : List ℕ} → c < length fs
-      → at₀ + (length fs - b) * length xs ≤ length out₀
-      → Writing p (columns (drop c fs) xs) out at₀ (columns (drop b fs) xs) out₀ → p + length xs ≤ length out
-  columns_room_from b c h k w =
-      omega (
-        arith,
-        w.long,
-        w.last,
-        length-columns (drop b fs) xs,
-        ap (λ (n : ℕ). n * length xs) (length-drop b fs),
         ap length (columns_more fs xs c h),
         length-append (map (get_or fs c (λ x. 0)) xs) (columns (drop (suc c) fs) xs),
         length-map xs (get_or fs c (λ x. 0)),

@@ -1,6 +1,6 @@
 -- What makes the words of a game readable: they are no more than a game may have, they end inside the slice, and the
--- edges of each vertex are a stretch of them. A game that is accepted is so, and one that a run leaves. Assumes nothing:
--- this is a definition.
+-- edges of each vertex are a stretch of them. A game that is accepted is so, and one that a run leaves. Assumes
+-- nothing: this is a definition.
 use Rattle.std.specs.Prelude.{ℕ, suc, ◌≤◌, ◌<◌, ◌≡◌, List, length}
 use Rattle.rules.specs.Words.{most_vertices, most_edges}
 use Rattle.rules.specs.Game.{vertex_count, edges_in, game_end, offset_in}

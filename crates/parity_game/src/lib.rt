@@ -85,8 +85,9 @@ pub fn game_words(vertices: usize, edges: usize) -> usize
 }
 
 // The word of a vertex in a column.
-// Kept (rule): this and `edges_from` are no methods of `Game` alone: they ask only that the game is long enough.
-pub fn vertex_word(game: &[u32], column: usize, vertex: usize) -> usize
+// Kept (no plainer): this and `edges_from` stand beside the methods of `Game`: they ask only that the game is long
+// enough, so where its words stand is proved from that alone, and the methods prove no more than that it is so long.
+fn vertex_word(game: &[u32], column: usize, vertex: usize) -> usize
     requires game_in_bounds { game_end game.now ≤ length game.now }
     requires column_in_bounds { (column < length vertex_columns) × (vertex < vertex_count game.now) }
     ensures { result ≡ vertex_word game.now column vertex }
@@ -97,7 +98,7 @@ pub fn vertex_word(game: &[u32], column: usize, vertex: usize) -> usize
 
 // The place where the words of the edges of a vertex begin in a column; for the vertex count, the place where the last
 // ones end.
-pub fn edges_from(game: &[u32], column: usize, vertex: usize) -> usize
+fn edges_from(game: &[u32], column: usize, vertex: usize) -> usize
     requires game_in_bounds { game_end game.now ≤ length game.now }
     requires column_in_bounds { (column < length edge_columns) × (vertex ≤ vertex_count game.now) }
     ensures { result ≡ edges_from game.now column vertex }

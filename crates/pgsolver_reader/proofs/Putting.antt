@@ -2,10 +2,9 @@
 use Prim.Native.Nat.{ℕ, zero, suc, ◌+◌, ◌≤◌, ◌<◌}
 use native.Mathlib.Omega.{arith}
 use mathlib.Core.Path.{◌≡◌, refl, sym, ap, ◌∙◌, subst}
-use mathlib.Core.Bool.{Bool, true, false, not, true≢false}
 use mathlib.Core.List.{List, [], ◌∷◌, ◌++◌, append-nil}
 use mathlib.Core.Logic.{inl, inr}
-use lib.ListN.{length, take, length-append}
+use lib.ListN.{length, length-append}
 use lib.Dec.{eqb}
 use Rattle.rules.specs.Lists.{word, In, insert, insert_all, once}
 use Rattle.lists.proofs.Members.{in_has, not_in}
@@ -14,32 +13,14 @@ use Rattle.lists.proofs.Equalities.{number_equality}
 use Rattle.bitmap.specs.Marks.{marked, Met, Holds, Only}
 use Rattle.bitmap.proofs.Sets.{meets}
 use Rattle.words.specs.Stretches.{Wrote}
-use Rattle.text_writer.proofs.Lines.{wrote_as, wrote_both}
+use Rattle.text_writer.specs.Appending.{unless}
+use Rattle.text_writer.proofs.Lines.{wrote_none, wrote_as, wrote_both}
 use Rattle.std.specs.Prelude.{None}
 use Rattle.pgsolver_scan.specs.declared.Number.{Number}
 use Rattle.pgsolver_scan.specs.declared.Successors.{Successors}
 use Rattle.pgsolver_scan.specs.Successors.{list_at, left_from, Begun, Gave}
 use Rattle.pgsolver_scan.proofs.Going.{Gone, gone_none, gone_more, gone_all}
 use Rattle.pgsolver_check.proofs.Counting.{once_snoc}
-use Rattle.pgsolver_reader.specs.Parts.{unless}
-
-pub wrote_none : {at : ℕ} {stretch out : List ℕ} → stretch ≡ [] → Wrote at stretch out out at
-wrote_none {at} {stretch} {out} e =
-    record {
-      past = omega (arith, ap length e);
-      words = sym (append-nil (take at out)) ∙ ap (λ (l : List ℕ). take at out ++ l) (sym e);
-      rest = refl;
-    }
-
-pub unless_new : (b new : Bool) (s : List ℕ) → new ≡ not b → new ≡ true → unless b s ≡ s
-unfolding unless
-unless_new true new s e f = absurd (true≢false (sym f ∙ e))
-unless_new false new s e f = refl
-
-pub unless_old : (b new : Bool) (s : List ℕ) → new ≡ not b → new ≡ false → unless b s ≡ []
-unfolding unless
-unless_old true new s e f = refl
-unless_old false new s e f = absurd (true≢false (sym e ∙ f))
 
 insert-text : (xs : List ℕ) (v : ℕ) (bits : List ℕ) → Holds bits xs → insert eqb xs v
     ≡ xs ++ unless (marked bits v) (v ∷ [])

@@ -1,7 +1,7 @@
 -- The game as it is written: vertex by vertex, each from its line in the text. Where the lines are not in the order of
 -- their numbers, the place of each vertex's line is posted before, where its owner and priority will stand. Assumes
 -- nothing: these are definitions.
-use Rattle.std.specs.Prelude.{ℕ, ◌+◌, ◌*◌, ◌%◌, ◌≤◌, ◌<◌, max, ◌≡◌, Bool, true, false, List, [], ◌∷◌, map, length}
+use Rattle.std.specs.Prelude.{ℕ, ◌+◌, ◌*◌, ◌%◌, ◌≤◌, ◌<◌, max, ◌≡◌, true, List, [], ◌∷◌, map, length}
 use Rattle.std.proofs.Math.Seq.{slice}
 use Rattle.rules.specs.Answers.{Check}
 use Rattle.rules.specs.declared.Room.{Room}
@@ -18,11 +18,6 @@ use Rattle.pgsolver_scan.specs.Told.{since}
 use Rattle.pgsolver_check.specs.declared.Numbering.{Numbering}
 use Rattle.pgsolver_check.specs.Numbers.{in_turn}
 use Rattle.pgsolver_check.specs.Lines.{lines_in, lines_from, tops_of, ranks_of, Readable, Body}
-
--- nothing where the test holds
-unfoldable pub unless : Bool → List ℕ → List ℕ
-unless true s = []
-unless false s = s
 
 -- ---- what the text says
 

@@ -15,11 +15,12 @@ ghost use Rattle.rules.specs.Game.{edge_count, game_of, padded};
 ghost use Rattle.rules.specs.PgsolverReading.{Readback, numbers_of, read_game};
 ghost use Rattle.rules.specs.PgsolverCalls.{ReadingDemand};
 ghost use Rattle.words.specs.Stretches.{Wrote};
+ghost use Rattle.text_writer.specs.Appending.{unless};
 ghost use Rattle.bitmap.specs.Marks.{bitmap_numbers, marked, Met, Holds};
 ghost use Rattle.pgsolver_scan.specs.Told.{past_line};
 ghost use Rattle.pgsolver_check.specs.Lines.{lines_in};
 ghost use Rattle.pgsolver_scan.specs.Successors.{list_at, Listed};
-ghost use Rattle.pgsolver_reader.specs.Parts.{unless, verts_to, Whole, Begins, Turn, Part, Ready, room_refusal};
+ghost use Rattle.pgsolver_reader.specs.Parts.{verts_to, Whole, Begins, Turn, Part, Ready, room_refusal};
 ghost use Rattle.faults.specs.Answers.{answer_of};
 ghost use Rattle.pgsolver_reader.specs.Facts.{whole_prop};
 ghost use Rattle.pgsolver_reader.specs.Parts.{DigitBound, column_at, offsets_from, edges_begin, post_at};
@@ -174,7 +175,7 @@ fn digits_of(digits: Digits, vertex: usize) -> Digits
 }
 
 // The words that belong to no vertex and no edge: the first ones, and the last offset.
-fn write_counts(game: &mut [u32], vertices: usize, edges: usize)
+fn write_sizes(game: &mut [u32], vertices: usize, edges: usize)
     requires { (vertices ≤ most_vertices) × (edges < 4294967296) × (edges_begin vertices ≤ length game.old) }
     ensures { game.new
         ≡ set (set (set (set game.old 0 vertices) 1 edges) 2 0) (offsets_from vertices + vertices) edges }
@@ -350,7 +351,7 @@ impl<'a> Source<'a> {
         bits.clear();
         let end = self.write_vertices(game, bits);
         let edges = end - parity_game::game_words(self.vertices, 0);
-        write_counts(game, self.vertices, edges);
+        write_sizes(game, self.vertices, edges);
         game[end..].fill(0);
         edges
     }

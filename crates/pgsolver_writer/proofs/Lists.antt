@@ -1,6 +1,6 @@
 -- The text of a list of successors, with one number more. Assumes nothing.
 use mathlib.Core.Path.{◌≡◌, refl, sym, ap, ◌∙◌}
-use mathlib.Core.Bool.{Bool, true, false, cond, not, true≢false}
+use mathlib.Core.Bool.{Bool, true, false, cond}
 use mathlib.Core.List.{List, [], ◌∷◌, ◌++◌, append_assoc, append-nil}
 use Prim.Native.Nat.{ℕ, ◌+◌, ◌≤◌}
 use native.Mathlib.Omega.{arith}
@@ -13,7 +13,8 @@ use Rattle.lists.proofs.Members.{in_has, not_in}
 use Rattle.lists.proofs.Inserts.{insert_cases}
 use Rattle.lists.proofs.Equalities.{number_equality}
 use Rattle.bitmap.specs.Marks.{marked, Holds}
-use Rattle.pgsolver_writer.specs.Successors.{spaced_list, separator, unless}
+use Rattle.text_writer.specs.Appending.{unless}
+use Rattle.pgsolver_writer.specs.Successors.{spaced_list, separator}
 
 -- ---- a list at the end
 
@@ -87,18 +88,6 @@ length_met bits xs t h =
       length-append (spaced_list xs) (unless (marked bits t) (separator xs ∷ decimal t)),
       unless-length (marked bits t) (separator xs) 32 (decimal t),
     )
-
--- ---- a number that was met before, or not
-
-pub unless_new : (b new : Bool) (s : List ℕ) → new ≡ not b → new ≡ true → unless b s ≡ s
-unfolding unless
-unless_new true new s e f = absurd (true≢false (sym f ∙ e))
-unless_new false new s e f = refl
-
-pub unless_old : (b new : Bool) (s : List ℕ) → new ≡ not b → new ≡ false → unless b s ≡ []
-unfolding unless
-unless_old true new s e f = refl
-unless_old false new s e f = absurd (true≢false (sym e ∙ f))
 
 -- ---- the list of a line
 

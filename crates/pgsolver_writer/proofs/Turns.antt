@@ -13,11 +13,11 @@ use Rattle.rules.specs.Texts.{decimal}
 use Rattle.lists.proofs.Inserts.{inserts_snoc, insert_begins}
 use Rattle.lists.proofs.Equalities.{number_equality}
 use Rattle.text_writer.specs.declared.Text.{Text}
-use Rattle.text_writer.specs.Appending.{Room, Appended}
+use Rattle.text_writer.specs.Appending.{unless, Room, Appended}
 use Rattle.text_writer.proofs.Appending.{appended_none, appended_as, appended_both}
 use Rattle.bitmap.specs.Marks.{marked, Met, Holds, Only}
 use Rattle.bitmap.proofs.Sets.{meets, only_holds}
-use Rattle.pgsolver_writer.specs.Successors.{spaced_list, separator, unless}
+use Rattle.pgsolver_writer.specs.Successors.{spaced_list, separator}
 use Rattle.pgsolver_writer.proofs.Lists.{spaced_longer, spaced_met, separator_met, length_met}
 
 -- ---- the first i successors, each once

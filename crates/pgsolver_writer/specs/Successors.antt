@@ -1,5 +1,5 @@
 -- What the functions that write a game's lines promise one another. Assumes nothing: these are definitions.
-use Rattle.std.specs.Prelude.{ℕ, ◌<◌, ◌≤◌, Bool, true, false, List, [], ◌∷◌, ◌++◌, length}
+use Rattle.std.specs.Prelude.{ℕ, ◌<◌, ◌≤◌, List, [], ◌∷◌, ◌++◌, length}
 use Rattle.rules.specs.Words.{most_vertices}
 use Rattle.rules.specs.Lists.{word}
 use Rattle.rules.specs.Game.{vertex_count, targets_in}
@@ -22,11 +22,6 @@ spaced_list (n ∷ ns) = 32 ∷ (decimal n ++ comma_text ns)
 unfoldable pub separator : List ℕ → ℕ
 separator [] = 32
 separator (n ∷ ns) = 44
-
--- nothing where the test holds
-unfoldable pub unless : Bool → List ℕ → List ℕ
-unless true s = []
-unless false s = s
 
 -- vertices of a game
 pub record Vertices (targets : List ℕ) : Type 0 where

@@ -10,10 +10,10 @@ ghost use Rattle.rules.specs.Texts.{decimal, Written};
 ghost use Rattle.rules.specs.Pgsolver.{header_text, line_text};
 ghost use Rattle.rules.specs.PgsolverWriting.{line_in, game_text, refusal98, writing_refusal, written_game};
 ghost use Rattle.rules.specs.PgsolverCalls.{WritingDemand};
-ghost use Rattle.text_writer.specs.Appending.{Room, Appended};
+ghost use Rattle.text_writer.specs.Appending.{unless, Room, Appended};
 ghost use Rattle.restrictions.specs.GoodGame.{GoodGame};
 ghost use Rattle.bitmap.specs.Marks.{bitmap_numbers, marked, Met, Holds, Only};
-ghost use Rattle.pgsolver_writer.specs.Successors.{Writable, spaced_list, unless, Vertices};
+ghost use Rattle.pgsolver_writer.specs.Successors.{Writable, spaced_list, Vertices};
 ghost use Rattle.pgsolver_writer.specs.Told.{Told};
 
 use bitmap::{Bitmap, WORDS};

@@ -1,16 +1,15 @@
--- A game that is not refused can be read; where its edges lead, and how many a vertex has. Assumes nothing.
+-- A game that is not refused can be read, and where its edges lead. Assumes nothing.
 use Prim.Native.Nat.{ℕ, ◌<◌}
 use native.Mathlib.Omega.{arith}
-use mathlib.Core.Path.{◌≡◌, sym, ap, ◌∙◌}
+use mathlib.Core.Path.{◌≡◌, ap}
 use mathlib.Core.List.{List}
-use lib.ListN.{length, length-map}
+use lib.ListN.{length}
 use Rattle.rules.specs.Lists.{word}
-use Rattle.rules.specs.Game.{edge_columns, vertex_count, edge_words_in, edges_at}
+use Rattle.rules.specs.Game.{vertex_count, edge_words_in}
 use Rattle.lists.proofs.Members.{in_at}
-use Rattle.games.specs.Columns.{edge_column}
 use Rattle.parity_game.specs.Readable.{Readable}
 use Rattle.restrictions.specs.GoodGame.{GoodGame}
-use Rattle.restrictions.proofs.Accepted.{edges_column, target_below}
+use Rattle.restrictions.proofs.Accepted.{target_below}
 
 module _ (g : List ℕ) (good : GoodGame g) where
   -- it can be read
@@ -30,7 +29,3 @@ module _ (g : List ℕ) (good : GoodGame g) where
   leads_at v ts h e p l =
       let m : p < length (edge_words_in g 0 v) = omega (arith, ap length e) in
       rw e (target_below g good v h (word (edge_words_in g 0 v) p) (in_at (edge_words_in g 0 v) p 0 m))
-
-  pub degree : (c v : ℕ) → c < length edge_columns → v < vertex_count g
-      → length (edges_at g v) ≡ length (edge_words_in g c v)
-  degree c v b h = sym (length-map (edges_at g v) (edge_column c)) ∙ ap length (edges_column g good c v b h)

@@ -1,25 +1,23 @@
 -- The vertices reached, as they are written. Assumes nothing.
 use mathlib.Core.Path.{◌≡◌, refl, sym, ap, ◌∙◌}
 use mathlib.Core.List.{List, [], ◌∷◌, map, map-map}
-use mathlib.Core.Logic.{inl, inr}
 use Prim.Native.Nat.{ℕ, ◌+◌, ◌-◌, ◌*◌, ◌≤◌, ◌<◌}
 use native.Mathlib.Omega.{arith}
 use lib.ListN.{length, take, drop, length-map}
 use lib.Seq.{get_or-take}
 use Rattle.std.proofs.lemmas.List.{get_or-map}
-use Rattle.rules.specs.Lists.{word, In}
+use Rattle.rules.specs.Lists.{word}
 use Rattle.rules.specs.Game.{Edge, Vertex, waiting_vertex, vertex_columns, edge_columns, edge_count, game_words, edges_in}
 use Rattle.rules.specs.Game.{vertex_count, vertex_word, edge_words_in, edges_at as edges_in_game}
 use Rattle.rules.specs.Restrict.{new_number, kept_edge, kept_vertex, kept_vertices}
 use Rattle.words.proofs.Stretches.{words_behind, behind_inside}
-use Rattle.games.proofs.Columns.{each_vertex_column, each_edge_column, rise}
+use Rattle.games.proofs.Columns.{each_vertex_column, each_edge_column, map_same, rise}
 use Rattle.games.specs.Columns.{vertex_column, edge_column}
 use Rattle.game_columns.specs.Shown.{edges_of}
 use Rattle.restrictions.specs.GoodGame.{GoodGame}
-use Rattle.restrictions.proofs.Accepted.{edges_column, target_below}
-use Rattle.restrictions.proofs.Kept.{kept_length, edges_fit}
+use Rattle.restrictions.proofs.Accepted.{edges_column, edges_many, target_below}
+use Rattle.restrictions.proofs.Kept.{kept_length, kept_targets, edges_fit}
 use Rattle.reachability.specs.Knowing.{Knows, Chosen, Numbered}
-use Rattle.reachability.proofs.Edges.{degree}
 use Rattle.reachability.proofs.Meeting.{knows_at, length_known}
 
 -- ---- the vertices reached, by their new numbers
@@ -46,13 +44,10 @@ module _ (g reached : List ℕ) where
         → length words ≡ length (edges_of (kept_vertices g reached) i)
     unfolding kept_vertex
     degree_at c i v words l h e f =
-        ap length f ∙ sym (degree g k.good c v l (reached_inside i v h e))
+        ap length f ∙ sym (edges_many g k.good c v l (reached_inside i v h e))
         ∙ sym (length-map (edges_in_game g v) (kept_edge reached)) ∙ ap length (edges_at i v h e)
 
-    -- their number fits a word, and so does that of their edges
-    pub few_reached : length reached < 4294967296
-    few_reached = omega (arith, k.few, k.good.few)
-
+    -- the number of their edges fits a word
     pub few_edges : edge_count (kept_vertices g reached) < 4294967296
     few_edges = omega (arith, k.fit, k.good.light)
 
@@ -68,29 +63,16 @@ module _ (g reached : List ℕ) where
 
 -- ---- the words of one vertex
 
--- functions that agree at each element
-alike : (f h : ℕ → ℕ) (xs : List ℕ) → ((x : ℕ) → In x xs → f x ≡ h x) → map f xs ≡ map h xs
-alike f h [] same = refl
-alike f h (x ∷ xs) same =
-    ap (λ (y : ℕ). y ∷ map f xs) (same x (inl refl))
-    ∙ ap (λ (l : List ℕ). h x ∷ l) (alike f h xs (λ y m. same y (inr m)))
-
 module _ (g mapping reached : List ℕ) (good : GoodGame g) (n : Numbered g mapping reached) (v : ℕ) (h : v < vertex_count g) where
-  kept_targets : map (edge_column 0) (kept_vertex g reached v).edges ≡ map (new_number reached) (edge_words_in g 0 v)
-  unfolding kept_vertex kept_edge
-  kept_targets =
-      map-map (λ (e : Edge). e.target) (kept_edge reached) (edges_in_game g v)
-      ∙ sym (map-map (new_number reached) (λ (e : Edge). e.target) (edges_in_game g v))
-      ∙ ap (map (new_number reached)) (edges_column g good 0 v (omega arith) h)
-
   -- the targets by the numbers that the map holds
   pub numbers_written : (c : ℕ) (words : List ℕ) → c ≡ 0 → words ≡ edge_words_in g c v
       → map (λ t. word mapping t) words ≡ map (edge_column c) (kept_vertex g reached v).edges
+  unfolding kept_vertex
   numbers_written c words z e =
       ap (map (λ t. word mapping t)) (e ∙ ap (λ (d : ℕ). edge_words_in g d v) z)
-      ∙ alike (λ t. word mapping t) (new_number reached) (edge_words_in g 0 v)
+      ∙ map_same (λ t. word mapping t) (new_number reached) (edge_words_in g 0 v)
       (λ t m. n.right t (omega (arith, target_below g good v h t m, n.long)))
-      ∙ sym kept_targets ∙ ap (λ (d : ℕ). map (edge_column d) (kept_vertex g reached v).edges) (sym z)
+      ∙ sym (kept_targets g good reached v h) ∙ ap (λ (d : ℕ). map (edge_column d) (kept_vertex g reached v).edges) (sym z)
 
 -- the other columns as they are: only the target of an edge is another
 kept_others : (met : List ℕ) (es : List Edge) (c : ℕ) → c < length edge_columns → 0 < c
@@ -129,10 +111,7 @@ module _ (g mapping work : List ℕ) (count : ℕ) (good : GoodGame g) (k : Know
 -- ---- the columns of the vertices
 
 module _ (g reached : List ℕ) (k : Chosen g reached) where
-  -- a column is carried over: it begins within the game, and the word of each vertex is there
-  pub column_begins : (c base n : ℕ) → n ≡ vertex_count g → base ≡ 3 + c * n → c < length vertex_columns → base ≤ length g
-  column_begins c base n e f h = omega (arith, rise c (length vertex_columns) n h, k.good.sized)
-
+  -- a column is carried over: the word of each vertex is there
   pub column-inside : (c base n : ℕ) → n ≡ vertex_count g → base ≡ 3 + c * n → c < length vertex_columns → (i : ℕ)
       → i < length reached → word reached i < length (take (length g - base) (drop base g))
   column-inside c base n e f h i l =

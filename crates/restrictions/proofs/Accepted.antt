@@ -11,7 +11,7 @@ use borrow.Author.Tests.{ltb-false, leb-false, eqb-false}
 use Rattle.std.specs.declared.result.Result.TheVariants.{Ok}
 use Rattle.rules.specs.Lists.{word, In}
 use Rattle.rules.specs.Words.{most_vertices, most_edges}
-use Rattle.rules.specs.Game.{Edge, edge_columns, vertex_count, edges_in, initial_in, vertex_column_at, offsets_at}
+use Rattle.rules.specs.Game.{edge_columns, vertex_count, edges_in, initial_in, vertex_column_at, offsets_at}
 use Rattle.rules.specs.Game.{edge_column_at, game_end, offset_in, edges_from, edge_words_in, targets_in, edges_at}
 use Rattle.rules.specs.Refusal.{differ, too_large}
 use Rattle.rules.specs.GameRefusal.{above_room, refusal51, falls, refusal52, refusal53, game_refusal}
@@ -136,9 +136,9 @@ module _ (g : List ℕ) (good : GoodGame g) where
   edges_column c v b h =
       edges_words g c v b (good.rises v h) (most_offset (suc v) h) (omega (arith, good.sized))
 
-  pub edges_many : (v : ℕ) → v < vertex_count g → length (edges_at g v) ≡ length (targets_in g v)
-  edges_many v h =
-      sym (length-map (edges_at g v) (λ (e : Edge). e.target)) ∙ ap length (edges_column 0 v (omega arith) h)
+  pub edges_many : (c v : ℕ) → c < length edge_columns → v < vertex_count g
+      → length (edges_at g v) ≡ length (edge_words_in g c v)
+  edges_many c v b h = sym (length-map (edges_at g v) (edge_column c)) ∙ ap length (edges_column c v b h)
 
   -- what holds of the words from a to b holds of the slice's members
   in_slice : (P : ℕ → Type 0) (d a b : ℕ) → b ≤ length g → a + d ≡ b → ((p : ℕ) → a ≤ p → p < b → P (word g p)) → (t : ℕ) → In t (slice a b g) → P t

@@ -1,21 +1,21 @@
 -- The new numbers, the map, and the vertices that are written: how many, which, and that they have no more edges than
 -- the game. Assumes nothing.
 use mathlib.Core.Path.{◌≡◌, refl, sym, ap, ap₂, ◌∙◌, subst}
-use mathlib.Core.List.{List, [], ◌∷◌, map}
+use mathlib.Core.List.{List, [], ◌∷◌, map, map-map}
 use mathlib.Core.Logic.{inl, inr}
 use Prim.Native.Nat.{ℕ, zero, suc, ◌+◌, ◌≤◌, ◌<◌}
 use native.Mathlib.Omega.{arith}
 use lib.ListN.{length, get_or, length-map}
 use lib.Dec.{eqb}
 use Rattle.rules.specs.Lists.{word, In, Distinct, from, sum, position}
-use Rattle.rules.specs.Game.{Vertex, edge_count, game_of, vertex_count, edges_in, offset_in, targets_in, edges_at}
+use Rattle.rules.specs.Game.{Edge, Vertex, edge_count, game_of, vertex_count, edges_in, offset_in, targets_in, edges_at}
 use Rattle.rules.specs.Restrict.{new_number, kept_edge, kept_vertex, kept_vertices, vertex_map}
-use Rattle.lists.proofs.Members.{in_at, in_has, not_in, map_at, position_below, position-of}
+use Rattle.lists.proofs.Members.{in_has, not_in, map_at, position_below}
 use Rattle.lists.proofs.Equalities.{number_equality}
 use Rattle.lists.proofs.Ranges.{from-length, from_in, in_from, from_at}
 use Rattle.games.proofs.Reading.{length_read}
 use Rattle.restrictions.specs.GoodGame.{GoodGame}
-use Rattle.restrictions.proofs.Accepted.{degree, edges_many}
+use Rattle.restrictions.proofs.Accepted.{degree, edges_column, edges_many}
 use Rattle.restrictions.proofs.Weights.{sum_within}
 
 pub from_distinct : (i n : ℕ) → Distinct (from i n)
@@ -36,9 +36,6 @@ module _ (met : List ℕ) where
 
   pub number_below : (v : ℕ) → In v met → new_number met v < length met
   number_below v m = subst (λ (n : ℕ). n < length met) (sym (number_in v m)) (position_below number_equality v met m)
-
-  pub number_at : Distinct met → (u : ℕ) → u < length met → new_number met (get_or met u 0) ≡ u
-  number_at d u h = number_in (get_or met u 0) (in_at met u 0 h) ∙ position-of number_equality met u 0 d h
 
 -- ---- the map
 
@@ -66,12 +63,21 @@ kept_at g met u d h = map_at (kept_vertex g met) met u 0 d h
 -- ---- their edges
 
 module _ (g : List ℕ) (good : GoodGame g) where
+  -- the targets of the kept edges of vertex v
+  pub kept_targets : (met : List ℕ) (v : ℕ) → v < vertex_count g
+      → map (λ (e : Edge). e.target) (map (kept_edge met) (edges_at g v)) ≡ map (new_number met) (targets_in g v)
+  unfolding kept_edge
+  kept_targets met v h =
+      map-map (λ (e : Edge). e.target) (kept_edge met) (edges_at g v)
+      ∙ sym (map-map (new_number met) (λ (e : Edge). e.target) (edges_at g v))
+      ∙ ap (map (new_number met)) (edges_column g good 0 v (omega arith) h)
+
   degrees : (met xs : List ℕ) → ((v : ℕ) → In v xs → v < vertex_count g)
       → sum (map (λ v. length v.edges) (map (kept_vertex g met) xs)) ≡ sum (map (λ v. length (targets_in g v)) xs)
   unfolding kept_vertex sum
   degrees met [] b = refl
   degrees met (x ∷ xs) b =
-      ap₂ (λ (m n : ℕ). m + n) (length-map (edges_at g x) (kept_edge met) ∙ edges_many g good x (b x (inl refl)))
+      ap₂ (λ (m n : ℕ). m + n) (length-map (edges_at g x) (kept_edge met) ∙ edges_many g good 0 x (omega arith) (b x (inl refl)))
       (degrees met xs (λ v m. b v (inr m)))
 
   -- the edges of the n vertices from v on

@@ -1,8 +1,8 @@
 -- What a restriction leaves satisfies `Restricts`, for all words and lent slices that are not refused; a refusal alters
 -- nothing. Assumes nothing.
 use mathlib.Core.Path.{◌≡◌, refl, sym, ap, ap₂, ◌∙◌, subst}
-use mathlib.Core.List.{List, [], ◌∷◌, map, map-map}
-use mathlib.Core.Logic.{inl, inr, ◌↔◌}
+use mathlib.Core.List.{List, map, map-map}
+use mathlib.Core.Logic.{◌↔◌}
 use Prim.Native.Nat.{ℕ, ◌-◌, ◌≤◌, ◌<◌}
 use native.Mathlib.Omega.{arith}
 use lib.ListN.{length, get_or, replicate, length-append, length-replicate}
@@ -20,13 +20,15 @@ use Rattle.rules.specs.Restrict.{restriction_refusal, Restricted, restricted_to,
 use Rattle.rules.specs.Restricts.{Restricts}
 use Rattle.lists.proofs.Members.{in_at, position_at}
 use Rattle.lists.proofs.Equalities.{number_equality}
+use Rattle.games.proofs.Columns.{map_same}
 use Rattle.games.proofs.Reading.{count_read, vertex_read, edge_words_read}
 use Rattle.games.proofs.Rewriting.{Whole}
 use Rattle.theorems.proofs.Read.{whole_game}
 use Rattle.restrictions.specs.GoodGame.{GoodGame}
 use Rattle.restrictions.proofs.Accepted.{good_game, accepted_slices, edges_column, target_below}
 use Rattle.restrictions.proofs.Searching.{met_first, met_exactly, met_distinct, reached_searched, reached_below, reached_few}
-use Rattle.restrictions.proofs.Kept.{number_in, number-out, number_below, map-length, map-word, kept_length, kept_at, words_fit}
+use Rattle.restrictions.proofs.Kept.{number_in, number-out, number_below, map-length, map-word, kept_length, kept_at}
+use Rattle.restrictions.proofs.Kept.{kept_targets, words_fit}
 
 -- ---- by what the check says
 
@@ -59,10 +61,6 @@ module _ (g out numbers work : List ℕ) where
       go (Err f) e = absurd (subst (λ (r : Restricted). Accepted r.answer) (restriction_refused f.number f.place e) a)
 
 -- ---- what is written
-
-same_map : (f h : ℕ → ℕ) (ts : List ℕ) → ((t : ℕ) → In t ts → f t ≡ h t) → map f ts ≡ map h ts
-same_map f h [] e = refl
-same_map f h (t ∷ ts) e = ap₂ ◌∷◌ (e t (inl refl)) (same_map f h ts (λ u m. e u (inr m)))
 
 pub padded-length : (n : ℕ) (ws : List ℕ) → length ws ≤ n → length (padded n ws) ≡ n
 unfolding padded
@@ -104,15 +102,7 @@ module _ (g : List ℕ) (good : GoodGame g) (n : ℕ) where
   unfolding padded game_of
   initial_is = refl
 
-  -- the words of the kept edges of vertex v
-  kept_targets : (v : ℕ) → v < vertex_count g
-      → map (λ (z : Edge). z.target) (map (kept_edge met) (edges_at g v)) ≡ map (new_number met) (targets_in g v)
-  unfolding kept_edge
-  kept_targets v l =
-      map-map (λ (z : Edge). z.target) (kept_edge met) (edges_at g v)
-      ∙ sym (map-map (new_number met) (λ (z : Edge). z.target) (edges_at g v))
-      ∙ ap (map (new_number met)) (edges_column g good 0 v (omega arith) l)
-
+  -- the counts of the kept edges of vertex v
   kept_counts : (v : ℕ) → v < vertex_count g
       → map (λ (z : Edge). z.count) (map (kept_edge met) (edges_at g v)) ≡ counts_in g v
   unfolding kept_edge
@@ -133,7 +123,7 @@ module _ (g : List ℕ) (good : GoodGame g) (n : ℕ) where
         vertex_read 0 vs rest 1 u waiting_vertex (omega arith) k ∙ ap (λ (v : Vertex). v.priority) e,
         edge_words_read 0 vs rest 0 u waiting_vertex (omega arith) k
             ∙ ap (λ (v : Vertex). map (λ (z : Edge). z.target) v.edges) e
-            ∙ kept_targets (get_or met u 0) b,
+            ∙ kept_targets g good met (get_or met u 0) b,
         edge_words_read 0 vs rest 1 u waiting_vertex (omega arith) k
             ∙ ap (λ (v : Vertex). map (λ (z : Edge). z.count) v.edges) e
             ∙ kept_counts (get_or met u 0) b,
@@ -146,7 +136,7 @@ module _ (g : List ℕ) (good : GoodGame g) (n : ℕ) where
 
   renumbered : (v : ℕ) → In v met → map (new_number met) (targets_in g v) ≡ map (λ t. word ns t) (targets_in g v)
   renumbered v m =
-      same_map (new_number met) (λ t. word ns t) (targets_in g v) (λ t i. sym (map-word g met t (target_below g good v (reached_below g good v m) t i)))
+      map_same (new_number met) (λ t. word ns t) (targets_in g v) (λ t i. sym (map-word g met t (target_below g good v (reached_below g good v m) t i)))
 
   pub kept_restricts : (room : length (game_of 0 (kept_vertices g (reached_vertices g))) ≤ n)
       → Restricts g (Done (length vs) (length vs) (edge_count vs))

@@ -1,7 +1,7 @@
 -- Document 01, "Small games to check by": the cases marked * as one list with a theorem of its own, and beside it lists
--- of other cases, which tell the rules from wrong ones (each file in rules/must-fail is a wrong rule that a case, or a
--- theorem of FaultCases, refuses). A theorem says that the rules give what is said of each case of its list, and is
--- proved by computation. Inputs, games and texts are quoted as 01 prints them, each game with the counts of its edges
+-- of other cases, which tell the rules from wrong ones (each edit of specs/ in rules/must-fail is a wrong rule that a
+-- case, or a theorem of FaultCases, refuses). A theorem says that the rules give what is said of each case of its list,
+-- and is proved by computation. Inputs, games and texts are quoted as 01 prints them, each game with the counts of its edges
 -- behind its targets (document 02, #102: "01's expected games grow by them"). Assumes nothing.
 use mathlib.Core.Path.{◌≡◌, refl}
 use Prim.Native.Nat.{ℕ}

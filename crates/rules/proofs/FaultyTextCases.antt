@@ -1,6 +1,6 @@
--- The refusals of the calls on PGSolver text as relations (specs/FaultyText) at the edges of their conditions: a witness
--- for each clause, of what is just wrong, with its number and its place; and the order of the numbers. That nothing else
--- is refused is theorem `reading_exact` with the worked cases. Assumes nothing.
+-- The refusals of the calls on PGSolver text as relations (specs/FaultyText) at the edges of their conditions: a
+-- witness for each clause, of what is just wrong, with its number and its place; and the order of the numbers. That
+-- nothing else is refused is theorem `reading_exact` with the worked cases. Assumes nothing.
 use mathlib.Core.Path.{◌≡◌, refl, sym, subst}
 use mathlib.Core.List.{List, [], ◌∷◌}
 use mathlib.Core.Logic.{inl, inr}

@@ -1,5 +1,5 @@
--- PGSolver text by worked cases (document 02, #101), by computation: games as text, texts as games, and what is refused.
--- The entries E1 to E12 of docs/DECISIONS.md each have one. Lent slices hold nines before. Assumes nothing.
+-- PGSolver text by worked cases (document 02, #101), by computation: games as text, texts as games, and what is
+-- refused. The entries E1 to E12 of docs/DECISIONS.md each have one. Lent slices hold nines before. Assumes nothing.
 use mathlib.Core.Path.{◌≡◌, refl}
 use Prim.Native.Nat.{ℕ}
 use Prim.Native.String.{String}

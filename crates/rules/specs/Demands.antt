@@ -64,7 +64,7 @@ Totalised v o p [] shown added = (shown ≡ stuck_priority o) × (added ≡ v �
 Totalised v o p (t ∷ ts) shown added = (shown ≡ p) × (added ≡ [])
 
 -- vertex v is shown as the rules have its pair p; each edge with the number of transitions behind it, an added one
--- with 0 ("the transitions behind an edge", document 02, #102)
+-- with 0 (document 02, #102: "Transitions behind an edge")
 pub record SettledRow (rank : Ranking) (x : Input) (g : List ℕ) (ps : List Pair) (v : ℕ) (p : Pair) : Type 0 where
   pub ruled : List ℕ
   pub added : List ℕ

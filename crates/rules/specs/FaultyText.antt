@@ -1,7 +1,7 @@
 -- What is wrong with a game that is to be written as PGSolver text, and with a text that is to be read, in the words of
 -- document 02, #101: one clause for each condition, with its number and its place. A clause speaks of one condition;
--- that earlier numbers pass is not asked. Theorems `writing_exact`, `reading_exact`: a call is refused with the first of
--- these, and with none if there is none. Assumes nothing: these are definitions.
+-- that earlier numbers pass is not asked. Theorems `writing_exact`, `reading_exact`: a call is refused with the first
+-- of these, and with none if there is none. Assumes nothing: these are definitions.
 use Rattle.std.specs.Prelude.{◌≡◌, List, [], ◌∷◌, map, ℕ, ◌≤◌, ◌<◌, length, eqb}
 use Rattle.rules.specs.declared.Room.{Room}
 use Rattle.rules.specs.Lists.{In, Distinct, position}

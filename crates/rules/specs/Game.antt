@@ -19,7 +19,7 @@ pub record Vertex : Type 0 where
   pub priority : ℕ
   pub edges : List Edge
 
--- an edge that no modality gives: "edges of other vertices, added self-loops and games read from text carry 0"
+-- an edge without a count: "added self-loops and games read from text carry 0"
 abbrev pub edge_to : ℕ → Edge
 edge_to t = record { target = t; count = 0 }
 

@@ -13,7 +13,8 @@ use Rattle.rules.specs.Refusal.{differ, fault_from, lower_fault, too_large}
 unfoldable pub above_room : (n m : ℕ) → Bool
 above_room n m = ltb most_vertices n || ltb most_edges m
 
--- "51: length fewer than 3 or not" (#102) "4 + 3n + 2m", "no vertex, or a size above the room limits" (decisions C1, C4)
+-- "51: length fewer than 3 or not" (#102) "4 + 3n + 2m", "no vertex, or a size above the room limits" (decisions C1,
+-- C4)
 unfoldable pub refusal51 : List ℕ → Check
 refusal51 g =
     fault_if 51 0

@@ -1,5 +1,6 @@
 -- Pairs of a state and an item number: owner, priority and targets (document 01, "One step", "Pairs"), and the
--- transitions behind an edge (document 02, #102). Only this module looks into items. Assumes nothing: these are definitions.
+-- transitions behind an edge (document 02, #102). Only this module looks into items. Assumes nothing: these are
+-- definitions.
 use Rattle.std.specs.Prelude.{ℕ, Bool, cond, ◌&&◌, List, [], ◌∷◌, map, get_or, eqb, ltb}
 use Rattle.player.specs.declared.Player.{Player}
 use Rattle.player.specs.declared.Player.TheVariants.{Even, Odd}
@@ -102,7 +103,10 @@ item_transitions x s (subformula f) = formula_transitions x s f
 unfoldable pub modal_transitions : Input → Pair → List ℕ
 modal_transitions x p = item_transitions x p.0 (item_at x p.1)
 
+-- how many of the transitions ts lead to state s
+abbrev pub leading_to : Input → List ℕ → ℕ → ℕ
+leading_to x ts s = occurrences eqb s (map (transition_target x.system) ts)
+
 -- "each target's count of matching transitions": how many of those of p lead to the state of q
 unfoldable pub transitions_behind : Input → Pair → Pair → ℕ
-transitions_behind x p q =
-    occurrences eqb q.0 (map (transition_target x.system) (modal_transitions x p))
+transitions_behind x p q = leading_to x (modal_transitions x p) q.0

@@ -1,7 +1,7 @@
--- Reading a game from PGSolver text (document 02, #101: "read such text back"; "A game that is read starts at vertex 0";
--- "Refused .. in reading, after 1 and 2: 91 for text that isn't this form, 92 for a vertex missing, given twice or, also
--- as a successor, above the highest, 93 for vertices or edges beyond the room or a priority beyond 32 bits, in that
--- order"). Assumes nothing: these are definitions.
+-- Reading a game from PGSolver text (document 02, #101: "read such text back"; "A game that is read starts at vertex
+-- 0"; "Refused .. in reading, after 1 and 2: 91 for text that isn't this form, 92 for a vertex missing, given twice or,
+-- also as a successor, above the highest, 93 for vertices or edges beyond the room or a priority beyond 32 bits, in
+-- that order"). Assumes nothing: these are definitions.
 use Rattle.std.specs.Prelude.{ℕ, suc, Bool, true, cond, not, ◌&&◌, ◌||◌, List, [], ◌∷◌, map, length, eqb, ltb, leb}
 use Rattle.std.proofs.Math.Option.{Option, none, some}
 use Rattle.rules.specs.declared.Answer.{Answer}

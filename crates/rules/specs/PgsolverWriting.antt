@@ -1,5 +1,5 @@
--- Writing a game as PGSolver text (document 02, #101: "Write finished games so"; "Refused in writing: after 53, 98 for a
--- vertex without successors, then 2 for too short a text slice"). Assumes nothing: these are definitions.
+-- Writing a game as PGSolver text (document 02, #101: "Write finished games so"; "Refused in writing: after 53, 98 for
+-- a vertex without successors, then 2 for too short a text slice"). Assumes nothing: these are definitions.
 use Rattle.std.specs.Prelude.{ℕ, ◌-◌, Bool, not, List, map, length, eqb}
 use Rattle.std.proofs.Math.Option.{none}
 use Rattle.rules.specs.declared.Answer.TheVariants.{Refused}

@@ -39,8 +39,8 @@ impl From<Fault> for Answer {
 }
 
 // Why an input is refused.
-// Kept (rule): its number is a number. The papers and the C interface know a refusal by it alone, and the checks of both
-// tables of trees are one function whose numbers are ten apart.
+// Kept (rule): its number is a number. The papers and the C interface know a refusal by it alone, and the checks of
+// both tables of trees are one function whose numbers are ten apart.
 #[derive(Clone, Copy, Debug, PartialEq, Eq)]
 pub struct Fault {
     pub number: u32,

@@ -3,7 +3,7 @@
 use mathlib.Core.Path.{◌≡◌, refl, sym, ◌∙◌, ap, ap₂}
 use mathlib.Core.Bool.{true, false}
 use mathlib.Core.List.{List, [], ◌∷◌, ◌++◌, map}
-use Prim.Native.Nat.{ℕ, zero, suc, ◌+◌, ◌-◌, ◌*◌, ◌≤◌, ◌<◌, min}
+use Prim.Native.Nat.{ℕ, zero, suc, ◌+◌, ◌-◌, ◌*◌, ◌≤◌, ◌<◌}
 use native.Mathlib.Decide.{dec_lt, ℕ_discrete}
 use native.Mathlib.Numerals.{add-one}
 use native.Mathlib.Omega.{arith}
@@ -15,7 +15,7 @@ use lib.Seq.{get_or-set_same, get_or-set_other, get_or-take, get_or-drop}
 use Rattle.rules.specs.Lists.{word, from}
 use Rattle.lists.proofs.Members.{map_at, map-append}
 use Rattle.lists.proofs.Ranges.{from-length, from_at, from_snoc}
-use Rattle.work_slice.specs.Regions.{region, put_word}
+use Rattle.work_slice.specs.Regions.{region, put_word, edges_end, edge_word}
 use Rattle.words.proofs.Regions.{rise}
 use Rattle.work_slice.proofs.Regions.{word_at, region_past, rest_put, rest_later}
 use Rattle.pairs.specs.Table.{Table}
@@ -50,30 +50,6 @@ none_waits stack n e = ap (waiting_in stack) e
 
 -- ---- words that stay
 
--- where as many words from p on are the same, that stretch is
-stretch_same : (p n : ℕ) (w w' : List ℕ) → length w' ≡ length w
-    → ((q : ℕ) → p ≤ q → q < p + n → word w' q ≡ word w q) → take n (drop p w') ≡ take n (drop p w)
-stretch_same p n w w' size same =
-    ext_get_or 0 (take n (drop p w')) (take n (drop p w)) (rw (long w', long w, size) refl) at
-  where
-    long : (u : List ℕ) → length (take n (drop p u)) ≡ min n (length u - p)
-    long u = length-take n (drop p u) ∙ ap (min n) (length-drop p u)
-
-    read : (u : List ℕ) (i : ℕ) → i < n → word (take n (drop p u)) i ≡ word u (p + i)
-    read u i h = get_or-take n (drop p u) i 0 h ∙ get_or-drop p u i 0
-
-    at : (i : ℕ) → i < length (take n (drop p w')) → word (take n (drop p w')) i ≡ word (take n (drop p w)) i
-    at i h =
-        let l : i < n = omega (arith, long w') in
-        read w' i l ∙ same (p + i) (omega arith) (omega arith) ∙ sym (read w i l)
-
--- so is a region, where the words of the eight regions are
-pub regions_same : (r v : ℕ) (w w' : List ℕ) → r < 8 → length w' ≡ length w
-    → ((p : ℕ) → p < 8 * v → word w' p ≡ word w p) → region r v w' ≡ region r v w
-unfolding region
-regions_same r v w w' h size same =
-    stretch_same (r * v) v w w' size (λ q a b. same q (omega (arith, rise r 8 v h)))
-
 -- a word behind a stretch does not change it
 stretch_past : (p n j x : ℕ) (w : List ℕ) → p + n ≤ j → take n (drop p (set w j x)) ≡ take n (drop p w)
 stretch_past p n j x w h =
@@ -83,7 +59,7 @@ stretch_past p n j x w h =
     ∙ take-set-le n (drop p w) (j - p) x (omega arith)
 
 -- where all from k on is as it was, each word from there on is
-word_rest : (k q : ℕ) (w w' : List ℕ) → drop k w' ≡ drop k w → k ≤ q → word w' q ≡ word w q
+pub word_rest : (k q : ℕ) (w w' : List ℕ) → drop k w' ≡ drop k w → k ≤ q → word w' q ≡ word w q
 word_rest k q w w' same h =
     let z : q ≡ k + (q - k) = omega arith in
     ap (word w') z
@@ -139,104 +115,96 @@ read_set f g n i x h same here =
 -- edges and counts are as many as are read, whatever the words are
 pub length_edges : (w : List ℕ) (v e n : ℕ) → length (edges_of w v e n) ≡ n
 unfolding edges_of
-length_edges w v e n = read_length (λ i. word w (8 * v + e - suc i)) n
+length_edges w v e n = read_length (λ i. word w (edge_word v e 0 i)) n
 
 pub length_counts : (w : List ℕ) (v e n : ℕ) → length (counts_of w v e n) ≡ n
 unfolding counts_of
-length_counts w v e n = read_length (λ i. word w (8 * v + 2 * e - suc i)) n
+length_counts w v e n = read_length (λ i. word w (edge_word v e 1 i)) n
 
-pub edge_at : (v e n i : ℕ) (w : List ℕ) → i < n → word w (8 * v + e - suc i) ≡ word (edges_of w v e n) i
-unfolding edges_of
-edge_at v e n i w h = sym (read_at_lem (λ j. word w (8 * v + e - suc j)) n i h)
-
-pub count_at : (v e n i : ℕ) (w : List ℕ) → i < n → word w (8 * v + 2 * e - suc i) ≡ word (counts_of w v e n) i
+pub count_at : (v e n i : ℕ) (w : List ℕ) → i < n → word w (edge_word v e 1 i) ≡ word (counts_of w v e n) i
 unfolding counts_of
-count_at v e n i w h = sym (read_at_lem (λ j. word w (8 * v + 2 * e - suc j)) n i h)
+count_at v e n i w h = sym (read_at_lem (λ j. word w (edge_word v e 1 j)) n i h)
 
--- an edge or a count is the same word, however many are read
-pub edges_word : (v e n m i : ℕ) (w : List ℕ) → i < n → i < m
-    → word (edges_of w v e n) i ≡ word (edges_of w v e m) i
-edges_word v e n m i w h k = sym (edge_at v e n i w h) ∙ edge_at v e m i w k
-
+-- a count is the same word, however many are read
 pub counts_word : (v e n m i : ℕ) (w : List ℕ) → i < n → i < m
     → word (counts_of w v e n) i ≡ word (counts_of w v e m) i
 counts_word v e n m i w h k = sym (count_at v e n i w h) ∙ count_at v e m i w k
 
 -- they go by their words alone: the last n before word 8v + e, and before word 8v + 2e
 pub edges_same : (v e n : ℕ) (w w' : List ℕ)
-    → ((p : ℕ) → 8 * v + e ≤ p + n → p < 8 * v + e → word w' p ≡ word w p) → n ≤ e
+    → ((p : ℕ) → edges_end v e 0 ≤ p + n → p < edges_end v e 0 → word w' p ≡ word w p) → n ≤ e
     → edges_of w' v e n ≡ edges_of w v e n
 unfolding edges_of
 edges_same v e n w w' same room =
-    read_same (λ i. word w (8 * v + e - suc i)) (λ i. word w' (8 * v + e - suc i)) n
-    (λ i h. same (8 * v + e - suc i) (omega arith) (omega arith))
+    read_same (λ i. word w (edge_word v e 0 i)) (λ i. word w' (edge_word v e 0 i)) n
+    (λ i h. same (edge_word v e 0 i) (omega arith) (omega arith))
 
 pub counts_same : (v e n : ℕ) (w w' : List ℕ)
-    → ((p : ℕ) → 8 * v + 2 * e ≤ p + n → p < 8 * v + 2 * e → word w' p ≡ word w p) → n ≤ e
+    → ((p : ℕ) → edges_end v e 1 ≤ p + n → p < edges_end v e 1 → word w' p ≡ word w p) → n ≤ e
     → counts_of w' v e n ≡ counts_of w v e n
 unfolding counts_of
 counts_same v e n w w' same room =
-    read_same (λ i. word w (8 * v + 2 * e - suc i)) (λ i. word w' (8 * v + 2 * e - suc i)) n
-    (λ i h. same (8 * v + 2 * e - suc i) (omega arith) (omega arith))
+    read_same (λ i. word w (edge_word v e 1 i)) (λ i. word w' (edge_word v e 1 i)) n
+    (λ i h. same (edge_word v e 1 i) (omega arith) (omega arith))
 
 -- an edge changes no region
 pub region_edge : (r v e i x count : ℕ) (w : List ℕ) → r < 8 → i < e
     → region r v (put_edge v e i x count w) ≡ region r v w
 unfolding put_edge
 region_edge r v e i x count w h room =
-    region_past r v (8 * v + 2 * e - suc i) count (set w (8 * v + e - suc i) x) (omega (arith, rise r 8 v h))
-    ∙ region_past r v (8 * v + e - suc i) x w (omega (arith, rise r 8 v h))
+    region_past r v (edge_word v e 1 i) count (set w (edge_word v e 0 i) x) (omega (arith, rise r 8 v h))
+    ∙ region_past r v (edge_word v e 0 i) x w (omega (arith, rise r 8 v h))
 
 -- nor does a count
 pub region_count : (r v e i count : ℕ) (w : List ℕ) → r < 8 → i < e
     → region r v (put_count v e i count w) ≡ region r v w
 unfolding put_count
 region_count r v e i count w h room =
-    region_past r v (8 * v + 2 * e - suc i) count w (omega (arith, rise r 8 v h))
+    region_past r v (edge_word v e 1 i) count w (omega (arith, rise r 8 v h))
 
 pub length-put_edge : (v e i x count : ℕ) (w : List ℕ) → length (put_edge v e i x count w) ≡ length w
 unfolding put_edge
 length-put_edge v e i x count w =
-    length-set (set w (8 * v + e - suc i) x) (8 * v + 2 * e - suc i) count ∙ length-set w (8 * v + e - suc i) x
+    length-set (set w (edge_word v e 0 i) x) (edge_word v e 1 i) count ∙ length-set w (edge_word v e 0 i) x
 
 pub length-put_count : (v e i count : ℕ) (w : List ℕ) → length (put_count v e i count w) ≡ length w
 unfolding put_count
-length-put_count v e i count w = length-set w (8 * v + 2 * e - suc i) count
+length-put_count v e i count w = length-set w (edge_word v e 1 i) count
 
 -- the count stands past the targets
 pub edges_more : (v e i x count : ℕ) (w : List ℕ) → i < e → 8 * v + 2 * e ≤ length w
     → edges_of (put_edge v e i x count w) v e (i + 1) ≡ edges_of w v e i ++ (x ∷ [])
 unfolding edges_of put_edge
 edges_more v e i x count w room h =
-    read_more (λ j. word w (8 * v + e - suc j)) (λ j. word w'' (8 * v + e - suc j)) i x
+    read_more (λ j. word w (edge_word v e 0 j)) (λ j. word w'' (edge_word v e 0 j)) i x
     (λ j l.
-    get_or-set_other w' (8 * v + 2 * e - suc i) (8 * v + e - suc j) count 0 (omega arith)
-    ∙ get_or-set_other w (8 * v + e - suc i) (8 * v + e - suc j) x 0 (omega arith))
-    (get_or-set_other w' (8 * v + 2 * e - suc i) (8 * v + e - suc i) count 0 (omega arith)
-    ∙ get_or-set_same w (8 * v + e - suc i) x 0 (omega arith))
+    get_or-set_other w' (edge_word v e 1 i) (edge_word v e 0 j) count 0 (omega arith)
+    ∙ get_or-set_other w (edge_word v e 0 i) (edge_word v e 0 j) x 0 (omega arith))
+    (get_or-set_other w' (edge_word v e 1 i) (edge_word v e 0 i) count 0 (omega arith)
+    ∙ get_or-set_same w (edge_word v e 0 i) x 0 (omega arith))
   where
     w' : List ℕ
-    w' = set w (8 * v + e - suc i) x
+    w' = set w (edge_word v e 0 i) x
 
     w'' : List ℕ
-    w'' = set w' (8 * v + 2 * e - suc i) count
+    w'' = set w' (edge_word v e 1 i) count
 
 -- and the target before the counts
 pub counts_more : (v e i x count : ℕ) (w : List ℕ) → i < e → 8 * v + 2 * e ≤ length w
     → counts_of (put_edge v e i x count w) v e (i + 1) ≡ counts_of w v e i ++ (count ∷ [])
 unfolding counts_of put_edge
 counts_more v e i x count w room h =
-    read_more (λ j. word w (8 * v + 2 * e - suc j)) (λ j. word w'' (8 * v + 2 * e - suc j)) i count
+    read_more (λ j. word w (edge_word v e 1 j)) (λ j. word w'' (edge_word v e 1 j)) i count
     (λ j l.
-    get_or-set_other w' (8 * v + 2 * e - suc i) (8 * v + 2 * e - suc j) count 0 (omega arith)
-    ∙ get_or-set_other w (8 * v + e - suc i) (8 * v + 2 * e - suc j) x 0 (omega arith))
-    (get_or-set_same w' (8 * v + 2 * e - suc i) count 0 (omega (arith, length-set w (8 * v + e - suc i) x)))
+    get_or-set_other w' (edge_word v e 1 i) (edge_word v e 1 j) count 0 (omega arith)
+    ∙ get_or-set_other w (edge_word v e 0 i) (edge_word v e 1 j) x 0 (omega arith))
+    (get_or-set_same w' (edge_word v e 1 i) count 0 (omega (arith, length-set w (edge_word v e 0 i) x)))
   where
     w' : List ℕ
-    w' = set w (8 * v + e - suc i) x
+    w' = set w (edge_word v e 0 i) x
 
     w'' : List ℕ
-    w'' = set w' (8 * v + 2 * e - suc i) count
+    w'' = set w' (edge_word v e 1 i) count
 
 -- a word of a region changes no edge
 pub edges_put : (s v e i x n : ℕ) (w : List ℕ) → s < 8 → i < v → n ≤ e
@@ -267,42 +235,41 @@ pub edges_raised : (v e i count n : ℕ) (w : List ℕ) → i < e → n ≤ e
     → edges_of (put_count v e i count w) v e n ≡ edges_of w v e n
 unfolding put_count
 edges_raised v e i count n w h room =
-    edges_same v e n w (set w (8 * v + 2 * e - suc i) count)
-    (λ p a b. get_or-set_other w (8 * v + 2 * e - suc i) p count 0 (omega arith)) room
+    edges_same v e n w (set w (edge_word v e 1 i) count)
+    (λ p a b. get_or-set_other w (edge_word v e 1 i) p count 0 (omega arith)) room
 
 pub counts_raised : (v e i count n : ℕ) (w : List ℕ) → i < n → n ≤ e → 8 * v + 2 * e ≤ length w
     → counts_of (put_count v e i count w) v e n ≡ set (counts_of w v e n) i count
 unfolding counts_of put_count
 counts_raised v e i count n w h room whole =
-    read_set (λ j. word w (8 * v + 2 * e - suc j)) (λ j. word w' (8 * v + 2 * e - suc j)) n i count h
-    (λ j d l. get_or-set_other w (8 * v + 2 * e - suc i) (8 * v + 2 * e - suc j) count 0 (omega arith))
-    (get_or-set_same w (8 * v + 2 * e - suc i) count 0 (omega arith))
+    read_set (λ j. word w (edge_word v e 1 j)) (λ j. word w' (edge_word v e 1 j)) n i count h
+    (λ j d l. get_or-set_other w (edge_word v e 1 i) (edge_word v e 1 j) count 0 (omega arith))
+    (get_or-set_same w (edge_word v e 1 i) count 0 (omega arith))
   where
     w' : List ℕ
-    w' = set w (8 * v + 2 * e - suc i) count
+    w' = set w (edge_word v e 1 i) count
 
 -- ---- as the code puts them: a count e words behind its target, and a count that rises by one
 
-pub edge_stored : (v e i x count j : ℕ) (w : List ℕ) → i < e → j ≡ 8 * v + (e - 1 - i)
+pub edge_stored : (v e i x count j : ℕ) (w : List ℕ) → i < e → j ≡ edge_word v e 0 i
     → set (set w j x) (j + e) count ≡ put_edge v e i x count w
 unfolding put_edge
 edge_stored v e i x count j w h g =
-    let y : j ≡ 8 * v + e - suc i = omega (arith, g) in
-    let z : j + e ≡ 8 * v + 2 * e - suc i = omega (arith, g) in
-    ap₂ (λ (k m : ℕ). set (set w k x) m count) y z
+    let z : j + e ≡ edge_word v e 1 i = omega (arith, g) in
+    ap₂ (λ (k m : ℕ). set (set w k x) m count) g z
 
 -- the word of a count, as the code says it
-pub count_word : (v e i j : ℕ) (w : List ℕ) → i < e → j ≡ 8 * v + (e - 1 - i)
+pub count_word : (v e i j : ℕ) (w : List ℕ) → i < e → j ≡ edge_word v e 0 i
     → word w (j + e) ≡ word (counts_of w v e e) i
 count_word v e i j w h g =
-    let z : j + e ≡ 8 * v + 2 * e - suc i = omega (arith, g) in
+    let z : j + e ≡ edge_word v e 1 i = omega (arith, g) in
     ap (word w) z ∙ count_at v e e i w h
 
-pub count_stored : (v e i j : ℕ) (w : List ℕ) → i < e → j ≡ 8 * v + (e - 1 - i)
+pub count_stored : (v e i j : ℕ) (w : List ℕ) → i < e → j ≡ edge_word v e 0 i
     → set w (j + e) (word w (j + e) + 1) ≡ put_count v e i (word (counts_of w v e e) i + 1) w
 unfolding put_count
 count_stored v e i j w h g =
-    let z : j + e ≡ 8 * v + 2 * e - suc i = omega (arith, g) in
+    let z : j + e ≡ edge_word v e 1 i = omega (arith, g) in
     ap₂ (λ (k n : ℕ). set w k (n + 1)) z (count_word v e i j w h g)
 
 -- ---- the marks
@@ -323,26 +290,16 @@ mark_put v i x n w h = ap (take n) (drop-set-add (7 * v) w i x) ∙ take-set-lt 
 pub first_marks : (v n i : ℕ) (w : List ℕ) → i < v → v ≤ n → word (region 7 v w) i ≡ word (marks_of w v n) i
 first_marks v n i w h l = sym (word_at 7 v i w h) ∙ sym (mark_at v n i w (omega arith))
 
--- they go by their words alone
-pub marks_same : (v n : ℕ) (w w' : List ℕ) → length w' ≡ length w
-    → ((i : ℕ) → i < n → word w' (7 * v + i) ≡ word w (7 * v + i)) → marks_of w' v n ≡ marks_of w v n
-unfolding marks_of
-marks_same v n w w' size same =
-    stretch_same (7 * v) n w w' size
-    (λ q a b.
-    let z : q ≡ 7 * v + (q - 7 * v) = omega arith in
-    ap (word w') z ∙ same (q - 7 * v) (omega arith) ∙ ap (word w) (sym z))
-
 -- a mark changes no other region
 pub region_mark : (r v i x : ℕ) (w : List ℕ) → r < 7 → region r v (put_word 7 v i x w) ≡ region r v w
 unfolding put_word
 region_mark r v i x w h = region_past r v (7 * v + i) x w (omega (arith, rise r 7 v h))
 
 -- marks that do not reach the word of the target at place p end before it
-before_edge : (v e p many : ℕ) → (v < many → many + p < v + e) → p < e → 7 * v + many ≤ 8 * v + e - suc p
+before_edge : (v e p many : ℕ) → (v < many → many + p < v + e) → p < e → 7 * v + many ≤ edge_word v e 0 p
 before_edge v e p many free h = go (dec_lt v many)
   where
-    go : Dec (v < many) → 7 * v + many ≤ 8 * v + e - suc p
+    go : Dec (v < many) → 7 * v + many ≤ edge_word v e 0 p
     go (yes l) = omega (arith, free l)
     go (no d) = omega arith
 
@@ -352,15 +309,15 @@ pub marks_edge : (v e p x count many : ℕ) (w : List ℕ) → (v < many → man
 unfolding marks_of put_edge
 marks_edge v e p x count many w free h =
     let k = before_edge v e p many free h in
-    stretch_past (7 * v) many (8 * v + 2 * e - suc p) count (set w (8 * v + e - suc p) x) (omega (arith, k))
-    ∙ stretch_past (7 * v) many (8 * v + e - suc p) x w k
+    stretch_past (7 * v) many (edge_word v e 1 p) count (set w (edge_word v e 0 p) x) (omega (arith, k))
+    ∙ stretch_past (7 * v) many (edge_word v e 0 p) x w k
 
 pub marks_count : (v e p count many : ℕ) (w : List ℕ) → (v < many → many + p < v + e) → p < e
     → marks_of (put_count v e p count w) v many ≡ marks_of w v many
 unfolding marks_of put_count
 marks_count v e p count many w free h =
     let k = before_edge v e p many free h in
-    stretch_past (7 * v) many (8 * v + 2 * e - suc p) count w (omega (arith, k))
+    stretch_past (7 * v) many (edge_word v e 1 p) count w (omega (arith, k))
 
 -- nor does what changes nothing from region 5 on
 pub marks_rest : (v many : ℕ) (w w' : List ℕ) → drop (5 * v) w' ≡ drop (5 * v) w
@@ -369,7 +326,7 @@ unfolding marks_of
 marks_rest v many w w' same = ap (take many) (rest_later 5 7 v w w' same (lit≤ tt))
 
 -- n edges that leave so many marks free stand past them
-pub past_marks : (v e n many p : ℕ) → (v < many → many + n ≤ v + e) → n ≤ e → 8 * v + e ≤ p + n
+pub past_marks : (v e n many p : ℕ) → (v < many → many + n ≤ v + e) → n ≤ e → edges_end v e 0 ≤ p + n
     → 7 * v + many ≤ p
 past_marks v e n many p free room l = go (dec_lt v many)
   where
@@ -424,9 +381,9 @@ module _ (w : List ℕ) (v u : ℕ) where
   unfolding settled_in
   unsettled_in h = le-ltb 0 (word (region 6 v w) u) h
 
-  pub count_unsettled : settled_in w v u ≡ false → degree_in w v u ≡ 0
+  pub degree_unsettled : settled_in w v u ≡ false → degree_in w v u ≡ 0
   unfolding settled_in
-  count_unsettled e = omega (arith, ltb-false 0 (word (region 6 v w) u) e)
+  degree_unsettled e = omega (arith, ltb-false 0 (word (region 6 v w) u) e)
 
 -- whether a vertex is settled goes by the degrees alone
 pub settled_same : (w w' : List ℕ) (v u : ℕ) → word (region 6 v w') u ≡ word (region 6 v w) u

@@ -4,4 +4,3 @@ pub mod Make
 pub mod Marking
 pub mod Ending
 pub mod Operands
-pub mod Clearing

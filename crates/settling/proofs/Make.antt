@@ -18,14 +18,16 @@ use Rattle.lists.specs.Shapes.{Begins, positions}
 use Rattle.lists.proofs.Shapes.{begins_length}
 use Rattle.lists.proofs.Inserts.{inserts_none, inserts_append, inserts_begins, inserts_holds, positions-append, positions_begins}
 use Rattle.lists.proofs.Equalities.{number_equality}
-use Rattle.work_slice.specs.Regions.{region}
+use Rattle.work_slice.specs.Regions.{region, Zeroed, edges_end}
+use Rattle.words.proofs.Regions.{rise}
 use Rattle.work_slice.proofs.Regions.{rest_region, word_at}
+use Rattle.work_slice.proofs.Zeros.{before_zeros}
 use Rattle.pairs.specs.Table.{keys_of}
 use Rattle.pairs.proofs.Uses.{keys_kept, table_kept}
 use Rattle.settling.specs.declared.Counters.{Counters}
 use Rattle.settling.specs.Stand.{waiting_in, waiting_of, edges_of, counts_of, marks_of, put_edge}
-use Rattle.settling.specs.Made.{with_edges, Appended, Marks, Ready, Meeting, Made, TooMany, Answer, MarksCleared}
-use Rattle.settling.proofs.Buffer.{regions_same, edges_same, counts_same, past_marks, mark_at}
+use Rattle.settling.specs.Made.{with_edges, Appended, Marks, Ready, Meeting, Made, TooMany, Answer}
+use Rattle.settling.proofs.Buffer.{word_rest, edges_same, counts_same, past_marks, mark_at}
 use Rattle.settling.proofs.Buffer.{region_edge, edges_more, counts_more, edges_rest, counts_rest}
 use Rattle.settling.proofs.Buffer.{length-put_edge, ready_on}
 use Rattle.walks.proofs.Pushes.{push_on, push_none}
@@ -52,15 +54,15 @@ made_none w v e c r =
     }
 
 -- marks past their region are cleared: nothing that is read off changes
-pub made_cleared : (w w' : List ℕ) (v e : ℕ) (c : Counters) (many : ℕ) → Ready w v e c → MarksCleared w w' v many
-    → v ≤ many → (v < many → many + c.edges ≤ v + e) → Made w v e c w' c [] []
+pub made_cleared : (w w' : List ℕ) (v e : ℕ) (c : Counters) (many : ℕ) → Ready w v e c
+    → Zeroed w w' (8 * v) (7 * v + many) → v ≤ many → (v < many → many + c.edges ≤ v + e) → Made w v e c w' c [] []
 unfolding positions
 made_cleared w w' v e c many r k wide free =
     let kept : (a : ℕ) → a < 8 → region a v w' ≡ region a v w =
-    λ a h. regions_same a v w w' h k.long (λ p l. k.others p (inl l)) in
+    λ a h. before_zeros a v (8 * v) w w' k.before (rise a 8 v h) in
     let first : (a : ℕ) → a < 4 → region a v w' ≡ region a v w = λ a h. kept a (omega arith) in
-    let past : (p : ℕ) → 8 * v + e ≤ p + c.edges → word w' p ≡ word w p =
-    λ p h. k.others p (inr (past_marks v e c.edges many p free r.buffer h)) in
+    let past : (p : ℕ) → edges_end v e 0 ≤ p + c.edges → word w' p ≡ word w p =
+    λ p h. word_rest (7 * v + many) p w w' k.behind (past_marks v e c.edges many p free r.buffer h) in
     record {
       ready =
           ready_on v e w w' c c r k.long (table_kept w w' v c.known first r.table) r.stack r.buffer;
@@ -84,7 +86,7 @@ made_cleared w w' v e c many r k wide free =
     }
 
 -- and no mark is above those of the region
-pub marks_cleared : (w w' : List ℕ) (v many b : ℕ) → MarksCleared w w' v many → Marks w v b
+pub marks_cleared : (w w' : List ℕ) (v many b : ℕ) → Zeroed w w' (8 * v) (7 * v + many) → Marks w v b
     → (i : ℕ) → i < many → word (marks_of w' v many) i ≤ b
 marks_cleared w w' v many b k m i h = go (dec_lt i v)
   where
@@ -92,8 +94,10 @@ marks_cleared w w' v many b k m i h = go (dec_lt i v)
     at = mark_at v many i w' h
 
     go : Dec (i < v) → word (marks_of w' v many) i ≤ b
-    go (yes l) = omega (arith, at, k.others (7 * v + i) (inl (omega arith)), word_at 7 v i w l, m i l)
-    go (no d) = omega (arith, at, k.none i (omega arith) h)
+    go (yes l) =
+        let same = before_zeros 7 v (8 * v) w w' k.before (omega arith) in
+        omega (arith, at, word_at 7 v i w' l, ap (λ (u : List ℕ). word u i) same, m i l)
+    go (no d) = omega (arith, at, k.none (7 * v + i) (omega arith) (omega arith))
 
 module _ (v e : ℕ) (w w₁ w₂ : List ℕ) (c c₁ c₂ : Counters) (ts us cs ds : List ℕ) where
   pub made_more : Made w v e c w₁ c₁ ts cs → Made w₁ v e c₁ w₂ c₂ us ds → Made w v e c w₂ c₂ (ts ++ us) (cs ++ ds)
@@ -214,8 +218,8 @@ pub answer_failed : (w : List ℕ) (v e : ℕ) (c : Counters) (ts cs w' : List �
 answer_failed w v e c ts cs w' (Ok c') h f = absurd (false≢true h)
 answer_failed w v e c ts cs w' (Err x) h f = f
 
-pub marks_rest : (w w' : List ℕ) (v b : ℕ) → drop (5 * v) w' ≡ drop (5 * v) w → Marks w v b → Marks w' v b
-marks_rest w w' v b e m i h = subst (λ (l : List ℕ). word l i ≤ b) (sym (rest_region 5 7 v w w' e (lit≤ tt))) (m i h)
+pub marks_bounded : (w w' : List ℕ) (v b : ℕ) → drop (5 * v) w' ≡ drop (5 * v) w → Marks w v b → Marks w' v b
+marks_bounded w w' v b e m i h = subst (λ (l : List ℕ). word l i ≤ b) (sym (rest_region 5 7 v w w' e (lit≤ tt))) (m i h)
 
 pub marks_rise : (w : List ℕ) (v b b' : ℕ) → b ≤ b' → Marks w v b → Marks w v b'
 marks_rise w v b b' l m i h = omega (arith, m i h)
@@ -228,6 +232,6 @@ answer_appended v e w w₁ w₂ c t u count c₁ r p long (Ok c₂) a =
     subst (λ (d : Counters). Made w v e c w₂ d (t ∷ []) (count ∷ []))
     (sym (a.2 ∙ ap (λ (k : ℕ). with_edges c₁ (k + 1)) p.same_edges))
     (edge_made v e w w₁ w₁ w₂ c t u count c₁ r p (omega (arith, a.0, p.same_edges)) long (λ x h. refl) refl refl
-    (λ m. marks_rise w₁ v c.edges (c.edges + 1) (omega arith) (marks_rest w w₁ v c.edges p.rest m))
+    (λ m. marks_rise w₁ v c.edges (c.edges + 1) (omega arith) (marks_bounded w w₁ v c.edges p.rest m))
     (a.1 ∙ ap (λ (k : ℕ). put_edge v e k u count w₁) p.same_edges))
 answer_appended v e w w₁ w₂ c t u count c₁ r p long (Err x) a = inr (omega (arith, a.0, p.same_edges))

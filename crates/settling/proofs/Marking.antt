@@ -8,9 +8,10 @@ use Prim.Native.Nat.{ℕ, suc, ◌+◌, ◌-◌, ◌*◌, ◌≤◌, ◌<◌}
 use native.Mathlib.Decide.{dec_lt, ℕ_discrete}
 use native.Mathlib.Omega.{arith}
 use lib.Dec.{eqb, lit≤, lit<}
-use lib.ListN.{length, set, drop, length-append, length-map}
+use lib.ListN.{length, set, drop, length-append}
 use lib.Seq.{get_or-append-add, get_or-set_same, get_or-set_other}
 use borrow.Author.Tests.{eq-eqb, ne_eqb}
+use Rattle.std.proofs.lemmas.List.{set-append_right}
 use Rattle.std.specs.Prelude.{Result}
 use Rattle.std.specs.Result.{IsErr}
 use Rattle.std.specs.declared.result.Result.TheVariants.{Ok, Err}
@@ -61,14 +62,6 @@ module _ (f g : ℕ → ℕ) (t : ℕ) (same : (x : ℕ) → (¬ (x ≡ t)) → 
       let apart : ¬ (t ≡ x) = λ e. d.0 (subst (λ (z : ℕ). In z xs) e i) in
       rw (ne_eqb t x apart) (ap₂ ◌∷◌ (same x (λ e. apart (sym e))) (map-one xs d.1 i))
 
-set_later : (xs ys : List ℕ) (j x : ℕ) → set (xs ++ ys) (length xs + j) x ≡ xs ++ set ys j x
-set_later [] ys j x =
-    let e : 0 + j ≡ j = omega arith in
-    ap (λ (k : ℕ). set ys k x) e
-set_later (y ∷ xs) ys j x =
-    let e : suc (length xs) + j ≡ suc (length xs + j) = omega arith in
-    ap (λ (k : ℕ). set (y ∷ (xs ++ ys)) k x) e ∙ ap (λ (l : List ℕ). y ∷ l) (set_later xs ys j x)
-
 -- t is met once more
 module _ (ks : List ℕ) (t : ℕ) where
   occurs_last : occurrences eqb t (ks ++ (t ∷ [])) ≡ occurrences eqb t ks + 1
@@ -109,10 +102,6 @@ module _ (ks : List ℕ) (t : ℕ) where
       (map_same (λ x. occurrences eqb x ks) (λ x. occurrences eqb x (ks ++ (t ∷ []))) t occurs_other (once eqb ks) n)
       first
 
-length-tallies : (ks : List ℕ) → length (tallies ks) ≡ length (once eqb ks)
-unfolding tallies
-length-tallies ks = length-map (once eqb ks) (λ t. occurrences eqb t ks)
-
 tally-at : (ks : List ℕ) (j : ℕ) → j < length (once eqb ks)
     → word (tallies ks) j ≡ occurrences eqb (word (once eqb ks) j) ks
 unfolding tallies
@@ -128,8 +117,10 @@ raise_at front ks t i m e =
     ∙ get_or-append-add front (tallies ks) j 0
     ∙ tally-at ks j (position_below number_equality t (once eqb ks) m)
     ∙ ap (λ (q : ℕ). occurrences eqb q ks) (position_at number_equality t (once eqb ks) 0 m) in
-    ap₂ (λ (k y : ℕ). set (front ++ tallies ks) k (y + 1)) e here
-    ∙ set_later front (tallies ks) j (occurrences eqb t ks + 1)
+    let place : i - length front ≡ j = omega (arith, e) in
+    ap (λ (y : ℕ). set (front ++ tallies ks) i (y + 1)) here
+    ∙ set-append_right front (tallies ks) (length front) i (occurrences eqb t ks + 1) refl (omega (arith, e))
+    ∙ ap (λ (k : ℕ). front ++ set (tallies ks) k (occurrences eqb t ks + 1)) place
     ∙ ap (λ (l : List ℕ). front ++ l) (sym (tallies_old ks t m))
 
 -- ---- the marks

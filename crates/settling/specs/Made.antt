@@ -134,12 +134,6 @@ pub record Raisable (w : List ℕ) (v e many : ℕ) (o : Operand) (c : Counters)
   pub apart : Apart v e c.edges many
   pub counts : (i : ℕ) → o.start ≤ i → i < c.edges → word (counts_of w v e c.edges) i < 4_294_967_295
 
--- the marks past the region are 0, and all other words are as they were
-pub record MarksCleared (w w' : List ℕ) (v many : ℕ) : Type 0 where
-  pub long : length w' ≡ length w
-  pub none : (i : ℕ) → v ≤ i → i < many → word w' (7 * v + i) ≡ 0
-  pub others : (p : ℕ) → (p < 8 * v) ⊎ (7 * v + many ≤ p) → word w' p ≡ word w p
-
 -- vertex u is closed: its edges from start on are counted, and an edge to itself is added where there are none
 pub record Closing (w : List ℕ) (v e u start : ℕ) (c : Counters) (w' : List ℕ) (c' : Counters) : Type 0 where
   pub ready : Ready w' v e c'
@@ -159,11 +153,6 @@ pub record Closing (w : List ℕ) (v e u start : ℕ) (c : Counters) (w' : List 
 abbrev pub CloseAnswer : List ℕ → ℕ → ℕ → ℕ → ℕ → Counters → List ℕ → Result Counters NoRoom → Type 0
 CloseAnswer w v e u start c w' (Ok c') = Closing w v e u start c w' c'
 CloseAnswer w v e u start c w' (Err x) = (c.edges ≡ start) × (e ≤ start)
-
--- every word of a region is 0, and the other regions are as they were
-pub record Cleared (w w' : List ℕ) (v area : ℕ) : Type 0 where
-  pub none : (i : ℕ) → i < v → word (region area v w') i ≤ 0
-  pub others : (r : ℕ) → (r ≡ area → ⊥) → region r v w' ≡ region r v w
 
 -- the lent work slice is as large as the room asks
 pub record Sized (w : List ℕ) (v e : ℕ) : Type 0 where

@@ -8,7 +8,7 @@ use Rattle.rules.specs.Lists.{word, from}
 use Rattle.rules.specs.Walk.{Stand}
 use Rattle.lists.specs.Shapes.{positions}
 use Rattle.walks.specs.Sums.{stand_with}
-use Rattle.work_slice.specs.Regions.{region}
+use Rattle.work_slice.specs.Regions.{region, edge_word}
 use Rattle.pairs.specs.Table.{keys_of}
 use Rattle.settling.specs.declared.Counters.{Counters}
 
@@ -23,19 +23,19 @@ waiting_of w v n = waiting_in (region 4 v w) n
 
 -- the targets of the first n edges, in the order made
 unfoldable pub edges_of : List ℕ → (v e n : ℕ) → List ℕ
-edges_of w v e n = map (λ i. word w (8 * v + e - suc i)) (from 0 n)
+edges_of w v e n = map (λ i. word w (edge_word v e 0 i)) (from 0 n)
 
 -- their counts: how many transitions stand behind each
 unfoldable pub counts_of : List ℕ → (v e n : ℕ) → List ℕ
-counts_of w v e n = map (λ i. word w (8 * v + 2 * e - suc i)) (from 0 n)
+counts_of w v e n = map (λ i. word w (edge_word v e 1 i)) (from 0 n)
 
 -- the words with an edge to x at place i of the edge buffer, behind which so many transitions stand
 unfoldable pub put_edge : (v e i x count : ℕ) → List ℕ → List ℕ
-put_edge v e i x count w = set (set w (8 * v + e - suc i) x) (8 * v + 2 * e - suc i) count
+put_edge v e i x count w = set (set w (edge_word v e 0 i) x) (edge_word v e 1 i) count
 
 -- the words with another count at place i
 unfoldable pub put_count : (v e i count : ℕ) → List ℕ → List ℕ
-put_count v e i count w = set w (8 * v + 2 * e - suc i) count
+put_count v e i count w = set w (edge_word v e 1 i) count
 
 -- the first n marks: where there are more than v they go on behind their region
 unfoldable pub marks_of : List ℕ → (v n : ℕ) → List ℕ

@@ -9,15 +9,15 @@
 // the key.
 #![tactic(auto)]
 
-ghost use Rattle.std.specs.Prelude.{◌≡◌, List, [], ◌∷◌, ◌++◌, map, ℕ, ◌+◌, ◌-◌, ◌*◌, ◌≤◌, ◌<◌, length};
-ghost use Rattle.rules.specs.Words.{most_vertices, most_edges};
+ghost use Rattle.std.specs.Prelude.{◌≡◌, List, [], ◌∷◌, ◌++◌, map, ℕ, ◌+◌, ◌*◌, ◌≤◌, ◌<◌, length};
 ghost use Rattle.rules.specs.Lists.{word, zeros};
+ghost use Rattle.work_slice.specs.Regions.{Zeroed, edge_word};
 ghost use Rattle.pairs.specs.Slot.{key_of};
 ghost use Rattle.settling.specs.declared.Counters.{Counters};
 ghost use Rattle.settling.specs.Stand.{counts_of, put_edge, put_count};
 ghost use Rattle.settling.specs.declared.MarkedBy.TheVariants.{State};
 ghost use Rattle.settling.specs.Made.{Ready, Fitting, AllFit, MeetAnswer, Answer, Gathering, Gathered, Raisable};
-ghost use Rattle.settling.specs.Made.{Appended, marker, MarksCleared, CloseAnswer};
+ghost use Rattle.settling.specs.Made.{Appended, marker, CloseAnswer};
 
 use pairs::{ByteMultiples, NoRoom, Numbered, ScaledItem};
 use player::VertexIndex;
@@ -44,7 +44,7 @@ pub struct Met {
 // Kept (no plainer): 0 is the column of the targets, TARGET of crate `parity_game`, on which this crate does not stand.
 fn edge_word(room: Room, place: u32) -> usize
     requires { place < room.edges }
-    ensures { result ≡ 8 * room.vertices + (room.edges - 1 - place) }
+    ensures { result ≡ edge_word room.vertices room.edges 0 place }
 {
     edges_end(room.vertices, room.edges, 0) - 1 - (place as usize)
 }
@@ -135,10 +135,10 @@ fn number_target(
     append_edge(met.counters, work, room, met.vertex, 0)
 }
 
-// The marks past their region become 0, where a step has so many.
+// Where a step has more marks than the region has words, those past it become 0.
 pub fn clear_marks(work: &mut [u32], room: Room, marks: u32)
-    requires { (room.vertices ≤ most_vertices) × (7 * room.vertices + marks ≤ length work.old) }
-    ensures { MarksCleared work.old work.new room.vertices marks }
+    requires { 7 * room.vertices + marks ≤ length work.old }
+    ensures { Zeroed work.old work.new (8 * room.vertices) (7 * room.vertices + marks) }
 {
     if room.vertices < marks {
         work_slice::clear(work, room.vertices, Region::Marks, room.vertices, marks);
@@ -200,8 +200,8 @@ fn meet_once(
         raise_count(work, room, mark - 1);
         return Ok(counters);
     }
-    // The mark is put before the edge: put behind it, `boxes` takes 1.1 % more instructions. Where there is no room for
-    // the edge the walk ends, and the mark is not read.
+    // The mark is put before the edge: put behind it, the benchmark's `boxes` takes 1.1 % more instructions. Where
+    // there is no room for the edge the walk ends, and the mark is not read.
     let edges = counters.edges;
     put_word(work, room.vertices, Region::Marks, index, edges + 1);
     append_edge(counters, work, room, vertex, 1)

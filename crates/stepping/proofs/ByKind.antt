@@ -6,17 +6,15 @@ use mathlib.Core.Logic.{⊎_elim}
 use Prim.Native.Nat.{ℕ, ◌/◌, ◌≤◌, ◌<◌}
 use native.Mathlib.Decide.{dec_lt}
 use native.Mathlib.Omega.{arith}
-use lib.Dec.{eqb}
 use lib.ListN.{length, replicate, length-map}
 use Rattle.match_table.specs.declared.MatchRows.{MatchRows}
 use Rattle.rules.specs.Lists.{word, zeros, occurrences}
 use Rattle.compiled.specs.declared.Compiled.{Compiled}
 use Rattle.compiled.specs.Tables.{kinds_in, lefts_in, rights_in}
 use Rattle.rules.specs.Words.{Input}
-use Rattle.rules.specs.System.{transition_target}
 use Rattle.rules.specs.Table.{size}
 use Rattle.rules.specs.Actions.{action_tree}
-use Rattle.rules.specs.Pairs.{Pair, targets, matching_transitions, successors, transitions_behind}
+use Rattle.rules.specs.Pairs.{Pair, targets, matching_transitions, successors, leading_to, transitions_behind}
 use Rattle.arena.specs.Arena.{Inside}
 use Rattle.arena.proofs.ItemNumbers.{items_few}
 use Rattle.item_table.specs.Entries.{Entry}
@@ -100,14 +98,12 @@ module _ (x : Input) (compiled : Compiled) (matched : MatchRows) (t : Tables x c
 
         -- the matching transitions that lead to a state
         abbrev leading : ℕ → ℕ
-        leading t =
-            occurrences eqb t
-            (map (transition_target x.system) (matching_transitions x (action_tree x.labels x.actions r) s))
+        leading = leading_to x (matching_transitions x (action_tree x.labels x.actions r) s)
 
         behind_modal : 4 ≤ k → k < 6 → (o : Pair) → transitions_behind x (s, q) o ≡ leading o.0
         unfolding transitions_behind
         behind_modal a b o =
-            ap (λ (ts : List ℕ). occurrences eqb o.0 (map (transition_target x.system) ts))
+            ap (λ (ts : List ℕ). leading_to x ts o.0)
             (entry_moving x q k l r s both a (omega arith))
 
         counts_modal : 4 ≤ k → k < 6 → map (transitions_behind x (s, q)) (targets x (s, q))
@@ -140,7 +136,7 @@ module _ (x : Input) (compiled : Compiled) (matched : MatchRows) (t : Tables x c
       behind-none : (o : Pair) → transitions_behind x (s, q) o ≡ 0
       unfolding transitions_behind occurrences
       behind-none o =
-          ap (λ (ts : List ℕ). occurrences eqb o.0 (map (transition_target x.system) ts))
+          ap (λ (ts : List ℕ). leading_to x ts o.0)
           (entry_still x q k l r s (both l refl r refl) operands)
 
       pub kind_counts : map (transitions_behind x (s, q)) (targets x (s, q)) ≡ zeros (operands_of k l r)

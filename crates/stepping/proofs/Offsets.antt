@@ -17,7 +17,7 @@ use Rattle.pairs.proofs.Uses.{length-keys}
 use Rattle.settling.specs.declared.Counters.{Counters}
 use Rattle.settling.specs.Stand.{waiting_of, edges_of, stand_of, settled_in, start_in, degree_in, degrees_in}
 use Rattle.settling.specs.Good.{edges_due, Good}
-use Rattle.settling.proofs.Buffer.{length_edges, count_unsettled}
+use Rattle.settling.proofs.Buffer.{length_edges, degree_unsettled}
 use Rattle.stepping.proofs.Steps.{length-edges_for}
 
 module _ (targets : ℕ → List ℕ) (behind : ℕ → ℕ → ℕ) (root v e : ℕ) (w : List ℕ) (c : Counters)
@@ -26,9 +26,9 @@ module _ (targets : ℕ → List ℕ) (behind : ℕ → ℕ → ℕ) (root v e :
   count = length-keys w v c.known
 
   -- the degree of a settled vertex is the number of its edges
-  pub count_settled : (u : ℕ) → Settled (stand_of w v c) u
+  pub degree_settled : (u : ℕ) → Settled (stand_of w v c) u
       → degree_in w v u ≡ edges_due targets (get_or (keys_of w v c.known) u root)
-  count_settled u s =
+  degree_settled u s =
       let p = g.stretches u s in
       let start = start_in w v u in
       let many = degree_in w v u in
@@ -51,9 +51,9 @@ module _ (targets : ℕ → List ℕ) (behind : ℕ → ℕ → ℕ) (root v e :
           → degrees_in w v u ≡ sum_below (edges_due targets) root (stand_of w v c) u
           → degrees_in w v u + degree_in w v u ≡ sum_below (edges_due targets) root (stand_of w v c) (suc u)
       go (inl s) ih =
-          omega (arith, count_settled u s, ih, sum_settles (edges_due targets) root (stand_of w v c) u s.1)
+          omega (arith, degree_settled u s, ih, sum_settles (edges_due targets) root (stand_of w v c) u s.1)
       go (inr m) ih =
-          let d = count_unsettled w v u (waits_unsettled u h m) in
+          let d = degree_unsettled w v u (waits_unsettled u h m) in
           omega (arith, d, ih, sum_waits (edges_due targets) root (stand_of w v c) u m)
 
   -- the last offset is the number of edges

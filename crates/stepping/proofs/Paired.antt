@@ -17,23 +17,22 @@ use Rattle.rules.specs.Walk.{Stand, walk}
 use Rattle.rules.specs.Game.{edge_count}
 use Rattle.rules.specs.Run.{walk_of, vertices_of, exceeds}
 use Rattle.tables.specs.Good.{GoodInput}
-use Rattle.lists.proofs.Members.{in_at, at-any, map_default}
+use Rattle.lists.proofs.Members.{in_at}
 use Rattle.lists.proofs.Equalities.{number_equality, pair_equality}
 use Rattle.walks.specs.Sums.{Settled, sum_below, sum_settled}
 use Rattle.walks.proofs.Steps.{sound}
 use Rattle.walks.proofs.Rename.{renamed, walk_map, sum_renamed}
-use Rattle.arena.specs.Arena.{Inside}
 use Rattle.theorems.proofs.Vertices.{length_vertices, count-edges}
 use Rattle.work_slice.specs.Regions.{region}
-use Rattle.pairs.specs.Table.{key_at, state_at, item_at, keys_of}
-use Rattle.pairs.proofs.Uses.{length-keys, key_same, key-pair, key_item_below, key_word}
+use Rattle.pairs.specs.Table.{keys_of}
+use Rattle.pairs.proofs.Uses.{length-keys}
 use Rattle.settling.specs.declared.Counters.{Counters}
 use Rattle.settling.specs.Keys.{pair_key, key_targets, key_behind, root_key}
 use Rattle.settling.specs.Stand.{stand_of, waiting_of, settled_in, start_in, degree_in}
 use Rattle.settling.specs.Good.{edges_due, Exceeding, Stretch, WalkMade}
 use Rattle.settling.proofs.Buffer.{length-waiting_in}
-use Rattle.stepping.proofs.Keys.{alike, moved, reached_inside, item_fits}
-use Rattle.stepping.proofs.Offsets.{count_settled, waits_unsettled}
+use Rattle.stepping.proofs.Keys.{alike, moved}
+use Rattle.stepping.proofs.Offsets.{waits_unsettled}
 use Rattle.lists.proofs.Tests.{or_left, or_right}
 
 -- ---- lists
@@ -138,28 +137,6 @@ module _ (x : Input) (good : GoodInput x) where
         ) refl
 
     module _ (u : ℕ) (h : u < length (walk_of x k).known) where
-      -- the pair of vertex u
-      abbrev pub pair_at : Pair
-      pair_at = get_or (walk_of x k).known u (initial_pair x)
-
-      pub pair_inside : Inside x pair_at
-      pair_inside = reached_inside x good pair_at (at_reached k u h)
-
-      key-at : get_or (keys_of w v c.known) u (root_key x) ≡ pair_key pair_at
-      key-at = ap (λ (l : List ℕ). get_or l u (root_key x)) known_pairs ∙ map_default pair_key (walk_of x k).known u (initial_pair x)
-
-      words-at : (state_at w v u ≡ pair_at.0) × (item_at w v u ≡ pair_at.1)
-      words-at =
-          let b : u < c.known = omega (arith, known_count) in
-          key_same (state_at w v u) (item_at w v u) pair_at.0 pair_at.1 (key_item_below (key_at w v u)) (item_fits x good pair_at pair_inside)
-          (sym (key-pair (key_at w v u))
-          ∙ sym (key_word w v c.known u b)
-          ∙ sym (at-any (keys_of w v c.known) u (root_key x) 0 (omega (arith, length-keys w v c.known)))
-          ∙ key-at)
-
-      pub item-at : item_at w v u ≡ pair_at.1
-      item-at = words-at.1
-
       -- where it waits it is not settled
       pub waits_at : In u (walk_of x k).waiting → settled_in w v u ≡ false
       waits_at i =
@@ -176,9 +153,3 @@ module _ (x : Input) (good : GoodInput x) where
 
         pub stretch_inside : start_in w v u + degree_in w v u ≤ c.edges
         stretch_inside = stretch.inside
-
-        pub degree_at : degree_in w v u ≡ edges_due (targets x) pair_at
-        degree_at =
-            count_settled (key_targets x) (key_behind x) (root_key x) v e w c m.good u settled_key
-            ∙ ap (edges_due (key_targets x)) key-at
-            ∙ weights k u h

@@ -2,7 +2,7 @@
 use mathlib.Core.Path.{◌≡◌, refl, sym, ◌∙◌, ap, ap₂, subst, subst₂}
 use mathlib.Core.List.{List, [], ◌∷◌}
 use mathlib.Core.Logic.{inl}
-use Prim.Native.Nat.{ℕ, ◌+◌, ◌-◌, ◌*◌, ◌≤◌, ◌<◌}
+use Prim.Native.Nat.{ℕ, ◌+◌, ◌-◌, ◌*◌, ◌<◌}
 use native.Mathlib.Omega.{arith}
 use lib.Dec.{eqb, lit≤}
 use lib.ListN.{length}
@@ -19,20 +19,10 @@ use Rattle.pairs.specs.Table.{keys_in, keys_of, Started}
 use Rattle.pairs.proofs.Uses.{table_kept, length-keys}
 use Rattle.settling.specs.declared.Counters.{Counters}
 use Rattle.settling.specs.Stand.{waiting_in, waiting_of, stand_of}
-use Rattle.settling.specs.Made.{Ready, Marks, Meeting, Cleared, Sized}
+use Rattle.settling.specs.Made.{Ready, Marks, Meeting, Sized}
 use Rattle.settling.specs.Good.{edges_due, WalkMade}
 use Rattle.settling.proofs.Buffer.{unsettled_in}
-use Rattle.settling.proofs.Make.{marks_rest}
-
--- ---- clearing
-
--- a region that was cleared
-pub region_cleared : (r v : ℕ) (w w' : List ℕ) → Zeroed w w' (r * v + 0) (r * v + v) → Cleared w w' v r
-region_cleared r v w w' z =
-    record {
-      none = λ i h. subst (λ (x : ℕ). x ≤ 0) (sym (zeroed_region r v w w' z i h)) (omega arith);
-      others = λ s d. zeroed_other s r v w w' d z;
-    }
+use Rattle.settling.proofs.Make.{marks_bounded}
 
 -- ---- the root
 
@@ -49,7 +39,10 @@ no_counts = record { known = 0; settled = 0; edges = 0; waiting = 0 }
 
 -- the words are started, their marks cleared, and then their degrees
 module _ (w w₁ wₘ w₂ : List ℕ) (v e : ℕ) (z : Sized w v e) (s : Started w w₁ v)
-    (k : Cleared w₁ wₘ v 7) (k₆ : Cleared wₘ w₂ v 6) (long : length w₂ ≡ length w) where
+    (k : Zeroed w₁ wₘ (7 * v + 0) (7 * v + v)) (k₆ : Zeroed wₘ w₂ (6 * v + 0) (6 * v + v)) (long : length w₂ ≡ length w) where
+  same_region : (r : ℕ) → (r ≡ 6 → ⊥) → region r v w₂ ≡ region r v wₘ
+  same_region r d = zeroed_other r 6 v wₘ w₂ d k₆
+
   pub empty_ready : Ready w₂ v e no_counts
   empty_ready =
       record {
@@ -57,7 +50,7 @@ module _ (w w₁ wₘ w₂ : List ℕ) (v e : ℕ) (z : Sized w v e) (s : Starte
         most = z.most;
         most-edges = z.most-edges;
         whole = omega (arith, z.whole);
-        table = table_kept w₁ w₂ v 0 (λ r h. k₆.others r (omega arith) ∙ k.others r (omega arith)) s.table;
+        table = table_kept w₁ w₂ v 0 (λ r h. same_region r (omega arith) ∙ zeroed_other r 7 v w₁ wₘ (omega arith) k) s.table;
         stack = omega arith;
         buffer = omega arith;
       }
@@ -106,12 +99,14 @@ module _ (w w₁ wₘ w₂ : List ℕ) (v e : ℕ) (z : Sized w v e) (s : Starte
                   sound = subst₂ (Sound targets root) (sym keys₃) (sym waits₃) (sound_start number_equality targets root);
                   balance = omega (arith, p.balance, p.same_settled);
                   marks =
-                      subst (Marks w₃ v) (sym p.same_edges) (marks_rest w₂ w₃ v 0 p.rest
-                      (λ j h. subst (λ (l : List ℕ). word l j ≤ 0) (sym (k₆.others 7 (omega arith))) (k.none j h)));
+                      subst (Marks w₃ v) (sym p.same_edges) (marks_bounded w₂ w₃ v 0 p.rest
+                      (λ j h.
+                      let same = ap (λ (l : List ℕ). word l j) (same_region 7 (omega arith)) in
+                      omega (arith, same, zeroed_region 7 v w₁ wₘ k j h)));
                   total = p.same_edges ∙ sym (ap (sum_settled (edges_due targets) root) stands₃ ∙ no_sum (edges_due targets) root);
                   stretches = λ y (h, out). absurd (out (subst (In y) (sym waits₃) (inl (omega (arith, one, length-keys w₃ v c.known)))));
                   unsettled = λ y h out.
-                      let same = sym (rest_region 5 6 v w₂ w₃ p.rest (lit≤ tt)) in
-                      unsettled_in w₃ v y (subst (λ (l : List ℕ). word l y ≤ 0) same (k₆.none y h));
+                      let same = ap (λ (l : List ℕ). word l y) (rest_region 5 6 v w₂ w₃ p.rest (lit≤ tt)) in
+                      unsettled_in w₃ v y (omega (arith, same, zeroed_region 6 v wₘ w₂ k₆ y h));
                 };
           }

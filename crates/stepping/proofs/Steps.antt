@@ -306,8 +306,8 @@ module _ (targets : ℕ → List ℕ) (behind : ℕ → ℕ → ℕ) (root v e :
             start_other y d =
                 ap (λ (l : List ℕ). word l y) starts₃ ∙ get_or-set_other (region 5 v w) u y c.edges 0 d
 
-            count_other : (y : ℕ) → (y ≡ u → ⊥) → word (region 6 v w₃) y ≡ word (region 6 v w) y
-            count_other y d =
+            degree_other : (y : ℕ) → (y ≡ u → ⊥) → word (region 6 v w₃) y ≡ word (region 6 v w) y
+            degree_other y d =
                 ap (λ (l : List ℕ). word l y) degrees₃
                 ∙ get_or-set_other (region 6 v w) u y (suc (c₃.edges - c.edges)) 0 d
 
@@ -316,11 +316,11 @@ module _ (targets : ℕ → List ℕ) (behind : ℕ → ℕ → ℕ) (root v e :
                 → Stretch targets behind root w v e c y → Stretch targets behind root w₃ v e c₃ y
             stretch_old y h d out p =
                 let s : start_in w₃ v y ≡ start_in w v y = start_other y d in
-                let n : degree_in w₃ v y ≡ degree_in w v y = ap (λ (k : ℕ). k - 1) (count_other y d) in
+                let n : degree_in w₃ v y ≡ degree_in w v y = ap (λ (k : ℕ). k - 1) (degree_other y d) in
                 let st = start_in w v y in
                 let ct = degree_in w v y in
                 record {
-                  settled = settled_same w w₃ v y (count_other y d) ∙ p.settled;
+                  settled = settled_same w w₃ v y (degree_other y d) ∙ p.settled;
                   inside = omega (arith, s, n, p.inside, edges₃);
                   row =
                       ap₂ (λ (k l : ℕ). take k (drop l (edges_of w₃ v e c₃.edges))) n s
@@ -376,7 +376,7 @@ module _ (targets : ℕ → List ℕ) (behind : ℕ → ℕ → ℕ) (root v e :
             unsettled₃ : (y : ℕ) → y < v → (¬ Settled (stand_of w₃ v c₃) y) → settled_in w₃ v y ≡ false
             unsettled₃ y h out =
                 let d : y ≡ u → ⊥ = λ q. out (subst (Settled (stand_of w₃ v c₃)) (sym q) settled_top) in
-                settled_same w w₃ v y (count_other y d) ∙ g.unsettled y h (λ s. out (settled-kept y s))
+                settled_same w w₃ v y (degree_other y d) ∙ g.unsettled y h (λ s. out (settled-kept y s))
 
             pub step_made : StepMade targets behind root w v e c w₃ c₃
             step_made =

@@ -62,11 +62,6 @@ module _ (targets : ℕ → List ℕ) (behind : ℕ → ℕ → ℕ) (root v e k
           good = s.made.good;
         }
 
-    pub walking_end : k ≤ i → WalkMade targets behind root v e k w c
-    walking_end h =
-        let z : i ≡ k = omega (arith, s.until) in
-        record { stands = s.made.stands ∙ ap (walk eqb targets root) z; good = s.made.good }
-
 -- where a walk answers that there is no room
 pub walk_failed : (targets : ℕ → List ℕ) (behind : ℕ → ℕ → ℕ) (root v e k : ℕ) (w : List ℕ) (r : Result Counters NoRoom)
     → IsErr r → Exceeding targets root v e (walk eqb targets root k) → WalkAnswer targets behind root v e k w r

@@ -1,11 +1,12 @@
 -- Bytes appended to a text, one stretch after the other. Assumes nothing.
 use mathlib.Core.Path.{◌≡◌, refl, sym, ap, ◌∙◌, subst}
+use mathlib.Core.Bool.{Bool, true, false, not, true≢false}
 use mathlib.Core.List.{List, [], ◌++◌, append_assoc, append-nil}
 use Prim.Native.Nat.{ℕ}
 use native.Mathlib.Omega.{arith}
 use lib.ListN.{length, length-append}
 use Rattle.text_writer.specs.declared.Text.{Text}
-use Rattle.text_writer.specs.Appending.{Room, Appended}
+use Rattle.text_writer.specs.Appending.{unless, Room, Appended}
 use Rattle.text_writer.proofs.Lines.{wrote_none, wrote_both}
 
 pub appended_none : {text : Text} → Appended [] text text
@@ -23,15 +24,24 @@ pub appended_both : {s s' : List ℕ} {text text' text'' : Text} → Appended s 
 appended_both a b =
     record { same = b.same ∙ a.same; long = b.long ∙ a.long; wrote = wrote_both a.wrote b.wrote }
 
+-- ---- what is appended if it is new, or not if it was met before
+
+pub unless_new : (b new : Bool) (s : List ℕ) → new ≡ not b → new ≡ true → unless b s ≡ s
+unfolding unless
+unless_new true new s e f = absurd (true≢false (sym f ∙ e))
+unless_new false new s e f = refl
+
+pub unless_old : (b new : Bool) (s : List ℕ) → new ≡ not b → new ≡ false → unless b s ≡ []
+unfolding unless
+unless_old true new s e f = refl
+unless_old false new s e f = absurd (true≢false (sym e ∙ f))
+
 -- ---- of a stretch, the bytes `left` are left to append
 
 pub record Left (left : List ℕ) (text : Text) (stretch : List ℕ) (text₀ : Text) : Type 0 where
   pub done : List ℕ
   pub grown : Appended done text₀ text
   pub whole : done ++ left ≡ stretch
-
-pub left_start : {stretch : List ℕ} {text : Text} → Left stretch text stretch text
-left_start = record { done = []; grown = appended_none; whole = refl }
 
 pub left_as : {left left' : List ℕ} {text : Text} {stretch : List ℕ} {text₀ : Text} → left ≡ left'
     → Left left text stretch text₀ → Left left' text stretch text₀

@@ -1,12 +1,15 @@
--- How many digits a number has. Assumes nothing.
-use mathlib.Core.Path.{◌≡◌, ap, ◌∙◌}
-use mathlib.Core.List.{[], ◌∷◌}
+-- The digits of a number: how many there are, and that std's are the rules'. Assumes nothing.
+use mathlib.Core.Path.{◌≡◌, sym, ap, ◌∙◌}
+use mathlib.Core.List.{List, [], ◌∷◌, ◌++◌}
 use Prim.Native.Nat.{ℕ, zero, suc, ◌+◌, ◌*◌, ◌/◌, ◌%◌, ◌^◌, ◌≤◌, ◌<◌}
+use native.Mathlib.Decide.{dec_lt}
 use native.Mathlib.Omega.{arith}
 use lib.ListN.{length, length-append}
 use Rattle.std.specs.declared.option.Option.{Option}
 use Rattle.std.specs.declared.option.Option.TheVariants.{None, Some}
+use Rattle.std.specs.Fmt.{decimal as std_decimal}
 use Rattle.std.specs.Option.{IfNone, IfSome, unwrap_or}
+use Rattle.std.proofs.lemmas.Fmt.{decimal_digit, decimal_step}
 use Rattle.std.proofs.Math.Nat.{pow-suc}
 use Rattle.rules.specs.Texts.{decimal}
 use Rattle.game_texts.proofs.Decimals.{decimal-one, decimal_more}
@@ -30,3 +33,21 @@ pub count_length : (n : ℕ) (log : Option ℕ) → IfNone log (n ≡ 0) → IfS
     → IfSome log (λ k. n < 10 * 10 ^ k) → 1 + unwrap_or log 0 ≡ length (decimal n)
 count_length n None z h l = omega (arith, one-length n (omega (arith, z)))
 count_length n (Some k) z h l = omega (arith, power_length k n h l)
+
+-- ---- the library writes the same digits
+
+-- of the numbers below k
+same_below : (k n : ℕ) → n < k → n < 2 ^ 64 → std_decimal n ≡ decimal n
+same_below zero n l h = absurd (omega arith)
+same_below (suc k) n l h = go (λ m. same_below k (n / 10) m) (dec_lt n 10)
+  where
+    go : (n / 10 < k → n / 10 < 2 ^ 64 → std_decimal (n / 10) ≡ decimal (n / 10)) → Dec (n < 10)
+        → std_decimal n ≡ decimal n
+    go ih (yes a) = decimal_digit n a ∙ sym (decimal-one n a)
+    go ih (no a) =
+        decimal_step n (omega (arith, a)) h
+        ∙ ap (λ (ds : List ℕ). ds ++ ((48 + n % 10) ∷ [])) (ih (omega (arith, a)) (omega arith))
+        ∙ sym (decimal_more n (omega (arith, a)))
+
+pub same_digits : (n : ℕ) → n < 2 ^ 64 → std_decimal n ≡ decimal n
+same_digits n h = same_below (suc n) n (omega arith) h

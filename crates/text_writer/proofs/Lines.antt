@@ -1,11 +1,11 @@
 -- Stretches one after the other, the parts of lines, and zeros past a text. Assumes nothing.
-use mathlib.Core.Path.{◌≡◌, refl, sym, ap, ◌∙◌, subst}
+use mathlib.Core.Path.{◌≡◌, refl, sym, ap, ap₂, ◌∙◌, subst}
 use mathlib.Core.List.{List, [], ◌∷◌, ◌++◌, append_assoc, append-nil}
 use Prim.Native.Nat.{ℕ, ◌+◌, ◌-◌, ◌≤◌, ◌<◌}
 use native.Mathlib.Numerals.{add-one}
 use native.Mathlib.Omega.{arith}
 use lib.ListN.{length, take, drop, replicate, length-append, drop_of_length-le}
-use lib.Seq.{drop-cons, length-take-le}
+use lib.Seq.{drop-cons, drop-drop, length-take-le, take-add, take-append_seam, drop-append_seam}
 use Rattle.rules.specs.Lists.{word}
 use Rattle.rules.specs.Game.{padded}
 use Rattle.rules.specs.Texts.{decimal, spaced, line}
@@ -33,6 +33,22 @@ wrote_both {at} {p} {r} {s} {s'} {text} {text'} w v =
       past = omega (arith, w.past, v.past, length-append s s');
       words = v.words ∙ ap (λ (l : List ℕ). l ++ s') w.words ∙ append_assoc (take at text) s s';
       rest = v.rest ∙ same_later p r text text' w.rest (omega (arith, v.past));
+    }
+
+-- a stretch that stands behind the same words and in front of the same ones
+pub wrote_between : (at : ℕ) (stretch text text' : List ℕ) → at ≤ length text → take at text' ≡ take at text
+    → drop at text' ≡ stretch ++ drop (at + length stretch) text → Wrote at stretch text text' (at + length stretch)
+wrote_between at stretch text text' fits before behind =
+    let past : List ℕ = drop (at + length stretch) text in
+    record {
+      past = refl;
+      words =
+          take-add at (length stretch) text'
+          ∙ ap₂ ◌++◌ before (ap (take (length stretch)) behind ∙ take-append_seam stretch past);
+      rest =
+          sym (drop-drop (length stretch) at text' ∙ ap (λ (n : ℕ). drop n text') (omega arith))
+          ∙ ap (drop (length stretch)) behind
+          ∙ drop-append_seam stretch past;
     }
 
 -- ---- numbers and lines

@@ -1,5 +1,5 @@
 -- What a text holds, and what is appended to it. Assumes nothing: these are definitions.
-use Rattle.std.specs.Prelude.{◌≡◌, List, ℕ, ◌+◌, ◌≤◌, length, take}
+use Rattle.std.specs.Prelude.{◌≡◌, Bool, true, false, List, [], ℕ, ◌+◌, ◌≤◌, length, take}
 use Rattle.std.specs.Borrow.{GName}
 use Rattle.words.specs.Stretches.{Wrote}
 use Rattle.text_writer.specs.declared.Text.{Text}
@@ -19,6 +19,11 @@ written_size text = text.size
 -- what is written so far
 abbrev pub written : Text → List ℕ
 written text = take text.size text.bytes.now
+
+-- what is appended, unless the test holds: a number that was met before is not given again
+unfoldable pub unless : Bool → List ℕ → List ℕ
+unless true s = []
+unless false s = s
 
 -- the bytes fit behind it
 abbrev pub Room : Text → List ℕ → Type 0

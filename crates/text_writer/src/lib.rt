@@ -67,17 +67,15 @@ impl<'a> Text<'a> {
         self.size = end;
     }
 
-    // The digits of a number: first those in front of the last one.
-    // Kept (no plainer): `itoa::write_digits` of the library writes them backwards from an end, so the end would have
-    // to be worked out first, by `digit_count`, and kept after: three statements for these two.
+    // The digits of a number. The library writes them from the last one back, so the text's size is read and kept once
+    // for a number and not for each digit.
     pub fn put_decimal(&mut self, number: usize)
         requires { Room self.old (decimal number) }
         ensures { Appended (decimal number) self.old self.new }
     {
-        if 9 < number {
-            self.put_decimal(number / 10);
-        }
-        self.put_byte(b'0' + (number % 10) as u8);
+        let end = self.size + digit_count(number);
+        itoa::write_digits(number as u64, self.bytes, end);
+        self.size = end;
     }
 
     // A space and a number.

@@ -135,7 +135,10 @@ module _ (x : Input) (v e k : ℕ) (game work : List ℕ) (passed : refusal x (r
         record {
           placed = record { known = known; most = (r.most, r.most-edges); whole = r.whole };
           few = few;
-          stretches = λ u h p. stretches u (omega (arith, known_count x good k v e work c made)) p (in_or number_equality u (walk_of x k).waiting);
+          edged =
+              record {
+                stretch = λ u h p. stretches u (omega (arith, known_count x good k v e work c made)) p (in_or number_equality u (walk_of x k).waiting);
+              };
           total = offset_last (key_targets x) (key_behind x) (root_key x) v e work c made.good;
           room = omega (arith, l);
         }

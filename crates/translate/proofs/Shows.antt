@@ -4,7 +4,7 @@ use mathlib.Core.Path.{◌≡◌, refl, sym, ap, ◌∙◌, subst}
 use mathlib.Core.Bool.{true, false, cond}
 use mathlib.Core.List.{List, [], ◌∷◌, map, map-map}
 use mathlib.Core.Logic.{◌⊎◌, inl, inr}
-use Prim.Native.Nat.{ℕ, zero, suc, ◌+◌, ◌-◌, ◌≤◌, ◌<◌, max}
+use Prim.Native.Nat.{ℕ, zero, suc, ◌+◌, ◌≤◌, ◌<◌, max}
 use native.Mathlib.Omega.{arith}
 use lib.ListN.{length, get_or, take, drop, length-map}
 use lib.Dec.{eqb}
@@ -36,7 +36,7 @@ use Rattle.settling.specs.Stand.{waiting_of, edges_of, counts_of, edges_for, cou
 use Rattle.settling.specs.Good.{Good, Stretch}
 use Rattle.item_table.specs.Entries.{ShownAt, ItemTable, Ranks, kind_owner}
 use Rattle.item_table.proofs.Steps.{entry_owner, ranks_priority}
-use Rattle.game_writer.specs.Shown.{item_in, buffer_end, loops_in, shown_player, shown_owner, shown_priority, shown_edges, shown_vertex, shown_vertices}
+use Rattle.game_writer.specs.Shown.{item_in, first_target, loops_in, shown_player, shown_owner, shown_priority, shown_edges, shown_vertex, shown_vertices}
 use Rattle.game_writer.proofs.Vertices.{owner-settled, edges_settled, first_edge, shown_waiting}
 use Rattle.theorems.proofs.Read.{settled-owner}
 use Rattle.stepping.proofs.Keys.{reached_inside, item_fits, alike, moved, behind_moved}
@@ -201,23 +201,19 @@ module _ (rank : Ranking) (x : Input) (good : GoodInput x) (k : ℕ) (kinds left
       let same : t ≡ pair u = sym (position_at pair_equality t st.known (initial_pair x) known) ∙ ap (λ (i : ℕ). get_or st.known i (initial_pair x)) e in
       no_self_target x good (pair u) (reached_inside x good (pair u) (pair_reached u h)) (subst (λ (q : Pair). In q (targets x (pair u))) same m)
 
-  -- the word that tells the target of its first edge
-  abbrev first_word : ℕ → ℕ
-  first_word u = word w (buffer_end v e 0 - suc (start_in w v u))
-
   settled-priority : (u : ℕ) (o : Player) (p : ℕ) (ts : List Pair) → 0 < degree_in w v u
       → start_in w v u + degree_in w v u ≤ c.edges → targets_of u ≡ target_words (settled u o p ts)
       → ((t : Pair) → In t ts → ¬ (position same_pair t st.known ≡ u))
       → cond (loops_in w v e u) (stuck_priority o) p ≡ (settled u o p ts).priority
   unfolding settled_vertex totalised totalised_by loops_in ruled_edge
   settled-priority u o p [] some inside f other =
-      let first : first_word u ≡ u = first_edge w v e u c.edges some inside u [] f in
-      rw (lt-ltb 0 (degree_in w v u) some, eq-eqb (first_word u) u first) refl
+      let first : first_target w v e u ≡ u = first_edge w v e u c.edges some inside u [] f in
+      rw (lt-ltb 0 (degree_in w v u) some, eq-eqb (first_target w v e u) u first) refl
   settled-priority u o p (t ∷ ts) some inside f other =
       let more : List ℕ = map (λ (d : Edge). d.target) (ruled_of u o p ts).edges in
-      let first : first_word u ≡ position same_pair t st.known
+      let first : first_target w v e u ≡ position same_pair t st.known
       = first_edge w v e u c.edges some inside (position same_pair t st.known) more f in
-      let apart = ne_eqb (first_word u) u (λ q. other t (inl refl) (sym first ∙ q)) in
+      let apart = ne_eqb (first_target w v e u) u (λ q. other t (inl refl) (sym first ∙ q)) in
       rw (lt-ltb 0 (degree_in w v u) some, apart) refl
 
   abbrev ruled : ℕ → Vertex

@@ -5,7 +5,7 @@ use mathlib.Core.List.{List, [], ◌∷◌, ◌++◌, map, append_assoc, append-
 use Prim.Native.Nat.{ℕ, ◌+◌, ◌-◌, ◌≤◌, ◌<◌}
 use native.Mathlib.Numerals.{add-one}
 use native.Mathlib.Omega.{arith}
-use lib.ListN.{length, take, drop, set, length-append, length-set, length-drop, length-map, drop_of_length-le}
+use lib.ListN.{length, take, drop, set, length-append, length-set, length-drop, length-map}
 use lib.Seq.{take-suc-set, get_or-drop, drop-cons, drop-set-lt, take_all}
 use Rattle.rules.specs.Lists.{word}
 use Rattle.words.specs.Stretches.{Wrote}
@@ -56,11 +56,6 @@ pub inside : {at x : ℕ} {left out : List ℕ} {at₀ : ℕ} {stretch out₀ : 
     → at < length out
 inside h w = omega (arith, w.long, w.last)
 
--- what is left fits
-pub fits : {at : ℕ} {left out : List ℕ} {at₀ : ℕ} {stretch out₀ : List ℕ} → at₀ + length stretch ≤ length out₀ → Writing at left out at₀ stretch out₀
-    → at + length left ≤ length out
-fits h w = omega (arith, w.long, w.last)
-
 -- ---- a word for each element of a list, from element i on
 
 -- there is room for the next word
@@ -71,10 +66,6 @@ carry_room f xs i h k w = omega (arith, w.long, w.last, length-map xs f, length-
 pub carry_put : (f : ℕ → ℕ) (xs : List ℕ) (i : ℕ) {p at₀ : ℕ} {stretch out out₀ : List ℕ} → i < length xs → p < length out
     → Writing p (map f (drop i xs)) out at₀ stretch out₀ → Writing (p + 1) (map f (drop (i + 1) xs)) (set out p (f (word xs i))) at₀ stretch out₀
 carry_put f xs i h l w = put l (turn (rw (add-one i) (ap (map f) (drop-cons xs i 0 h))) w)
-
-pub carry_done : (f : ℕ → ℕ) (xs : List ℕ) (i : ℕ) {p at₀ : ℕ} {stretch out out₀ : List ℕ} → length xs ≤ i
-    → Writing p (map f (drop i xs)) out at₀ stretch out₀ → Wrote at₀ stretch out₀ out p
-carry_done f xs i h w = done (turn (ap (map f) (drop_of_length-le xs h)) w)
 
 -- the words from a place on, as they are lent
 lent_rest : (ws : List ℕ) (from : ℕ) → take (length ws - from) (drop from ws) ≡ drop from ws

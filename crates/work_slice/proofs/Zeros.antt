@@ -42,7 +42,8 @@ module _ (a b : ℕ) (w zeros : List ℕ) (h : a ≤ b) (fits : b ≤ length w) 
 pub zeroed_region : (r v : ℕ) (w w' : List ℕ) → Zeroed w w' (r * v + 0) (r * v + v) → (i : ℕ) → i < v → word (region r v w') i ≡ 0
 zeroed_region r v w w' z i h = sym (word_at r v i w' h) ∙ z.none (r * v + i) (omega arith) (omega arith)
 
-before_zeros : (s v a : ℕ) (w w' : List ℕ) → take a w' ≡ take a w → s * v + v ≤ a → region s v w' ≡ region s v w
+-- a region before the zeros is as it was, and one behind them
+pub before_zeros : (s v a : ℕ) (w w' : List ℕ) → take a w' ≡ take a w → s * v + v ≤ a → region s v w' ≡ region s v w
 unfolding region
 before_zeros s v a w w' e h = sym (cut w') ∙ ap (λ (l : List ℕ). drop (s * v) (take (s * v + v) l)) e ∙ cut w
   where

@@ -1,6 +1,6 @@
 -- One flat list of words, seen as regions of v words each, and what stands behind them (document 01, "Words handed
 -- over": the work slice). Assumes nothing: these are definitions.
-use Rattle.std.specs.Prelude.{◌≡◌, ℕ, ◌+◌, ◌*◌, ◌≤◌, ◌<◌, List, length, set, take, drop}
+use Rattle.std.specs.Prelude.{◌≡◌, ℕ, suc, ◌+◌, ◌-◌, ◌*◌, ◌≤◌, ◌<◌, List, length, set, take, drop}
 use Rattle.rules.specs.Lists.{word}
 use Rattle.work_slice.specs.declared.Region.{Region}
 use Rattle.work_slice.specs.declared.Region.TheVariants.{Slots, Keys, Stack, Starts, Degrees, Marks}
@@ -28,3 +28,14 @@ pub record Zeroed (w w' : List ℕ) (a b : ℕ) : Type 0 where
   pub none : (p : ℕ) → a ≤ p → p < b → word w' p ≡ 0
   pub before : take a w' ≡ take a w
   pub behind : drop b w' ≡ drop b w
+
+-- ---- the edges, behind the eight regions: column 0 has their targets and column 1 their counts, each with a word for
+-- each of the e edges that fit
+
+-- where a column ends
+abbrev pub edges_end : (v e column : ℕ) → ℕ
+edges_end v e column = 8 * v + suc column * e
+
+-- the word that the edge at place i has in a column, which is filled from its end downwards
+abbrev pub edge_word : (v e column i : ℕ) → ℕ
+edge_word v e column i = edges_end v e column - suc i

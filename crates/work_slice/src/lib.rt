@@ -9,7 +9,7 @@
 ghost use Rattle.std.specs.Prelude.{◌≡◌, ◌+◌, ◌*◌, ◌<◌, ◌≤◌, length};
 ghost use Rattle.rules.specs.Game.{edge_columns};
 ghost use Rattle.rules.specs.Lists.{word};
-ghost use Rattle.work_slice.specs.Regions.{region_code, region, put_word, Zeroed};
+ghost use Rattle.work_slice.specs.Regions.{region_code, region, put_word, Zeroed, edges_end};
 
 // How many regions there are: the edges begin behind them.
 const REGIONS: usize = 8;
@@ -72,7 +72,7 @@ pub fn clear(work: &mut [u32], vertices: u32, area: Region, from: u32, to: u32)
 // Where a column of the edges ends in the work slice: it is filled from there downwards.
 pub fn edges_end(vertices: u32, edges: u32, column: usize) -> usize
     requires { column < length edge_columns }
-    ensures { result ≡ 8 * vertices + (column + 1) * edges }
+    ensures { result ≡ edges_end vertices edges column }
 {
     REGIONS * (vertices as usize) + (column + 1) * (edges as usize)
 }

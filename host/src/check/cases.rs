@@ -257,6 +257,7 @@ fn readings() -> Vec<Case> {
         ),
         run("B4", Model { actions: words("4 0 3 0 0 0 3 0 0"), formula: twice, ..base() }, [0, 5, 5, 6]),
         run("B5", model(LOOP, "5 2 7 0 7 0 3 0 0 0 0"), [0, 7, 7, 8]),
+        whole("F1", model(STUCK, CASE_1), "2 2 0  0 0  0 1  0 1 2  1 1  0 0"),
         run(
             "no labels, no actions",
             Model { labels: words("0 0"), actions: words("0"), ..model(STUCK, "1 1 0") },

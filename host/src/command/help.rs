@@ -45,9 +45,9 @@ Lines: `done` or `cut` with steps, vertices and edges; then for each vertex its 
 waiting), priority and targets. Words: those of a game, as restrict and dot take it. Of words and PGSolver text on
 standard output the answer goes to standard error.
 
-A box or diamond has one edge for all of its transitions to one state: those of its state that its action formula
-matches. --counts writes `2*3` for an edge to vertex 2 that has three of them behind it, `2*1` where it has one; an edge
-with none is written as without the option. Words always have the counts, PGSolver text has none.
+A box or diamond has one edge to a state however many matching transitions lead there. --counts says how many: `2*3` is
+an edge to vertex 2 with three transitions behind it, `2*1` one with a single transition; other edges are written as
+without the option. Words always have the counts, PGSolver text has none.
 
 PGSolver text: `parity 2;` with the highest vertex, then for each vertex a line `2 0 1 0,1;` with its number, priority,
 owner and successors, equal ones once. A cut game has no such text: nothing is written, and the exit status is 3.

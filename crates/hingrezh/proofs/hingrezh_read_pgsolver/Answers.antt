@@ -1,5 +1,5 @@
--- `hingrezh_read_pgsolver` meets its contract: what holds of the answer holds of the one that the lent words say. Assumes
--- nothing.
+-- `hingrezh_read_pgsolver` meets its contract: what holds of the answer holds of the one that the lent words say.
+-- Assumes nothing.
 use Rattle.hingrezh.proofs.Carried.{reading_carried}
 use Rattle.hingrezh.proofs.hingrezh_read_pgsolver.Goals as goal
 

@@ -1,5 +1,5 @@
--- `hingrezh_write_pgsolver` meets its contract: what holds of the answer holds of the one that the lent words say. Assumes
--- nothing.
+-- `hingrezh_write_pgsolver` meets its contract: what holds of the answer holds of the one that the lent words say.
+-- Assumes nothing.
 use Rattle.hingrezh.proofs.Carried.{writing_carried}
 use Rattle.hingrezh.proofs.hingrezh_write_pgsolver.Goals as goal
 

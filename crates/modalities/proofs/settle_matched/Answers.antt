@@ -5,9 +5,7 @@ use Rattle.modalities.proofs.Spaces.{marks_inside, cleared_ready, cleared_spacio
 use Rattle.modalities.proofs.settle_matched.Goals as goal
 
 pub clear_marks-requires : goal.clear_marks-requires
-clear_marks-requires c =
-    let ready = c.requires.unmarked.0.0 in
-    (ready.most, marks_inside _ _ _ _ _ _ c.mark_count-marks.ensures ready)
+clear_marks-requires c = marks_inside _ _ _ _ _ _ c.mark_count-marks.ensures c.requires.unmarked.0.0
 
 pub follow_all-requires : goal.follow_all-requires
 follow_all-requires c =

@@ -5,8 +5,8 @@ use native.Mathlib.Omega.{arith}
 use lib.ListN.{length}
 use Rattle.bitmap.specs.Marks.{marked}
 use Rattle.words.proofs.Stretches.{start, put, done}
-use Rattle.text_writer.proofs.Lines.{wrote_as}
-use Rattle.pgsolver_reader.proofs.Putting.{wrote_none, unless_new, unless_old}
+use Rattle.text_writer.proofs.Lines.{wrote_none, wrote_as}
+use Rattle.text_writer.proofs.Appending.{unless_new, unless_old}
 use Rattle.pgsolver_reader.proofs.put_new.Goals as goal
 
 pub bounds-game-end : goal.bounds-game-end

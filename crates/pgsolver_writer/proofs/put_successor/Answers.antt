@@ -6,7 +6,7 @@ use lib.ListN.{length}
 use Rattle.rules.specs.Texts.{decimal}
 use Rattle.text_writer.proofs.Appending.{appended_none, appended_as, appended_both}
 use Rattle.bitmap.specs.Marks.{marked}
-use Rattle.pgsolver_writer.proofs.Lists.{unless_new, unless_old}
+use Rattle.text_writer.proofs.Appending.{unless_new, unless_old}
 use Rattle.pgsolver_writer.proofs.put_successor.Goals as goal
 
 pub put_byte-requires : goal.put_byte-requires

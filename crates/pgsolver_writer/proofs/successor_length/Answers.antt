@@ -6,7 +6,7 @@ use lib.ListN.{length}
 use Rattle.rules.specs.Texts.{decimal}
 use Rattle.game_texts.proofs.Decimals.{decimal-word}
 use Rattle.bitmap.specs.Marks.{marked}
-use Rattle.pgsolver_writer.proofs.Lists.{unless_new, unless_old}
+use Rattle.text_writer.proofs.Appending.{unless_new, unless_old}
 use Rattle.pgsolver_writer.proofs.successor_length.Goals as goal
 
 pub returns-then-new-clause-bytes : goal.returns-then-new-clause-bytes

@@ -1,5 +1,10 @@
-use Rattle.settling.proofs.Clearing.{marks_zeroed}
+use mathlib.Core.Path.{◌≡◌}
+use Prim.Native.Nat.{◌+◌, ◌*◌}
+use native.Mathlib.Omega.{arith}
 use Rattle.settling.proofs.clear_marks.Goals as goal
 
 pub returns-then-room-marks : goal.returns-then-room-marks
-returns-then-room-marks c = marks_zeroed _ _ _ _ c.clear.ensures
+returns-then-room-marks c =
+    let v = c.args.room.vertices in
+    let z : 7 * v + v ≡ 8 * v = omega arith in
+    rw (← z) c.clear.ensures

@@ -5,7 +5,7 @@ use mathlib.Core.Path.{◌≡◌, ◌∙◌}
 use native.Mathlib.Omega.{arith}
 use Rattle.lent_input.specs.Inputs.{input_in}
 use Rattle.settling.specs.Keys.{key_targets, root_key}
-use Rattle.stepping.proofs.Starts.{no_counts, region_cleared, empty_ready, start_full, start_made}
+use Rattle.stepping.proofs.Starts.{no_counts, empty_ready, start_full, start_made}
 use Rattle.stepping.proofs.begin.Goals as goal
 
 pub meet-requires : goal.meet-requires
@@ -13,7 +13,7 @@ meet-requires c =
     let same = c.clear-2.ensures.long ∙ c.clear.ensures.long ∙ c.start.auto.work in
     let none : c.default-none.result ≡ no_counts = search rules in
     let system = c.args.input.now.good.system in (
-      rw none (empty_ready _ _ _ _ _ _ c.requires c.start.ensures (region_cleared 7 _ _ _ c.clear.ensures) (region_cleared 6 _ _ _ c.clear-2.ensures) same),
+      rw none (empty_ready _ _ _ _ _ _ c.requires c.start.ensures c.clear.ensures c.clear-2.ensures same),
       record { state_fits = omega (arith, system.initial, system.states); item_fits = omega (arith, c.scale.ensures) },
     )
 
@@ -22,13 +22,13 @@ returns-in_err-met c =
     let x = input_in c.args.input.now in
     let same = c.clear-2.ensures.long ∙ c.clear.ensures.long ∙ c.start.auto.work in
     let none : c.default-none.result ≡ no_counts = search rules in
-    start_full _ _ _ _ _ _ c.requires c.start.ensures (region_cleared 7 _ _ _ c.clear.ensures) (region_cleared 6 _ _ _ c.clear-2.ensures) same
+    start_full _ _ _ _ _ _ c.requires c.start.ensures c.clear.ensures c.clear-2.ensures same
     (key_targets x) (root_key x) (rw (c.scale.ensures, none) at c.in_err-met.ensures)
 
 pub returns : goal.returns
 returns c =
     let same = c.clear-2.ensures.long ∙ c.clear.ensures.long ∙ c.start.auto.work in
     let none : c.default-none.result ≡ no_counts = search rules in
-    start_made _ _ _ _ _ _ c.requires c.start.ensures (region_cleared 7 _ _ _ c.clear.ensures) (region_cleared 6 _ _ _ c.clear-2.ensures) same _
+    start_made _ _ _ _ _ _ c.requires c.start.ensures c.clear.ensures c.clear-2.ensures same _
     _ _ _ _ _ (rw (c.scale.ensures, none) at c.in_ok-met.ensures)
     c.meet.auto.work

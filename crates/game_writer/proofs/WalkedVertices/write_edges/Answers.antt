@@ -37,7 +37,7 @@ returns c =
     let shown = edges_at (kinds_in c.args.self.now.compiled.now) (priorities_in c.args.self.now.compiled.now)
     c.args.self.now.slots.work.now c.args.self.now.slots.vertices c.args.self.now.edge_room _ _ below in
     let known = c.at-known.ensures in
-    let count : c.in-Some.count
+    let count : c.in-Some.degree
     ≡ degree_in c.args.self.now.slots.work.now c.args.self.now.slots.vertices c.args.vertex.0
     = c.in-Some.ensures.count
     ∙ (λ i. degree_in (known.0 i).slots.work.now (known.0 i).slots.vertices (known.1 i).0) in
@@ -47,6 +47,6 @@ returns c =
     ∙ (λ i. start_in (known.0 i).slots.work.now (known.0 i).slots.vertices (known.1 i).0) in
     wrote_as (ap (map (edge_column c.args.column)) shown)
     (wrote_some c.args.self.now.slots.work.now c.args.self.now.slots.vertices c.args.self.now.edge_room c.args.vertex.0
-    c.args.column (c.buffer_end.result - c.region_word-first.result) c.in-Some.count c.requires.within.0
+    c.args.column (c.buffer_end.result - c.region_word-first.result) c.in-Some.degree c.requires.within.0
     (omega (arith, c.buffer_end.ensures, first)) count (grind (arith, below)) (grind (arith, below))
     c.copy_down.ensures)

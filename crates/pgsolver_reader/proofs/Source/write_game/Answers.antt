@@ -10,7 +10,7 @@ use Rattle.pgsolver_reader.proofs.Source.write_game.Goals as goal
 pub returns-clause-game_after : goal.returns-clause-game_after
 returns-clause-game_after c =
     let size = ap (λ (k : ℕ). c.write_vertices-end.result - k) c.game_words.ensures in
-    let within : c.write_vertices-end.result ≤ length c.write_counts.new.game
-    = omega (arith, part_within c.write_vertices-end.ensures, c.write_counts.auto.game) in
+    let within : c.write_vertices-end.result ≤ length c.write_sizes.new.game
+    = omega (arith, part_within c.write_vertices-end.ensures, c.write_sizes.auto.game) in
     assembled c.write_vertices-end.ensures size c.args.game.now _ c.write_vertices-end.auto.game
-    c.write_counts.ensures (grind (arith, common_steps))
+    c.write_sizes.ensures (grind (arith, common_steps))
