@@ -16,19 +16,16 @@ rights_in c = map (λ i. i.right) c.items
 abbrev pub priorities_in : Compiled → List ℕ
 priorities_in c = c.priorities
 
--- the multiset of each label, the first transition of every sixteenth state, the multiple of each byte
+-- the multiset of each label, the first transition of every sixteenth state
 abbrev pub classes_in : Compiled → List ℕ
 classes_in c = c.classes
 
 abbrev pub samples_in : Compiled → List ℕ
 samples_in c = c.samples
 
-abbrev pub multiples_in : Compiled → List ℕ
-multiples_in c = c.multiples
-
 -- every word is 0
 abbrev pub Blank : Compiled → Type 0
 Blank c =
     (kinds_in c ≡ replicate 2_048 0) × (lefts_in c ≡ replicate 2_048 0) × (rights_in c ≡ replicate 2_048 0)
     × (priorities_in c ≡ replicate 2_048 0) × (classes_in c ≡ replicate 4_096 0)
-    × (samples_in c ≡ replicate 4_096 0) × (multiples_in c ≡ replicate 256 0)
+    × (samples_in c ≡ replicate 4_096 0)

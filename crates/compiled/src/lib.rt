@@ -1,12 +1,10 @@
-// What a run compiles before it walks: the items and their priorities, the labels' multisets, the first transitions and
-// the byte multiples.
+// What a run compiles before it walks: the items and their priorities, the labels' multisets and the first transitions.
 #![tactic(auto)]
 
 ghost use Rattle.std.specs.Prelude.{◌≡◌, ◌<◌};
 ghost use Rattle.rules.specs.Lists.{word};
 ghost use Rattle.node_kinds.specs.Codes.{formula_code};
-ghost use Rattle.compiled.specs.Tables.{kinds_in, lefts_in, rights_in, priorities_in, classes_in, samples_in};
-ghost use Rattle.compiled.specs.Tables.{multiples_in, Blank};
+ghost use Rattle.compiled.specs.Tables.{kinds_in, lefts_in, rights_in, priorities_in, classes_in, samples_in, Blank};
 
 use node_kinds::{FormulaKind, Shape};
 use player::Priority;
@@ -19,9 +17,6 @@ pub const LABELS: usize = 4096;
 
 // As many first transitions as are noted: that of every sixteenth state.
 const SAMPLES: usize = 4096;
-
-// As many values as a byte has.
-const BYTES: usize = 256;
 
 // What an item is: its kind, and its operands by their numbers.
 pub type Item = Shape<FormulaKind>;
@@ -48,8 +43,6 @@ pub struct Compiled {
     pub classes: [u32; LABELS],
     // The first transition of every sixteenth state.
     pub samples: [u32; SAMPLES],
-    // The multiple of each byte.
-    pub multiples: [u32; BYTES],
 }
 
 impl Compiled {
@@ -62,7 +55,6 @@ impl Compiled {
             priorities: [0; ITEMS],
             classes: [0; LABELS],
             samples: [0; SAMPLES],
-            multiples: [0; BYTES],
         }
     }
 
@@ -98,12 +90,5 @@ impl Compiled {
         ensures { result.now ≡ samples_in self.now }
     {
         &self.samples
-    }
-
-    // The byte multiples.
-    pub fn multiples(&self) -> &[u32]
-        ensures { result.now ≡ multiples_in self.now }
-    {
-        &self.multiples
     }
 }

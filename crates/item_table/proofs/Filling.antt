@@ -220,7 +220,7 @@ table_kept x good t u k s p =
 -- ---- what was written
 
 pub only_none : (t : Compiled) → ItemsOnly t t
-only_none t = record { sized = refl; classes = refl; samples = refl; multiples = refl }
+only_none t = record { sized = refl; classes = refl; samples = refl }
 
 pub only_more : (t u v : Compiled) → ItemsOnly t u → ItemsOnly u v → ItemsOnly t v
 only_more t u v a b =
@@ -228,5 +228,4 @@ only_more t u v a b =
       sized = b.sized ∙ a.sized;
       classes = b.classes ∙ a.classes;
       samples = b.samples ∙ a.samples;
-      multiples = b.multiples ∙ a.multiples;
     }

@@ -15,7 +15,7 @@ use Rattle.node_kinds.specs.Codes.{formula_code}
 use Rattle.node_kinds.specs.declared.FormulaKind.{FormulaKind}
 use Rattle.node_kinds.specs.declared.Shape.{Shape}
 use Rattle.compiled.specs.declared.Compiled.{Compiled}
-use Rattle.compiled.specs.Tables.{kinds_in, lefts_in, rights_in, priorities_in, classes_in, samples_in, multiples_in}
+use Rattle.compiled.specs.Tables.{kinds_in, lefts_in, rights_in, priorities_in, classes_in, samples_in}
 use Rattle.alike_nodes.specs.Nodes.{FormulaShown}
 
 -- "6 least, 7 greatest"
@@ -87,7 +87,6 @@ pub record ItemsOnly (before after : Compiled) : Type 0 where
   pub sized : length (kinds_in after) ≡ length (kinds_in before)
   pub classes : classes_in after ≡ classes_in before
   pub samples : samples_in after ≡ samples_in before
-  pub multiples : multiples_in after ≡ multiples_in before
 
 -- each item has a kind
 abbrev pub KindsRoom : Compiled → Type 0

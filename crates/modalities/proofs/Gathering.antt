@@ -26,7 +26,7 @@ pub record Following (answers : List Bool) (labels targets : List ℕ) (room : R
     (w : List ℕ) (c : Counters) (i : ℕ) : Type 0 where
   pub same : length w ≡ length w₀
   pub gathering : Gathering w₀ room.vertices room.edges many c₀ o
-      (answered_keys answers o.item.number (first_moves labels targets i)) w c
+      (answered_keys answers o.item (first_moves labels targets i)) w c
 
 module _ (answers : List Bool) (labels targets : List ℕ) (room : Room) (many : ℕ) (o : Operand) (w₀ : List ℕ) (c₀ : Counters) where
   abbrev v : ℕ
@@ -36,7 +36,7 @@ module _ (answers : List Bool) (labels targets : List ℕ) (room : Room) (many :
   e = room.edges
 
   abbrev item : ℕ
-  item = o.item.number
+  item = o.item
 
   -- the keys that the first transitions give
   abbrev given : ℕ → List ℕ

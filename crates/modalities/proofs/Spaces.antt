@@ -11,7 +11,6 @@ use Rattle.rules.specs.declared.Room.{Room}
 use Rattle.settling.specs.declared.Counters.{Counters}
 use Rattle.settling.specs.declared.MarkedBy.{MarkedBy}
 use Rattle.settling.specs.declared.MarkedBy.TheVariants.{State, Vertex}
-use Rattle.pairs.specs.declared.ScaledItem.{ScaledItem}
 use Rattle.std.specs.Prelude.{Result}
 use Rattle.std.specs.declared.result.Result.TheVariants.{Ok, Err}
 use Rattle.pairs.specs.declared.NoRoom.{NoRoom}
@@ -99,7 +98,7 @@ module _ (w : List ℕ) (room : Room) (c : Counters) (states transitions marks :
     pub cleared_ready : Ready w₁ room.vertices room.edges c
     cleared_ready = cleared.ready
 
-    pub cleared_spacious : (item : ScaledItem) (by : MarkedBy)
+    pub cleared_spacious : (item : ℕ) (by : MarkedBy)
         → by ≡ marked_by states marks
         → Spacious w₁ states room marks (record { item = item; start = c.edges; marked_by = by }) c
     cleared_spacious item by is =

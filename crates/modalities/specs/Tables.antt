@@ -5,17 +5,15 @@ use Rattle.match_table.specs.declared.MatchRows.{MatchRows}
 use Rattle.rules.specs.Labels.{label_count}
 use Rattle.tables.specs.Good.{GoodLabels, GoodSystem, GoodActions}
 use Rattle.compiled.specs.declared.Compiled.{Compiled}
-use Rattle.compiled.specs.Tables.{classes_in, samples_in, multiples_in}
+use Rattle.compiled.specs.Tables.{classes_in, samples_in}
 use Rattle.labels.specs.Classes.{Classes}
 use Rattle.match_table.specs.Rows.{MatchTable}
 use Rattle.transitions.specs.Samples.{Samples}
-use Rattle.pairs.specs.Slot.{Multiples}
 
 pub record Tables (ls ss acts : List ℕ) (compiled : Compiled) (matched : MatchRows) : Type 0 where
   pub labels : GoodLabels ls
   pub system : GoodSystem (label_count ls) ss
   pub actions : GoodActions (label_count ls) acts
-  pub bytes : Multiples (multiples_in compiled)
   pub multisets : Classes ls (classes_in compiled)
   pub firsts : Samples ss (samples_in compiled)
   pub answers : MatchTable ls acts matched

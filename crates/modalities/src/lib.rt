@@ -14,7 +14,7 @@ ghost use Rattle.rules.specs.Table.{size};
 ghost use Rattle.rules.specs.Actions.{action_tree};
 ghost use Rattle.settling.specs.declared.Counters.{Counters};
 ghost use Rattle.settling.specs.declared.MarkedBy.TheVariants.{State};
-ghost use Rattle.settling.specs.Made.{Ready, Answer, tallies, Gathering, Gathered, Raisable};
+ghost use Rattle.settling.specs.Made.{Ready, Fitting, Answer, tallies, Gathering, Gathered, Raisable};
 ghost use Rattle.modalities.specs.Within.{Below};
 ghost use Rattle.modalities.specs.Matched.{Unmarked, Spacious, OfState, Inside, model_in, moves_in};
 ghost use Rattle.modalities.specs.Matched.{mark_count, marked_by};
@@ -28,7 +28,7 @@ use compiled::LABELS;
 use match_table::ActionWords;
 pub use model::ModelTables;
 pub use moves::Moves;
-use pairs::{ByteMultiples, NoRoom};
+use pairs::NoRoom;
 use rules::Room;
 use settling::{Counters, MarkedBy, Operand};
 use words::at;
@@ -71,17 +71,17 @@ fn follow(
     answers: &[bool],
     label: u32,
     target: u32,
-    operand: Operand<'_>,
+    operand: Operand,
 ) -> Result<Counters, NoRoom>
     ghost marks: { ℕ }
     requires ready { Ready work.old room.vertices room.edges counters
         × Raisable work.old room.vertices room.edges marks operand counters }
-    requires target { (target < most_states) × (operand.marked_by ≡ State → target < marks) }
+    requires target { Fitting target operand.item × (operand.marked_by ≡ State → target < marks) }
     requires answer { label < length answers.now }
-    ensures { (w : List ℕ) (c : Counters) (ks : List ℕ) → operand.entry.start ≡ c.edges
-        → Gathering w room.vertices room.edges marks c operand.entry ks work.old counters
-        → Gathered w room.vertices room.edges marks c operand.entry
-        (ks ++ answered_keys answers.now operand.entry.item.number ((label, target) ∷ [])) work.new result }
+    ensures { (w : List ℕ) (c : Counters) (ks : List ℕ) → operand.start ≡ c.edges
+        → Gathering w room.vertices room.edges marks c operand ks work.old counters
+        → Gathered w room.vertices room.edges marks c operand
+        (ks ++ answered_keys answers.now operand.item ((label, target) ∷ [])) work.new result }
 {
     if answers[label as usize] {
         return settling::target_once(counters, work, room, target, operand);
@@ -135,13 +135,14 @@ fn follow_all(
     room: Room,
     answers: &[bool],
     moves: Moves<'_>,
-    operand: Operand<'_>,
+    operand: Operand,
 ) -> Result<Counters, NoRoom>
     ghost marks: { ℕ }
     requires ready { Ready work.old room.vertices room.edges counters × (operand.start ≡ counters.edges)
         × Spacious work.old moves.states room marks operand counters }
     requires answers { Below (length answers.now) moves.labels.now }
-    ensures { let ks = answered_keys answers.now operand.entry.item.number (moves_in moves.entry) in
+    requires item { operand.item < 2048 }
+    ensures { let ks = answered_keys answers.now operand.item (moves_in moves.entry) in
         Answer work.old room.vertices room.edges counters (once eqb ks) (tallies ks) work.new result }
 {
     let targets = moves.targets;
@@ -163,7 +164,6 @@ fn follow_all(
 // The marks of the step are cleared, then all its transitions are followed.
 fn settle_matched(
     counters: Counters,
-    multiples: ByteMultiples<'_>,
     work: &mut [u32],
     room: Room,
     answers: &[bool],
@@ -178,7 +178,7 @@ fn settle_matched(
     let marks = mark_count(room, counters.edges, moves.states, moves.targets.len());
     settling::clear_marks(work, room, marks);
     let operand = Operand {
-        item: multiples.scale(item),
+        item,
         start: counters.edges,
         marked_by: marked_by(moves.states, marks),
     };
@@ -224,15 +224,7 @@ fn settle_decided(
     let node = modality.action as usize;
     decide_labels(tables, moves, node, &mut answers);
     let item = modality.operand;
-    settle_matched(
-        counters,
-        tables.multiples(),
-        work,
-        room,
-        &answers,
-        moves,
-        item,
-    )
+    settle_matched(counters, work, room, &answers, moves, item)
 }
 
 // The targets of a modality are met and get their edges, each with its count of matching transitions.
@@ -258,13 +250,5 @@ pub fn settle_modality(
         return settle_decided(counters, tables, work, room, moves, modality);
     };
     let item = modality.operand;
-    settle_matched(
-        counters,
-        tables.multiples(),
-        work,
-        room,
-        answers,
-        moves,
-        item,
-    )
+    settle_matched(counters, work, room, answers, moves, item)
 }

@@ -2,13 +2,11 @@
 // once, by the type.
 
 ghost use Rattle.std.specs.Prelude.{◌≡◌};
-ghost use Rattle.compiled.specs.Tables.{multiples_in};
 ghost use Rattle.modalities.specs.Tables.{Tables};
 ghost use Rattle.modalities.specs.Facts.{tables_prop};
 
 use compiled::Compiled;
 use match_table::MatchRows;
-use pairs::ByteMultiples;
 
 // The words of a model, what was compiled of them, and the table of matching labels. The formula is not among them:
 // successors do not depend on it.
@@ -20,15 +18,4 @@ pub struct ModelTables<'a> {
     pub compiled: &'a Compiled,
     pub matched: &'a MatchRows,
     ghost made: { Tables labels.now system.now actions.now compiled.now matched.now } by { tables_prop labels.now system.now actions.now compiled.now matched.now },
-}
-
-impl<'a> ModelTables<'a> {
-    // The byte multiples, for the pairs that are numbered.
-    pub fn multiples(&self) -> ByteMultiples<'a>
-        ensures { result.table.now ≡ multiples_in self.now.compiled.now }
-    {
-        ByteMultiples {
-            table: self.compiled.multiples(),
-        }
-    }
 }

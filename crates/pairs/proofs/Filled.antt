@@ -8,7 +8,8 @@ use Rattle.rules.specs.Lists.{word, tally, In, position}
 use Rattle.lists.proofs.Members.{in_at, position_below, position_at, position-of, distinct_snoc}
 use Rattle.lists.proofs.Equalities.{number_equality}
 use Rattle.lists.proofs.Tallies.{tally-all, tally_gains}
-use Rattle.pairs.specs.Slot.{slot_of}
+use Rattle.pairs.specs.Slot.{probe_sequence}
+use Rattle.pairs.proofs.Orders.{order_inside}
 use Rattle.pairs.specs.Table.{slot_count, key_in, held_in, taken, keys_in, Path, Reached, Holding, Slots}
 
 -- ---- the keys of the vertices
@@ -63,6 +64,10 @@ module _ (slots : List ℕ) (p k h : ℕ) where
 in_by : (k : ℕ) (ks : List ℕ) (i : ℕ) → i < length ks → word ks i ≡ k → In k ks
 in_by k ks i l e = subst (λ (x : ℕ). In x ks) e (in_at ks i 0 l)
 
+-- a slot to which a search comes is one of them
+pub path_inside : {slots : List ℕ} {v : ℕ} (k p : ℕ) → Path slots (probe_sequence k v) p → p < v
+path_inside {v = v} k p a = subst (λ (x : ℕ). x < v) a.there (order_inside k v a.place a.inside)
+
 module _ (slots ks : List ℕ) (v n : ℕ) (c : Slots slots ks v n) (long : length ks ≡ n) where
   -- a taken slot with the key shows its vertex
   pub found_at : (p k i : ℕ) → p < slot_count v → key_in slots p ≡ k → held_in slots p ≡ i + 1 → In k ks × (i ≡ position eqb k ks)
@@ -74,7 +79,7 @@ module _ (slots ks : List ℕ) (v n : ℕ) (c : Slots slots ks v n) (long : leng
       (in_by k ks i l w, sym (ap (λ (x : ℕ). position eqb x ks) (sym w) ∙ position-of number_equality ks i 0 c.distinct l))
 
   -- a key that no slot has to which a search for it comes is not known
-  pub absent : (k : ℕ) → ((p : ℕ) → Path slots (slot_count v) (slot_of k (slot_count v)) p → 0 < held_in slots p → key_in slots p ≡ k → ⊥) → ¬ In k ks
+  pub absent : (k : ℕ) → ((p : ℕ) → Path slots (probe_sequence k (slot_count v)) p → 0 < held_in slots p → key_in slots p ≡ k → ⊥) → ¬ In k ks
   absent k none m =
       let i : ℕ = position eqb k ks in
       let l : i < n = omega (arith, position_below number_equality k ks m) in
@@ -83,8 +88,8 @@ module _ (slots ks : List ℕ) (v n : ℕ) (c : Slots slots ks v n) (long : leng
       let p : ℕ = r.slot in
       let g : held_in slots p ≡ i + 1 = r.holds in
       let f : held_in slots p - 1 ≡ i = omega arith in
-      none p (subst (λ (x : ℕ). Path slots (slot_count v) (slot_of x (slot_count v)) p) w r.path) (omega arith)
-      ((c.holding p r.path.within (omega arith)).key ∙ ap (λ (j : ℕ). word ks j) f ∙ w)
+      none p (subst (λ (x : ℕ). Path slots (probe_sequence x (slot_count v)) p) w r.path) (omega arith)
+      ((c.holding p (path_inside _ p r.path) (omega arith)).key ∙ ap (λ (j : ℕ). word ks j) f ∙ w)
 
   -- where all slots are taken there is no room for one vertex more
   pub crowded : ((p : ℕ) → p < slot_count v → 0 < held_in slots p) → n ≡ v
@@ -94,7 +99,7 @@ module _ (slots ks : List ℕ) (v n : ℕ) (c : Slots slots ks v n) (long : leng
 
   -- ---- one more pair, whose key is not there yet, in the empty slot to which the search for it comes
 
-  module _ (k p : ℕ) (room : n < v) (fits : 2 * p + 1 < length slots) (path : Path slots (slot_count v) (slot_of k (slot_count v)) p) (empty : held_in slots p ≡ 0) (fresh : ¬ In k ks) where
+  module _ (k p : ℕ) (room : n < v) (fits : 2 * p + 1 < length slots) (within : p < slot_count v) (path : Path slots (probe_sequence k (slot_count v)) p) (empty : held_in slots p ≡ 0) (fresh : ¬ In k ks) where
     abbrev new : List ℕ
     new = filled slots p k (n + 1)
 
@@ -102,14 +107,8 @@ module _ (slots ks : List ℕ) (v n : ℕ) (c : Slots slots ks v n) (long : leng
     stays : (q : ℕ) → 0 < held_in slots q → 0 < held_in new q
     stays q h = rw (held_other slots p k (n + 1) q (λ e. let z : held_in slots q ≡ 0 = rw e empty in omega arith)) h
 
-    path_stays : (h s : ℕ) → Path slots (slot_count v) h s → Path new (slot_count v) h s
-    path_stays h s a =
-        record {
-          within = a.within;
-          up = λ q x y. stays q (a.up q x y);
-          on = λ l q x y. stays q (a.on l q x y);
-          again = λ l q x. stays q (a.again l q x);
-        }
+    path_stays : (order : List ℕ) (s : ℕ) → Path slots order s → Path new order s
+    path_stays order s a = record { place = a.place; inside = a.inside; there = a.there; before = λ t h. stays _ (a.before t h) }
 
     old_key : (i : ℕ) → i < n → word (ks ++ (k ∷ [])) i ≡ word ks i
     old_key i h = get_or-append ks (k ∷ []) 0 i (omega (arith, long))
@@ -117,10 +116,10 @@ module _ (slots ks : List ℕ) (v n : ℕ) (c : Slots slots ks v n) (long : leng
     last-key : word (ks ++ (k ∷ [])) n ≡ k
     last-key = get_or_at ks k [] 0 n long
 
-    vertex : (i : ℕ) → i < n + 1 → Reached new (slot_count v) (slot_of (word (ks ++ (k ∷ [])) i) (slot_count v)) i
+    vertex : (i : ℕ) → i < n + 1 → Reached new (probe_sequence (word (ks ++ (k ∷ [])) i) (slot_count v)) i
     vertex i h = go (ℕ_discrete i n)
       where
-        go : Dec (i ≡ n) → Reached new (slot_count v) (slot_of (word (ks ++ (k ∷ [])) i) (slot_count v)) i
+        go : Dec (i ≡ n) → Reached new (probe_sequence (word (ks ++ (k ∷ [])) i) (slot_count v)) i
         go (yes e) =
             rw (e, last-key)
             (record { slot = p; path = path_stays _ p path; holds = held_new slots p k (n + 1) fits })
@@ -170,6 +169,6 @@ module _ (slots ks : List ℕ) (v n : ℕ) (c : Slots slots ks v n) (long : leng
           holding = holding;
           count =
               tally_gains (taken slots) (taken new) p (le-ltb 0 (held_in slots p) (omega arith)) (rw (held_new slots p k (n + 1) fits) (lt-ltb 0 (n + 1) (omega arith))) 0 (slot_count v)
-              (omega arith) (omega (arith, path.within)) (λ q x y d. ap (λ (h : ℕ). ltb 0 h) (sym (held_other slots p k (n + 1) q d)))
+              (omega arith) (omega (arith, within)) (λ q x y d. ap (λ (h : ℕ). ltb 0 h) (sym (held_other slots p k (n + 1) q d)))
               ∙ ap (λ (m : ℕ). m + 1) c.count;
         }

@@ -1,6 +1,6 @@
-pub mod Bytes
-pub mod Wrap
+pub mod Multiples
 pub mod Parts
+pub mod Orders
 pub mod Filled
 pub mod Search
 pub mod OneMore

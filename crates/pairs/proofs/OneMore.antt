@@ -64,10 +64,10 @@ module _ (w : List ℕ) (v n s q : ℕ) (a : Asks w v n s q) where
 
   module _ (room : n < v) (p : ℕ) (f : Fresh w v n k p) where
     low : 2 * p < 3 * v
-    low = omega (arith, f.path.within)
+    low = omega (arith, f.within)
 
     high : 2 * p + 1 < 3 * v
-    high = omega (arith, f.path.within)
+    high = omega (arith, f.within)
 
     slots_long : length (slots_of w v) ≡ 3 * v
     slots_long = length-region 0 (3 * v) w (omega (arith, a.whole))
@@ -112,7 +112,7 @@ module _ (w : List ℕ) (v n s q : ℕ) (a : Asks w v n s q) where
               record {
                 slots =
                     subst₂ (λ (x y : List ℕ). Slots x y v (n + 1)) (sym slots) (sym keys)
-                    (more _ _ _ _ a.table.slots (length-keys_in _ n) k p room (omega (arith, slots_long)) f.path f.empty f.new);
+                    (more _ _ _ _ a.table.slots (length-keys_in _ n) k p room (omega (arith, slots_long, f.within)) f.within f.path f.empty f.new);
                 small = rw keys_region small;
               };
           rest = rest;

@@ -1,7 +1,7 @@
 -- What a caller reads off a numbering, and that the table stays where the first four regions stay. Assumes nothing.
 use Rattle.std.proofs.Common.{◌≡◌, ℕ, ◌+◌, ◌/◌, ◌%◌, ◌<◌, eqb, List, [], ◌∷◌, length, sym, ap, ◌∙◌, subst, arith, lit<, length-append}
 use Rattle.std.specs.Prelude.{Result}
-use Rattle.std.specs.declared.result.Result.TheVariants.{Ok, Err}
+use Rattle.std.specs.declared.result.Result.TheVariants.{Ok}
 use Rattle.rules.specs.Lists.{word, In, position, insert}
 use Rattle.lists.proofs.Inserts.{insert_old, insert_new}
 use Rattle.lists.proofs.Equalities.{number_equality}
@@ -11,7 +11,7 @@ use Rattle.pairs.specs.declared.Numbered.{Numbered}
 use Rattle.pairs.specs.declared.NoRoom.{NoRoom}
 use Rattle.pairs.specs.Slot.{key_of}
 use Rattle.pairs.specs.Table.{key_at, keys_of, Table}
-use Rattle.pairs.specs.Answers.{Numbers, Full, Numbering}
+use Rattle.pairs.specs.Answers.{Numbers, Numbering}
 use Rattle.pairs.proofs.Filled.{length-keys_in, get_d_keys_in}
 use Rattle.pairs.proofs.Parts.{slots_kept}
 
@@ -56,9 +56,6 @@ key_word w v n i h = get_d_keys_in (region 3 v w) n i h
 pub numbers_by : (w w' : List ℕ) (v n k : ℕ) (r : Result Numbered NoRoom) (a : Numbered) → Numbering w w' v n k r → r ≡ Ok a
     → Numbers w w' v n k a.vertex.0 a.known
 numbers_by w w' v n k r a p e = subst (Numbering w w' v n k) e p
-
-pub full_by : (w w' : List ℕ) (v n k : ℕ) (r : Result Numbered NoRoom) (x : NoRoom) → Numbering w w' v n k r → r ≡ Err x → Full w w' v n k
-full_by w w' v n k r x p e = subst (Numbering w w' v n k) e p
 
 -- ---- key k was inserted
 

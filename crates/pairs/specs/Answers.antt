@@ -1,50 +1,50 @@
 -- What looking a pair up and numbering it answer. Assumes nothing: these are definitions.
-use Rattle.std.specs.Prelude.{◌≡◌, ℕ, ◌+◌, ◌*◌, ◌<◌, ◌≤◌, List, length, drop, ◌≢◌, nat_eq}
+use Rattle.std.specs.Prelude.{◌≡◌, ℕ, ◌+◌, ◌*◌, ◌<◌, List, length, drop, ◌≢◌, nat_eq}
 use Rattle.std.specs.Prelude.{Result}
 use Rattle.std.specs.declared.option.Option.{Option}
 use Rattle.std.specs.declared.option.Option.TheVariants.{Some, None}
 use Rattle.std.specs.declared.result.Result.TheVariants.{Ok, Err}
-use Rattle.rules.specs.Lists.{In, position, insert}
+use Rattle.rules.specs.Lists.{word, In, position, insert}
 use Rattle.pairs.specs.declared.Place.{Place}
 use Rattle.pairs.specs.declared.Place.TheVariants.{Known, Free}
 use Rattle.pairs.specs.declared.Numbered.{Numbered}
 use Rattle.pairs.specs.declared.NoRoom.{NoRoom}
-use Rattle.pairs.specs.Slot.{slot_of}
+use Rattle.pairs.specs.Slot.{probe_sequence}
 use Rattle.pairs.specs.Table.{slot_count, slots_of, key_in, held_in, keys_of, Path, Table}
 
--- ---- along the slots from a up to b
+-- ---- along the slots in some order
 
 -- each is taken, by another key than k
-pub record Others (slots : List ℕ) (a b k : ℕ) : Type 0 where
-  pub taken : (q : ℕ) → a ≤ q → q < b → 0 < held_in slots q
-  pub other : (q : ℕ) → a ≤ q → q < b → key_in slots q ≢ k
+pub record Others (slots order : List ℕ) (k : ℕ) : Type 0 where
+  pub taken : (t : ℕ) → t < length order → 0 < held_in slots (word order t)
+  pub other : (t : ℕ) → t < length order → key_in slots (word order t) ≢ k
 
 -- one has the key k, and holds vertex i
-pub record Has (slots : List ℕ) (a b k i : ℕ) : Type 0 where
-  pub slot : ℕ
-  pub from : a ≤ slot
-  pub to : slot < b
-  pub key : key_in slots slot ≡ k
-  pub holds : held_in slots slot ≡ i + 1
+pub record Has (slots order : List ℕ) (k i : ℕ) : Type 0 where
+  pub place : ℕ
+  pub inside : place < length order
+  pub key : key_in slots (word order place) ≡ k
+  pub holds : held_in slots (word order place) ≡ i + 1
 
 -- slot p is the first empty one, and none before it has the key k
-pub record Ends (slots : List ℕ) (a b k p : ℕ) : Type 0 where
-  pub from : a ≤ p
-  pub to : p < b
+pub record Ends (slots order : List ℕ) (k p : ℕ) : Type 0 where
+  pub path : Path slots order p
   pub empty : held_in slots p ≡ 0
-  pub before : Others slots a p k
+  pub other : (t : ℕ) → t < path.place → key_in slots (word order t) ≢ k
 
-abbrev pub Probed : List ℕ → (a b k : ℕ) → Option Place → Type 0
-Probed slots a b k (Some (Known i)) = Has slots a b k i.0
-Probed slots a b k (Some (Free p)) = Ends slots a b k p
-Probed slots a b k None = Others slots a b k
+abbrev pub Probed : List ℕ → List ℕ → ℕ → Option Place → Type 0
+Probed slots order k (Some (Known i)) = Has slots order k i.0
+Probed slots order k (Some (Free p)) = Ends slots order k p
+Probed slots order k None = Others slots order k
 
 -- ---- in the table
 
--- key k is not known, and slot p is the empty one for it
+-- key k is not known, and slot p is the empty one for it. That it is one of the slots follows from the path; it is
+-- said here for whoever writes to it
 pub record Fresh (w : List ℕ) (v n k p : ℕ) : Type 0 where
   pub new : ¬ In k (keys_of w v n)
-  pub path : Path (slots_of w v) (slot_count v) (slot_of k (slot_count v)) p
+  pub within : p < slot_count v
+  pub path : Path (slots_of w v) (probe_sequence k (slot_count v)) p
   pub empty : held_in (slots_of w v) p ≡ 0
 
 -- key k is looked up: it is known by its place among the keys, or it is new; no slot is empty only where there is no

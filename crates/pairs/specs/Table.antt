@@ -6,7 +6,7 @@ use Rattle.std.specs.Prelude.{◌≡◌, ℕ, zero, suc, ◌+◌, ◌-◌, ◌*�
 use Rattle.rules.specs.Lists.{word, tally, Distinct}
 use Rattle.rules.specs.Words.{most_states, most_vertices}
 use Rattle.work_slice.specs.Regions.{region}
-use Rattle.pairs.specs.Slot.{slot_of}
+use Rattle.pairs.specs.Slot.{probe_sequence}
 
 -- ---- the words
 
@@ -50,18 +50,17 @@ keys_of w v n = keys_in (region 3 v w) n
 
 -- ---- what they say
 
--- Of so many slots, all that a search from slot h upwards passes before it comes to slot p are taken. After the last
--- slot it goes on from slot 0
-pub record Path (slots : List ℕ) (size h p : ℕ) : Type 0 where
-  pub within : p < size
-  pub up : (q : ℕ) → h ≤ q → q < p → 0 < held_in slots q
-  pub on : p < h → (q : ℕ) → h ≤ q → q < size → 0 < held_in slots q
-  pub again : p < h → (q : ℕ) → q < p → 0 < held_in slots q
+-- a search in this order of slots comes to slot p, since all before it are taken
+pub record Path (slots order : List ℕ) (p : ℕ) : Type 0 where
+  pub place : ℕ
+  pub inside : place < length order
+  pub there : word order place ≡ p
+  pub before : (t : ℕ) → t < place → 0 < held_in slots (word order t)
 
--- vertex i stands in a slot that a search from slot h comes to
-pub record Reached (slots : List ℕ) (size h i : ℕ) : Type 0 where
+-- vertex i stands in a slot to which a search in this order comes
+pub record Reached (slots order : List ℕ) (i : ℕ) : Type 0 where
   pub slot : ℕ
-  pub path : Path slots size h slot
+  pub path : Path slots order slot
   pub holds : held_in slots slot ≡ i + 1
 
 -- slot p, if it is taken, holds one of the first n vertices, beside its key
@@ -69,12 +68,12 @@ pub record Holding (slots keys : List ℕ) (n p : ℕ) : Type 0 where
   pub known : held_in slots p ≤ n
   pub key : key_in slots p ≡ word keys (held_in slots p - 1)
 
--- the slots hold n vertices with these keys, which are distinct: each is reached from the slot of its key, and no other
--- slot is taken
+-- the slots hold n vertices with these keys, which are distinct: a search for its key comes to each, and no other slot
+-- is taken
 pub record Slots (slots keys : List ℕ) (v n : ℕ) : Type 0 where
   pub room : n ≤ v
   pub distinct : Distinct keys
-  pub vertex : (i : ℕ) → i < n → Reached slots (slot_count v) (slot_of (word keys i) (slot_count v)) i
+  pub vertex : (i : ℕ) → i < n → Reached slots (probe_sequence (word keys i) (slot_count v)) i
   pub holding : (p : ℕ) → p < slot_count v → 0 < held_in slots p → Holding slots keys n p
   pub count : tally (taken slots) 0 (slot_count v) ≡ n
 

@@ -207,7 +207,7 @@ unfolding once insert_all tallies
 gathering_none w v e many c o r k =
     record {
       made = made_none w v e c r;
-      marked = marked_none o.marked_by o.item.number (marks_of w v many) (keys_of w v c.known) many c.known c.edges k;
+      marked = marked_none o.marked_by o.item (marks_of w v many) (keys_of w v c.known) many c.known c.edges k;
     }
 
 -- all targets are known
@@ -251,9 +251,9 @@ gathering_marks w v e many c o ks w' c' g i h = omega (arith, g.made.row_length,
     known : List ℕ
     known = keys_of w' v c'.known
 
-    go : (b : MarkedBy) → Marked b o.item.number marks known many c'.known c.edges (once eqb ks)
+    go : (b : MarkedBy) → Marked b o.item marks known many c'.known c.edges (once eqb ks)
         → word marks i ≤ c.edges + length (once eqb ks)
-    go State m = marked_most marks (λ s. key_of s o.item.number) many many c.edges (once eqb ks) m i h
+    go State m = marked_most marks (λ s. key_of s o.item) many many c.edges (once eqb ks) m i h
     go Vertex m = marked_most marks (word known) many c'.known c.edges (once eqb ks) m i h
 
 -- too many are too many at the end, whatever is met later
@@ -419,14 +419,14 @@ module _ (v e : ℕ) (w w₁ : List ℕ) (c : Counters) (t u : ℕ) (c₁ : Coun
 
   -- t is met once more, after ks
   module _ (operand : Operand) (many : ℕ) (apart : Apart v e c.edges many) (s i : ℕ)
-      (o : MarkOf operand.marked_by operand.item.number many s t u i) (w₀ : List ℕ) (c₀ : Counters)
+      (o : MarkOf operand.marked_by operand.item many s t u i) (w₀ : List ℕ) (c₀ : Counters)
       (ks : List ℕ) (g : Gathering w₀ v e many c₀ operand ks w c) where
     -- all that were met are known
     all : (q : ℕ) → In q (once eqb ks) → In q (keys_of w v c.known)
     all = made_known w₀ v e c₀ w c (once eqb ks) (tallies ks) g.made
 
     below : i < many
-    below = met_below_mark many apart.0 operand.item.number s i operand.marked_by o
+    below = met_below_mark many apart.0 operand.item s i operand.marked_by o
 
     -- its mark is as it was before t was met
     mark_kept : word w₁ (7 * v + i) ≡ word (marks_of w v many) i
@@ -437,7 +437,7 @@ module _ (v e : ℕ) (w w₁ : List ℕ) (c : Counters) (t u : ℕ) (c₁ : Coun
         → In t (once eqb ks) × (mark ≡ suc (c₀.edges + position eqb t (once eqb ks)))
     marked_edge mark at h =
         let back : mark ≡ word (marks_of w v many) i = at ∙ mark_kept in
-        let a = met_above many apart.0 operand.item.number s i c₀.edges (once eqb ks)
+        let a = met_above many apart.0 operand.item s i c₀.edges (once eqb ks)
         operand.marked_by o g.marked (subst (λ (k : ℕ). c₀.edges < k) back h) in
         (a.0, back ∙ a.1)
 
@@ -528,7 +528,7 @@ module _ (v e : ℕ) (w w₁ : List ℕ) (c : Counters) (t u : ℕ) (c₁ : Coun
     -- not marked: it was not met
     fresh : word w₁ (7 * v + i) ≤ c₀.edges → ¬ In t (once eqb ks)
     fresh h =
-        met_not_above many apart.0 operand.item.number s i c₀.edges (once eqb ks) all
+        met_not_above many apart.0 operand.item s i c₀.edges (once eqb ks) all
         operand.marked_by o g.marked (subst (λ (k : ℕ). k ≤ c₀.edges) mark_kept h)
 
     once_new : (w₂ w₃ : List ℕ) → word w₁ (7 * v + i) ≤ c₀.edges → c.edges < e
@@ -573,7 +573,7 @@ module _ (v e : ℕ) (w w₁ : List ℕ) (c : Counters) (t u : ℕ) (c₁ : Coun
               (made_more v e w₀ w w₃ c₀ c (with_edges c₁ (c.edges + 1)) ts (t ∷ []) (tallies ks) (1 ∷ []) g.made edge);
           marked =
               rw (once_longer ks t d, marks₃, keys)
-              (met_marked many apart.0 operand.item.number s i c₀.edges ts all operand.marked_by within o d
+              (met_marked many apart.0 operand.item s i c₀.edges ts all operand.marked_by within o d
               g.marked);
         }
       where
@@ -604,7 +604,7 @@ module _ (v e : ℕ) (w w₁ : List ℕ) (c : Counters) (t u : ℕ) (c₁ : Coun
 
 -- marked by its state: that the pair is known need not be looked up, since to meet it again would change nothing
 pub once_early : (v e : ℕ) (w : List ℕ) (c : Counters) (t : ℕ) → Ready w v e c → (operand : Operand) (many : ℕ)
-    → Apart v e c.edges many → (s : ℕ) → t ≡ key_of s operand.item.number → operand.marked_by ≡ State
+    → Apart v e c.edges many → (s : ℕ) → t ≡ key_of s operand.item → operand.marked_by ≡ State
     → s < many → (w₀ : List ℕ) (c₀ : Counters) (ks : List ℕ) → Gathering w₀ v e many c₀ operand ks w c
     → (w₂ : List ℕ) (mark : ℕ) → mark ≡ word w (7 * v + s) → c₀.edges < mark
     → w₂ ≡ put_count v e (mark - 1) (word (counts_of w v e e) (mark - 1) + 1) w
@@ -618,9 +618,9 @@ once_early v e w c t r operand many apart s key chosen inside w₀ c₀ ks g w�
     known : In t (keys_of w v c.known)
     known =
         made_known w₀ v e c₀ w c (once eqb ks) (tallies ks) g.made t
-        (above (marks_of w v many) (λ x. key_of x operand.item.number) many many c₀.edges t s (once eqb ks) (λ l. sym key)
+        (above (marks_of w v many) (λ x. key_of x operand.item) many many c₀.edges t s (once eqb ks) (λ l. sym key)
         (subst (λ (b : MarkedBy).
-        Marked b operand.item.number (marks_of w v many) (keys_of w v c.known) many c.known c₀.edges (once eqb ks))
+        Marked b operand.item (marks_of w v many) (keys_of w v c.known) many c.known c₀.edges (once eqb ks))
         chosen g.marked) inside (omega (arith, at, mark_at v many s w inside))).0
 
     again : Meeting w w v c t (position eqb t (keys_of w v c.known)) c

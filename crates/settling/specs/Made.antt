@@ -116,7 +116,7 @@ tallies ks = map (λ t. occurrences eqb t ks) (once eqb ks)
 -- often it was met, and its mark, of so many, says where that edge is. o: what the targets share
 pub record Gathering (w : List ℕ) (v e many : ℕ) (c : Counters) (o : Operand) (ks w' : List ℕ) (c' : Counters) : Type 0 where
   pub made : Made w v e c w' c' (once eqb ks) (tallies ks)
-  pub marked : Marked o.marked_by o.item.number (marks_of w' v many) (keys_of w' v c'.known) many c'.known c.edges
+  pub marked : Marked o.marked_by o.item (marks_of w' v many) (keys_of w' v c'.known) many c'.known c.edges
       (once eqb ks)
 
 abbrev pub Gathered : List ℕ → ℕ → ℕ → ℕ → Counters → Operand → (ks w' : List ℕ) → Result Counters NoRoom → Type 0

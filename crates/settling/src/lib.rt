@@ -4,9 +4,9 @@
 // that the slice is long enough (`Sized`): `Ready` speaks of the counters too, and does not hold between the writes of
 // a step. So three functions would lose a clause, and each contract would still speak of the slice inside the struct,
 // and say besides that slice and room stay the same.
-// Kept (no plainer): that a state can be numbered with an item (`Fitting`) is a clause of four functions: states come
-// from the words of the system as numbers, and a type for them would be made at each transition and be taken apart for
-// the key.
+// Kept (no plainer): that a state can be numbered with an item (`Fitting`) is a clause of four functions here and of one
+// in `modalities`: states come from the words of the system as numbers, and a type for them would be made at each
+// transition and be taken apart for the key.
 #![tactic(auto)]
 
 ghost use Rattle.std.specs.Prelude.{◌≡◌, List, [], ◌∷◌, ◌++◌, map, ℕ, ◌+◌, ◌*◌, ◌≤◌, ◌<◌, length};
@@ -19,7 +19,7 @@ ghost use Rattle.settling.specs.declared.MarkedBy.TheVariants.{State};
 ghost use Rattle.settling.specs.Made.{Ready, Fitting, AllFit, MeetAnswer, Answer, Gathering, Gathered, Raisable};
 ghost use Rattle.settling.specs.Made.{Appended, marker, CloseAnswer};
 
-use pairs::{ByteMultiples, NoRoom, Numbered, ScaledItem};
+use pairs::{NoRoom, Numbered};
 use player::VertexIndex;
 use rules::Room;
 use work_slice::{Region, edges_end, put_word, region_word};
@@ -99,10 +99,10 @@ pub fn meet(
     work: &mut [u32],
     room: Room,
     state: u32,
-    item: ScaledItem<'_>,
+    item: u32,
 ) -> Result<Met, NoRoom>
-    requires { Ready work.old room.vertices room.edges counters × Fitting state item.number }
-    ensures { MeetAnswer work.old work.new room.vertices counters (key_of state item.entry.number) result }
+    requires { Ready work.old room.vertices room.edges counters × Fitting state item }
+    ensures { MeetAnswer work.old work.new room.vertices counters (key_of state item) result }
 {
     let before = counters.known;
     let waiting = counters.waiting;
@@ -125,10 +125,10 @@ fn number_target(
     work: &mut [u32],
     room: Room,
     state: u32,
-    item: ScaledItem<'_>,
+    item: u32,
 ) -> Result<Counters, NoRoom>
-    requires { Ready work.old room.vertices room.edges counters × Fitting state item.number }
-    ensures { Answer work.old room.vertices room.edges counters (key_of state item.entry.number ∷ [])
+    requires { Ready work.old room.vertices room.edges counters × Fitting state item }
+    ensures { Answer work.old room.vertices room.edges counters (key_of state item ∷ [])
         (0 ∷ []) work.new result }
 {
     let met = meet(counters, work, room, state, item)?;
@@ -165,8 +165,8 @@ fn mark_index(marked_by: MarkedBy, state: u32, vertex: VertexIndex) -> u32
 // What the targets of a modality share: the item of its operand, the place where their edges begin, and what tells
 // their marks.
 #[derive(Clone, Copy)]
-pub struct Operand<'a> {
-    pub item: ScaledItem<'a>,
+pub struct Operand {
+    pub item: u32,
     pub start: u32,
     pub marked_by: MarkedBy,
 }
@@ -182,16 +182,16 @@ fn meet_once(
     work: &mut [u32],
     room: Room,
     state: u32,
-    operand: Operand<'_>,
+    operand: Operand,
 ) -> Result<Counters, NoRoom>
     ghost marks: { ℕ }
-    requires ready { Ready work.old room.vertices room.edges counters × Fitting state operand.item.number
+    requires ready { Ready work.old room.vertices room.edges counters × Fitting state operand.item
         × Raisable work.old room.vertices room.edges marks operand counters }
     requires has_mark { operand.marked_by ≡ State → state < marks }
-    ensures { (w : List ℕ) (c : Counters) (ks : List ℕ) → operand.entry.start ≡ c.edges
-        → Gathering w room.vertices room.edges marks c operand.entry ks work.old counters
-        → Gathered w room.vertices room.edges marks c operand.entry
-        (ks ++ key_of state operand.entry.item.number ∷ []) work.new result }
+    ensures { (w : List ℕ) (c : Counters) (ks : List ℕ) → operand.start ≡ c.edges
+        → Gathering w room.vertices room.edges marks c operand ks work.old counters
+        → Gathered w room.vertices room.edges marks c operand
+        (ks ++ key_of state operand.item ∷ []) work.new result }
 {
     let Met { vertex, counters } = meet(counters, work, room, state, operand.item)?;
     let index = mark_index(operand.marked_by, state, vertex);
@@ -214,16 +214,16 @@ pub fn target_once(
     work: &mut [u32],
     room: Room,
     state: u32,
-    operand: Operand<'_>,
+    operand: Operand,
 ) -> Result<Counters, NoRoom>
     ghost marks: { ℕ }
-    requires ready { Ready work.old room.vertices room.edges counters × Fitting state operand.item.number
+    requires ready { Ready work.old room.vertices room.edges counters × Fitting state operand.item
         × Raisable work.old room.vertices room.edges marks operand counters }
     requires has_mark { operand.marked_by ≡ State → state < marks }
-    ensures { (w : List ℕ) (c : Counters) (ks : List ℕ) → operand.entry.start ≡ c.edges
-        → Gathering w room.vertices room.edges marks c operand.entry ks work.old counters
-        → Gathered w room.vertices room.edges marks c operand.entry
-        (ks ++ key_of state operand.entry.item.number ∷ []) work.new result }
+    ensures { (w : List ℕ) (c : Counters) (ks : List ℕ) → operand.start ≡ c.edges
+        → Gathering w room.vertices room.edges marks c operand ks work.old counters
+        → Gathered w room.vertices room.edges marks c operand
+        (ks ++ key_of state operand.item ∷ []) work.new result }
 {
     if let MarkedBy::State = operand.marked_by {
         let mark = region_word(work, room.vertices, Region::Marks, state);
@@ -239,7 +239,6 @@ pub fn target_once(
 // that a target is numbered at one place of the code.
 pub fn settle_operands(
     counters: Counters,
-    multiples: ByteMultiples<'_>,
     work: &mut [u32],
     room: Room,
     state: u32,
@@ -251,9 +250,8 @@ pub fn settle_operands(
         (zeros items.now) work.new result }
 {
     let mut so_far = counters;
-    for number in items {
-        let item = multiples.scale(*number);
-        so_far = number_target(so_far, work, room, state, item)?;
+    for item in items {
+        so_far = number_target(so_far, work, room, state, *item)?;
     }
     Ok(so_far)
 }

@@ -25,6 +25,13 @@ use Rattle.stepping.specs.Parts.{without_top, PopAnswer}
 use Rattle.stepping.proofs.Steps.{here, top_item, top_key, top_reached, top_below, popped_ready, popped_marks}
 use Rattle.stepping.proofs.Steps.{step_many, step_loop_many, step_made, close_left, close_start}
 
+-- meeting targets settles none: the counter of settled vertices may be taken from before
+pub settled_kept : (w : List ℕ) (v e : ℕ) (c : Counters) (w' : List ℕ) (c' : Counters) (ts cs : List ℕ) → Made w v e c w' c' ts cs
+    → Made w v e c w' (record { known = c'.known; settled = c.settled; edges = c'.edges; waiting = c'.waiting }) ts cs
+settled_kept w v e c w' c' ts cs m =
+    subst (λ (s : ℕ). Made w v e c w' (record { known = c'.known; settled = s; edges = c'.edges; waiting = c'.waiting }) ts cs)
+    m.same_settled m
+
 -- p is the vertex on top of the stack, taken off
 module _ (x : Input) (good : GoodInput x) (v e : ℕ) (w : List ℕ) (c : Counters)
     (g : Good (key_targets x) (key_behind x) (root_key x) w v e c) (some : c.waiting ≡ 0 → ⊥)

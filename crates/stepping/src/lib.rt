@@ -24,7 +24,7 @@ mod walk_tables;
 use compiled::Item;
 use lent_input::Input;
 use modalities::Modality;
-use pairs::{ByteMultiples, NoRoom, Slots};
+use pairs::{NoRoom, Slots};
 use player::VertexIndex;
 use rules::Room;
 use settling::Counters;
@@ -100,14 +100,7 @@ fn settle_at_state(
     }
     let operands = [item.left, item.right];
     let items = &operands[..kinds::operand_count(item.kind)];
-    settling::settle_operands(
-        counters,
-        tables.model().multiples(),
-        work,
-        room,
-        state,
-        items,
-    )
+    settling::settle_operands(counters, work, room, state, items)
 }
 
 // The targets of a popped vertex are met and get their edges, by the kind of its item: crate `kinds` has the rules.
@@ -155,7 +148,11 @@ pub fn step(
         return Ok(counters);
     }
     let popped = pop(counters, work, room);
+    let settled = popped.counters.settled;
     let made = settle(popped, tables, work, room)?;
+    // Kept (speed): `made` has the same number of settled vertices. Of counters that a call leaves in memory, four
+    // words are read at once, and the processor waits until the last is written: a twentieth of a run of `alternation`.
+    let made = Counters { settled, ..made };
     settling::close(made, work, room, popped.vertex, counters.edges)
 }
 
@@ -209,12 +206,7 @@ pub fn walk(
 }
 
 // The walk before its first step, whatever the work words hold.
-pub fn begin(
-    input: &Input<'_>,
-    multiples: ByteMultiples<'_>,
-    work: &mut [u32],
-    room: Room,
-) -> Result<Counters, NoRoom>
+pub fn begin(input: &Input<'_>, work: &mut [u32], room: Room) -> Result<Counters, NoRoom>
     requires { Sized work.old room.vertices room.edges }
     ensures { let x = input_in input.now in
         WalkAnswer (key_targets x) (key_behind x) (root_key x) room.vertices room.edges 0
@@ -226,6 +218,6 @@ pub fn begin(
     work_slice::clear(work, vertices, Region::Degrees, 0, vertices);
     let initial = input.system[2];
     let none = Counters::default();
-    let met = settling::meet(none, work, room, initial, multiples.scale(0))?;
+    let met = settling::meet(none, work, room, initial, 0)?;
     Ok(met.counters)
 }

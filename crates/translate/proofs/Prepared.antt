@@ -9,15 +9,14 @@ use Rattle.rules.specs.Items.{items}
 use Rattle.tables.specs.Good.{GoodInput}
 use Rattle.arena.proofs.ItemNumbers.{items_few}
 use Rattle.compiled.specs.declared.Compiled.{Compiled}
-use Rattle.compiled.specs.Tables.{kinds_in, lefts_in, rights_in, classes_in, samples_in, multiples_in}
+use Rattle.compiled.specs.Tables.{kinds_in, lefts_in, rights_in, classes_in, samples_in}
 use Rattle.labels.specs.Classes.{Classes}
 use Rattle.transitions.specs.Samples.{Samples}
 use Rattle.item_table.specs.Entries.{ItemTable, ItemsOnly}
-use Rattle.pairs.specs.Slot.{Multiples}
 use Rattle.translate.specs.Runs.{Prepared}
 
 pub prepared : (x : Input) (t t' : Compiled) (n : ℕ) → ItemsOnly t t' → GoodInput x
-    → (Classes x.labels (classes_in t) × Samples x.system (samples_in t) × Multiples (multiples_in t))
+    → (Classes x.labels (classes_in t) × Samples x.system (samples_in t))
     → n ≡ length (items x) → ItemTable x (kinds_in t') (lefts_in t') (rights_in t') → Prepared x t' n
 prepared x t t' n only good made e table =
     let classes = subst (Classes x.labels) (sym only.classes) made.0 in
@@ -27,7 +26,6 @@ prepared x t t' n only good made e table =
       tables = λ matched answers.
           record {
             input = good;
-            bytes = subst Multiples (sym only.multiples) made.2;
             multisets = classes;
             firsts = subst (Samples x.system) (sym only.samples) made.1;
             answers = answers;

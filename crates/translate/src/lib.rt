@@ -35,7 +35,7 @@ fn explore(tables: &WalkTables<'_>, work: &mut [u32], bounds: Bounds) -> Result<
         WalkAnswer (key_targets x) (key_behind x) (root_key x) bounds.room.vertices bounds.room.edges
         bounds.limit work.new result }
 {
-    let begun = stepping::begin(&tables.input, tables.model().multiples(), work, bounds.room)?;
+    let begun = stepping::begin(&tables.input, work, bounds.room)?;
     stepping::walk(begun, tables, work, bounds)
 }
 

@@ -20,7 +20,7 @@ pub const SHAPES: [Shape; 8] = [
     Shape { name: "parallel", what: "14 boxes; 2 states, 262,144 transitions", make: parallel },
 ];
 
-pub const WORST: [Shape; 9] = [
+pub const WORST: [Shape; 11] = [
     Shape { name: "one-state", what: "1,022 boxes; one state with 262,144 loops", make: one_state },
     Shape { name: "star", what: "3 boxes; state 0 has all 262,144 transitions", make: star },
     Shape { name: "negations", what: "box of 1,023 negations; 65,535 states, 262,144 transitions", make: negations },
@@ -46,6 +46,12 @@ pub const WORST: [Shape; 9] = [
         what: "1,023 nested alternating fixpoints around a reference; 1 state",
         make: nested_1023,
     },
+    Shape {
+        name: "piled",
+        what: "1,023 boxes; 1,024 states at each, chosen so that all pairs start in a sixtieth of the slots",
+        make: piled,
+    },
+    Shape { name: "unpiled", what: "the same with states chosen at random", make: unpiled },
 ];
 
 const STATES: u32 = 65_535;
@@ -222,4 +228,46 @@ fn nested_1023(quarters: u32) -> Model {
     let mut nodes: Vec<(u32, u32)> = (0..n).map(|i| (6 + i % 2, 0)).collect();
     nodes.push((8, 0));
     Model { labels: labels(1, 1), system: system(1, 1, 1), actions: truth(), formula: table(&nodes) }
+}
+
+/// Blocks of four states stand in a circle; a turn is the golden ratio's part of it: sums of neighbours in Fibonacci's
+/// sequence, so that after 1,023 turns the error is a forty-thousandth of the circle at most.
+const BLOCKS: u32 = 10_946 + 4_181 + 987;
+const TURN: u32 = 6_765 + 2_584 + 610;
+
+/// Boxes, of which each has pairs with 256 blocks of the states in this order, and from each state of a block
+/// transitions to the four of the block that lies the turn before it. The initial state comes after all others.
+fn turning(quarters: u32, order: &[u32]) -> Model {
+    let s = 4 * BLOCKS;
+    let block = |b: u32| order[4 * b as usize..][..4].iter().copied();
+    let mut targets = vec![0; 4 * s as usize];
+    for b in 0..BLOCKS {
+        let next: Vec<u32> = block((b + BLOCKS - TURN) % BLOCKS).collect();
+        block(b).for_each(|state| targets[4 * state as usize..][..4].copy_from_slice(&next));
+    }
+    targets.extend((0..256).flat_map(block));
+    let mut words = vec![s + 1, targets.len() as u32, s];
+    words.extend(std::iter::repeat_n(4, s as usize));
+    words.push(1_024);
+    words.extend(std::iter::repeat_n(0, targets.len()));
+    words.extend(targets);
+    let mut nodes = vec![(4, 0); 1_023 * quarters as usize / 4];
+    nodes.push((0, 0));
+    Model { labels: labels(1, 1), system: words, actions: truth(), formula: table(&nodes) }
+}
+
+/// An item that is one higher starts the golden ratio's part of all slots further up; a state's successors start as
+/// much further down. So the pairs of all boxes but the first, which has one pair, start in the slots in which those of
+/// the second do.
+fn piled(quarters: u32) -> Model {
+    let mut order: Vec<u32> = (0..4 * BLOCKS).collect();
+    order.sort_by_key(|state| (state * 2_048).wrapping_mul(2_654_435_761));
+    turning(quarters, &order)
+}
+
+fn unpiled(quarters: u32) -> Model {
+    let mut order: Vec<u32> = (0..4 * BLOCKS).collect();
+    let mut random = Random::new(3);
+    (1..order.len()).rev().for_each(|i| order.swap(i, random.below(i + 1)));
+    turning(quarters, &order)
 }

@@ -6,8 +6,8 @@ fn pair(state: u32, item: u32) -> u32 {
     state * 2_048 + item
 }
 
-/// The work slice, divided, and the run's counters.
-struct Walk<'a> {
+/// The work slice, divided, and the run's counters. A pair's own slot goes by the pair times the factor.
+struct Walk<'a, const FACTOR: u32> {
     /// 3V/2 slots, rounded down, of key and vertex + 1 (0: empty), searched upwards from the key's own. With V of 2 or
     /// more one stays empty; the only slot of V = 1 may be taken.
     slots: &'a mut [[u32; 2]],
@@ -29,10 +29,22 @@ struct Walk<'a> {
     settled: usize,
 }
 
-/// The room is used up.
-struct Full;
+/// Why a walk ends early.
+enum Stop {
+    /// The room is used up.
+    Full,
+    /// Pairs pile up in few slots: another factor is tried.
+    Piled,
+}
 
-impl<'a> Walk<'a> {
+/// The factor that is tried first: a pair may stand at most so far above its own slot.
+const FIRST: u32 = 2_654_435_761;
+const FAR: usize = 1_000;
+
+/// With this one it may stand anywhere.
+const SECOND: u32 = 2_246_822_519;
+
+impl<'a, const FACTOR: u32> Walk<'a, FACTOR> {
     fn new(work: &'a mut [u32], v: usize, e: usize) -> Self {
         let (slots, rest) = work.split_at_mut(3 * v);
         let (pairs, rest) = rest.split_at_mut(v);
@@ -45,28 +57,36 @@ impl<'a> Walk<'a> {
         degrees.fill(0);
         marks.fill(0);
         let slots = slots.as_chunks_mut::<2>().0;
-        Walk { slots, pairs, stack, starts, degrees, marks, edges, counts, known: 0, waiting: 0, made: 0, settled: 0 }
+        let (known, waiting, made, settled) = (0, 0, 0, 0);
+        Walk { slots, pairs, stack, starts, degrees, marks, edges, counts, known, waiting, made, settled }
     }
 
     /// The vertex of a pair, a new one if it has none yet.
-    fn number(&mut self, pair: u32) -> Result<u32, Full> {
-        let product = pair.wrapping_mul(2_654_435_761) as u64;
-        let mut at = ((product * self.slots.len() as u64) >> 32) as usize;
+    // Always inlined, as `target` is: for a call all of the walk would be kept in memory, and a run would take a sixth
+    // longer.
+    #[inline(always)]
+    fn number(&mut self, pair: u32) -> Result<u32, Stop> {
+        let product = pair.wrapping_mul(FACTOR) as u64;
+        let own = ((product * self.slots.len() as u64) >> 32) as usize;
+        let mut at = own;
         while self.slots[at][1] != 0 {
             if self.slots[at][0] == pair {
                 return Ok(self.slots[at][1] - 1);
             }
             // The only slot of the smallest room.
             if self.slots.len() == 1 {
-                return Err(Full);
+                return Err(Stop::Full);
             }
             at += 1;
             if at == self.slots.len() {
                 at = 0;
             }
         }
+        if FACTOR == FIRST && at > own + FAR {
+            return Err(Stop::Piled);
+        }
         let vertex = self.known;
-        *self.pairs.get_mut(vertex).ok_or(Full)? = pair;
+        *self.pairs.get_mut(vertex).ok_or(Stop::Full)? = pair;
         self.slots[at] = [pair, vertex as u32 + 1];
         self.stack[self.waiting] = vertex as u32;
         self.waiting += 1;
@@ -74,20 +94,21 @@ impl<'a> Walk<'a> {
         Ok(vertex as u32)
     }
 
-    fn edge(&mut self, target: u32, count: u32) -> Result<(), Full> {
-        *self.edges.get_mut(self.made).ok_or(Full)? = target;
+    fn edge(&mut self, target: u32, count: u32) -> Result<(), Stop> {
+        *self.edges.get_mut(self.made).ok_or(Stop::Full)? = target;
         self.counts[self.made] = count;
         self.made += 1;
         Ok(())
     }
 
-    fn target(&mut self, state: u32, item: u32) -> Result<(), Full> {
+    #[inline(always)]
+    fn target(&mut self, state: u32, item: u32) -> Result<(), Stop> {
         let vertex = self.number(pair(state, item))?;
         self.edge(vertex, 0)
     }
 
     /// Settles the vertex that was numbered last.
-    fn step(&mut self, system: &System, compiled: &Compiled) -> Result<(), Full> {
+    fn step(&mut self, system: &System, compiled: &Compiled) -> Result<(), Stop> {
         self.waiting -= 1;
         let vertex = self.stack[self.waiting];
         let (state, item) = (self.pairs[vertex as usize] / 2_048, self.pairs[vertex as usize] % 2_048);
@@ -114,7 +135,7 @@ impl<'a> Walk<'a> {
 
     /// Where there is a mark for each state the marks go by the state: then only the first transition to a state looks
     /// its pair up.
-    fn modality(&mut self, system: &System, state: u32, set: &[u64], operand: u32) -> Result<(), Full> {
+    fn modality(&mut self, system: &System, state: u32, set: &[u64], operand: u32) -> Result<(), Stop> {
         let start = self.made as u32;
         let by_state = system.states() <= self.marks.len();
         let (labels, targets) = system.transitions(state);
@@ -141,6 +162,7 @@ impl<'a> Walk<'a> {
 
 /// The system's words with the place of each state's first transition.
 struct System<'a> {
+    initial: u32,
     starts: Vec<u32>,
     labels: &'a [u32],
     targets: &'a [u32],
@@ -156,7 +178,7 @@ impl<'a> System<'a> {
             start += degree;
             start
         }));
-        System { starts, labels: &words[3 + s..3 + s + t], targets: &words[3 + s + t..] }
+        System { initial: words[2], starts, labels: &words[3 + s..3 + s + t], targets: &words[3 + s + t..] }
     }
 
     fn states(&self) -> usize {
@@ -169,6 +191,30 @@ impl<'a> System<'a> {
     }
 }
 
+/// What a walk reads.
+struct Tables<'a> {
+    system: System<'a>,
+    compiled: &'a Compiled,
+}
+
+/// At most `limit` steps from the beginning, and the game; gives the answer's words.
+#[inline(never)]
+fn build<const FACTOR: u32>(
+    tables: &Tables,
+    (v, e): (usize, usize),
+    limit: u32,
+    game: &mut [u32],
+    work: &mut [u32],
+) -> Result<[u32; 4], Stop> {
+    let mut walk = Walk::<FACTOR>::new(work, v, e);
+    walk.number(pair(tables.system.initial, 0))?;
+    while walk.waiting > 0 && walk.settled < limit as usize {
+        walk.step(&tables.system, tables.compiled)?;
+    }
+    write_game(&walk, &tables.compiled.items, game);
+    Ok([u32::from(walk.waiting > 0), walk.settled as u32, walk.known as u32, walk.made as u32])
+}
+
 /// The run on accepted words; gives the answer's words.
 pub fn run(
     system: &[u32],
@@ -179,23 +225,16 @@ pub fn run(
     game: &mut [u32],
     work: &mut [u32],
 ) -> [u32; 4] {
-    let initial = system[2];
-    let system = System::new(system);
-    let mut walk = Walk::new(work, v, e);
-    // There is room for one vertex.
-    let mut room = walk.number(pair(initial, 0)).is_ok();
-    while room && walk.waiting > 0 && walk.settled < limit as usize {
-        room = walk.step(&system, compiled).is_ok();
-    }
-    let answer = if room {
-        write_game(&walk, &compiled.items, game);
-        [u32::from(walk.waiting > 0), walk.settled as u32, walk.known as u32, walk.made as u32]
-    } else {
-        game.fill(0);
-        [2, 60, 0, 0]
+    let tables = Tables { system: System::new(system), compiled };
+    let answer = match build::<FIRST>(&tables, (v, e), limit, game, work) {
+        Err(Stop::Piled) => build::<SECOND>(&tables, (v, e), limit, game, work),
+        answer => answer,
     };
     work.fill(0);
-    answer
+    answer.unwrap_or_else(|_| {
+        game.fill(0);
+        [2, 60, 0, 0]
+    })
 }
 
 /// Owner and priority of a settled vertex with these edges.
@@ -207,7 +246,7 @@ fn owner_and_priority(item: &Item, vertex: usize, targets: &[u32]) -> (u32, u32)
     (owner, if stuck { 1 - owner } else { item.priority })
 }
 
-fn write_game(walk: &Walk, items: &[Item], game: &mut [u32]) {
+fn write_game<const FACTOR: u32>(walk: &Walk<FACTOR>, items: &[Item], game: &mut [u32]) {
     let (n, m) = (walk.known, walk.made);
     let (head, rest) = game.split_at_mut(3);
     let (owners, rest) = rest.split_at_mut(n);

@@ -22,5 +22,5 @@ returns c =
         lefts = length-map t.items (λ x. x.left) ∙ (search rules);
         rights = length-map t.items (λ x. x.right) ∙ (search rules);
       };
-      only = record { sized = sized; classes = refl; samples = refl; multiples = refl };
+      only = record { sized = sized; classes = refl; samples = refl };
     }

@@ -29,8 +29,11 @@ follow-requires g c =
         following_raisable _ _ _ _ _ _ _ _ _ within _ _ _ following (omega (arith, inside)) c.requires.0.1 c.requires.0.2,
       ),
       (
-        (omega (arith, target, within.few_states), λ by. omega (arith, target, c.requires.0.2.one-each by)),
-        c.requires.1 c.loop-index.index c.loop-index-test.true,
+        (
+          record { state_fits = omega (arith, target, within.few_states); item_fits = c.requires.1.1 },
+          λ by. omega (arith, target, c.requires.0.2.one-each by),
+        ),
+        c.requires.1.0 c.loop-index.index c.loop-index-test.true,
       ),
     )
 

@@ -15,12 +15,12 @@ follow_all-requires c =
       (
         cleared_ready _ _ _ _ _ _ count _ unmarked cleared,
         refl,
-        rw (← count) (cleared_spacious _ _ _ _ _ _ count _ unmarked cleared c.scale.result _ c.marked_by.ensures),
+        rw (← count) (cleared_spacious _ _ _ _ _ _ count _ unmarked cleared _ _ c.marked_by.ensures),
       ),
-      c.requires.answers,
+      (c.requires.answers, c.requires.unmarked.1),
     )
 
 pub returns : goal.returns
 returns c =
     cleared_answer _ _ _ _ _ _ c.mark_count-marks.ensures _ c.requires.unmarked.0 c.clear_marks.ensures
-    _ _ _ c.follow_all.result (rw c.scale.ensures at c.follow_all.ensures)
+    _ _ _ c.follow_all.result c.follow_all.ensures

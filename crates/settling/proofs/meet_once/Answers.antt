@@ -12,7 +12,7 @@ returns-in_err-vertex g c =
 pub region_word-mark-requires : goal.region_word-mark-requires
 region_word-mark-requires g c =
     let p = c.in_ok-vertex.ensures in
-    let mark = mark_of _ c.args.operand.item.number _ _ _ _ c.mark_index-index.ensures c.requires.1 in
+    let mark = mark_of _ c.args.operand.item _ _ _ _ c.mark_index-index.ensures c.requires.1 in
     mark_inside _ _ _ _ _ _ _ _ c.requires.0.0 c.requires.0.2 p.rest c.meet.auto.work
     (met_below_mark _ _ _ _ _ _ _ _ c.requires.0.0 p c.meet.auto.work _
     c.requires.0.2.apart.0 _ _ _ _ mark)
@@ -20,7 +20,7 @@ region_word-mark-requires g c =
 pub raise_count-requires : goal.raise_count-requires
 raise_count-requires g c =
     let p = c.in_ok-vertex.ensures in
-    let mark = mark_of _ c.args.operand.item.number _ _ _ _ c.mark_index-index.ensures c.requires.1 in
+    let mark = mark_of _ c.args.operand.item _ _ _ _ c.mark_index-index.ensures c.requires.1 in
     let it =
     mark_raises _ _ _ _ _ _ _ _ c.requires.0.0 c.requires.0.2 p.rest c.meet.auto.work
     (met_below_mark _ _ _ _ _ _ _ _ c.requires.0.0 p c.meet.auto.work _
@@ -30,7 +30,7 @@ raise_count-requires g c =
 pub returns-then-operand-mark : goal.returns-then-operand-mark
 returns-then-operand-mark g c =
     let p = c.in_ok-vertex.ensures in
-    let mark = mark_of _ c.args.operand.item.number _ _ _ _ c.mark_index-index.ensures c.requires.1 in
+    let mark = mark_of _ c.args.operand.item _ _ _ _ c.mark_index-index.ensures c.requires.1 in
     λ w₀ c₀ ks same k.
     once_old _ _ _ _ _ _ _ _ c.requires.0.0 p c.meet.auto.work _ _
     c.requires.0.2.apart _ _ mark w₀ c₀ ks k _ _
@@ -39,7 +39,7 @@ returns-then-operand-mark g c =
 pub put_word-requires : goal.put_word-requires
 put_word-requires g c =
     let p = c.in_ok-vertex.ensures in
-    let mark = mark_of _ c.args.operand.item.number _ _ _ _ c.mark_index-index.ensures c.requires.1 in
+    let mark = mark_of _ c.args.operand.item _ _ _ _ c.mark_index-index.ensures c.requires.1 in
     mark_inside _ _ _ _ _ _ _ _ c.requires.0.0 c.requires.0.2 p.rest c.meet.auto.work
     (met_below_mark _ _ _ _ _ _ _ _ c.requires.0.0 p c.meet.auto.work _
     c.requires.0.2.apart.0 _ _ _ _ mark)
@@ -47,7 +47,7 @@ put_word-requires g c =
 pub returns : goal.returns
 returns g c =
     let p = c.in_ok-vertex.ensures in
-    let mark = mark_of _ c.args.operand.item.number _ _ _ _ c.mark_index-index.ensures c.requires.1 in
+    let mark = mark_of _ c.args.operand.item _ _ _ _ c.mark_index-index.ensures c.requires.1 in
     λ w₀ c₀ ks same k.
     once_appended _ _ _ _ _ _ _ _ c.requires.0.0 p c.meet.auto.work _ _
     c.requires.0.2.apart _ _ mark w₀ c₀ ks k _ _ _

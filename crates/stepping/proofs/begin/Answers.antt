@@ -14,7 +14,7 @@ meet-requires c =
     let none : c.default-none.result ≡ no_counts = search rules in
     let system = c.args.input.now.good.system in (
       rw none (empty_ready _ _ _ _ _ _ c.requires c.start.ensures c.clear.ensures c.clear-2.ensures same),
-      record { state_fits = omega (arith, system.initial, system.states); item_fits = omega (arith, c.scale.ensures) },
+      record { state_fits = omega (arith, system.initial, system.states); item_fits = omega arith },
     )
 
 pub returns-in_err-met : goal.returns-in_err-met
@@ -23,12 +23,12 @@ returns-in_err-met c =
     let same = c.clear-2.ensures.long ∙ c.clear.ensures.long ∙ c.start.auto.work in
     let none : c.default-none.result ≡ no_counts = search rules in
     start_full _ _ _ _ _ _ c.requires c.start.ensures c.clear.ensures c.clear-2.ensures same
-    (key_targets x) (root_key x) (rw (c.scale.ensures, none) at c.in_err-met.ensures)
+    (key_targets x) (root_key x) (rw none at c.in_err-met.ensures)
 
 pub returns : goal.returns
 returns c =
     let same = c.clear-2.ensures.long ∙ c.clear.ensures.long ∙ c.start.auto.work in
     let none : c.default-none.result ≡ no_counts = search rules in
     start_made _ _ _ _ _ _ c.requires c.start.ensures c.clear.ensures c.clear-2.ensures same _
-    _ _ _ _ _ (rw (c.scale.ensures, none) at c.in_ok-met.ensures)
+    _ _ _ _ _ (rw none at c.in_ok-met.ensures)
     c.meet.auto.work

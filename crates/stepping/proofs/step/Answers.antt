@@ -3,7 +3,7 @@
 use mathlib.Core.Path.{refl}
 use native.Mathlib.Omega.{arith}
 use Rattle.stepping.proofs.Steps.{step-none, top_below}
-use Rattle.stepping.proofs.Pops.{pop_inside, pop_unmarked, pop_full, pop_close, pop_answer}
+use Rattle.stepping.proofs.Pops.{pop_inside, pop_unmarked, pop_full, pop_close, pop_answer, settled_kept}
 use Rattle.stepping.proofs.step.Goals as goal
 
 pub returns-then-counters-eq0 : goal.returns-then-counters-eq0
@@ -33,7 +33,7 @@ settle-requires c =
 pub close-requires : goal.close-requires
 close-requires c =
     pop_close _ c.args.tables.now.input.good _ _ _ _ c.requires c.if-counters-eq0.false _ _ c.pop-popped.ensures _ _
-    c.in_ok-made.ensures
+    (settled_kept _ _ _ _ _ _ _ _ c.in_ok-made.ensures)
 
 pub returns-in_err-made : goal.returns-in_err-made
 returns-in_err-made c =
@@ -43,4 +43,4 @@ returns-in_err-made c =
 pub returns : goal.returns
 returns c =
     pop_answer _ c.args.tables.now.input.good _ _ _ _ c.requires c.if-counters-eq0.false _ _ c.pop-popped.ensures _ _
-    c.in_ok-made.ensures c.close.new.work c.close.result c.close.ensures
+    (settled_kept _ _ _ _ _ _ _ _ c.in_ok-made.ensures) c.close.new.work c.close.result c.close.ensures
