@@ -5,7 +5,7 @@
 #   dist      the same as a tar ball with a checksum, in DIST
 #   compare   library, plain Rust and the oracle on random inputs
 #   bench     the tables of docs/PERFORMANCE.md
-#   stored    the stored runs of the programs replay, restricts, texts and pgsolver_runs, written anew
+#   stored    the stored runs of the programs replay, restricts, texts, pgsolver_runs and expansions, written anew
 #
 # HINGREZH_LIB names an archive built elsewhere: then neither Rattle nor a proof is needed. ORACLE is the Rust original
 # behind the same words; where it was not named and is not there, `compare` and `bench` say so and go on without it.
@@ -68,7 +68,7 @@ bench: $(LIBRARY) oracle
 	$(TESTING) --bin bench
 	$(HOST)/bench $(call by_oracle,bench)
 
-# Writes the stored runs of the programs replay, restricts, texts and pgsolver_runs anew; needs the oracle.
+# Writes the stored runs of the programs replay, restricts, texts, pgsolver_runs and expansions anew; needs the oracle.
 stored: $(LIBRARY) oracle
 	$(TESTING) --bin store
 	$(HOST)/store target/oracle/release/oracle crates

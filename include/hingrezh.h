@@ -20,6 +20,7 @@
  *
  *   HINGREZH_DONE     steps, vertices, edges          the whole game
  *                     bytes, 0, 0                     the whole text, of hingrezh_write_pgsolver
+ *                     words, 0, 0                     the whole formula, of hingrezh_expand
  *   HINGREZH_CUT      steps, vertices known, edges    a vertex still waits after `limit` steps
  *   HINGREZH_REFUSED  number, place, 0                see the refusals below
  *
@@ -35,6 +36,10 @@
  *   formula  n (1 to 1,024); n kinds, n operands: one tree in prefix order. 0 true, 1 false, 2 and, 3 or (operand: the
  *            right child), 4 box, 5 diamond (operand: the first node of one of the row's trees), 6 least, 7 greatest,
  *            8 reference (operand: an enclosing node of kind 6 or 7).
+ *   regulars r (0 to 1,024); r kinds, r operands: a row of complete trees in prefix order, of hingrezh_expand alone.
+ *            0 action formula (operand: the first node of one of the trees of `actions`), 1 sequence, 2 choice
+ *            (operand: the right child), 3 star, 4 plus. The operand of a box or diamond of a formula that is to be
+ *            expanded is the first node of one of these trees.
  *   Operands that are not named are 0.
  *
  * A game: vertices n, edges m, initial vertex; n owners (0 Even, 1 Odd); n priorities; n + 1 offsets; m targets; m
@@ -71,6 +76,18 @@
  * sign, no text without the header, no byte past the last newline, such as the zeros that writing leaves there.
  *
  * ---------------------------------------------------------------------------------------------------------------
+ * Regular formulas in modalities, and what they are expanded to
+ *
+ *   [R . S] f    [R] [S] f                      <R . S> f    <R> <S> f
+ *   [R + S] f    [R] f and [S] f                <R + S> f    <R> f or <S> f
+ *   [R*] f       greatest I. ([R] I) and f      <R*> f       least I. (<R> I) or f
+ *   [R+] f       [R] [R*] f                     <R+> f       <R> <R*> f
+ *
+ * f stands in both parts of a choice, so nine choices in a row are too large: a formula has at most 1,024 nodes.
+ * Proved: the formula that is written is accepted with the same labels and actions, and it says the same of every
+ * system, where [R] f says that all paths whose labels are a word of R end in states with f, <R> f that one does.
+ *
+ * ---------------------------------------------------------------------------------------------------------------
  * Refusals: what, where, who can mend it
  *
  * Words and nodes are counted from 0, words in the slice concerned. Where no place is named it is 0.
@@ -102,6 +119,9 @@
  *   44      a wrong operand of kinds 0 to 7; nodes left over past the tree;            node of formula; the first
  *           an unfinished tree                                                         left over; n
  *   45      a reference to anything but an enclosing fixpoint                          node of formula
+ *   61      the regular formulas: no words, or not 1 + 2r; r too large; a kind above 4;
+ *           a wrong operand; an unfinished last tree
+ *   62      the expanded formula has more than 1,024 nodes
  *   Whoever hands a game to the restriction or to the writing of texts:
  *   51      words fewer than 3 or not 4 + 3n + 2m, no vertex, n above 1,048,576
  *           or m above 4,194,304
@@ -121,12 +141,14 @@
  *   hingrezh_compute_reachable  51, 52, 53, 2
  *   hingrezh_write_pgsolver     51, 52, 53, 98, 2
  *   hingrezh_read_pgsolver      1, 2, 91, 92, 93
- * In 34 and 44 a right-child operand isn't judged if its left tree is unfinished.
+ *   hingrezh_expand             2, 11 to 13, 31 to 34, 61, 41 to 45, 62
+ * In 34, 44 and 61 a right-child operand isn't judged if its left tree is unfinished.
  *
  * hingrezh_refusal_text gives the middle column for a number.
  *
  * Stack: the deepest inputs (511 nested unions or conjunctions) have run in 168 KB as a whole process, the calls on
- * PGSolver text in 156 KB, whatever the text; give the calling thread at least 256 KB.
+ * PGSolver text in 156 KB, whatever the text, an expansion (1,023 nested fixpoints) in 112 KB; give the calling thread
+ * at least 256 KB.
  */
 #ifndef HINGREZH_H
 #define HINGREZH_H
@@ -140,9 +162,9 @@ extern "C" {
 
 /* The version of header, library and command. */
 #define HINGREZH_VERSION_MAJOR 0
-#define HINGREZH_VERSION_MINOR 3
+#define HINGREZH_VERSION_MINOR 4
 #define HINGREZH_VERSION_PATCH 0
-#define HINGREZH_VERSION "0.3.0"
+#define HINGREZH_VERSION "0.4.0"
 
 enum { HINGREZH_DONE = 0, HINGREZH_CUT = 1, HINGREZH_REFUSED = 2 };
 
@@ -167,6 +189,9 @@ enum { HINGREZH_DONE = 0, HINGREZH_CUT = 1, HINGREZH_REFUSED = 2 };
     ((size_t)4 + (size_t)3 * (size_t)(vertices) + (size_t)2 * (size_t)(edges))
 #define HINGREZH_WORK_WORDS(vertices, edges) ((size_t)8 * (size_t)(vertices) + (size_t)2 * (size_t)(edges))
 #define HINGREZH_ANSWER_WORDS 4
+
+/* How many words the slice has that an expanded formula is written into: those of the most nodes. */
+#define HINGREZH_EXPANDED_WORDS HINGREZH_NODE_WORDS(HINGREZH_MOST_NODES)
 
 /* At most so many bytes has the text of a game, by its vertices and edges: its numbers of vertices have at most seven
  * digits, its priorities ten. */
@@ -250,6 +275,25 @@ void hingrezh_read_pgsolver(const uint8_t *text, size_t text_len,
                             uint32_t *game, size_t game_len,
                             uint32_t answer[4]);
 
+/* Expands the regular formulas in the modalities of a formula: what is written is the formula for hingrezh_translate,
+ * with the same `labels` and `actions`.
+ *
+ * `labels`, `actions`, `regulars` and `formula` are only read. `out` must have exactly HINGREZH_EXPANDED_WORDS words;
+ * what they hold before doesn't matter.
+ *
+ * Afterwards, by the case of `answer`:
+ *   done     answer[1] is the number of words of the formula, 1 + 2n for its n nodes; `out` begins with it, and every
+ *            word past its end is 0. hingrezh_translate gets the words of the formula alone
+ *   refused  `out` is as it was
+ * This call is never cut, and its time is bounded by the sizes of the tables, however large the expanded formula would
+ * be. `answer` is written in every case. */
+void hingrezh_expand(const uint32_t *labels, size_t labels_len,
+                     const uint32_t *actions, size_t actions_len,
+                     const uint32_t *regulars, size_t regulars_len,
+                     const uint32_t *formula, size_t formula_len,
+                     uint32_t *out, size_t out_len,
+                     uint32_t answer[4]);
+
 /* What a refusal is about; NULL for a number that is none. */
 static inline const char *hingrezh_refusal_text(uint32_t number)
 {
@@ -278,6 +322,8 @@ static inline const char *hingrezh_refusal_text(uint32_t number)
     case 52: return "the offsets don't begin at 0, fall, or don't end at the number of edges";
     case 53: return "an owner is above 1, or a target or the initial vertex is not below n";
     case 60: return "the game needs more vertices or edges than there is room for";
+    case 61: return "the regular formulas are no table of at most 1,024 nodes: its words, a kind, an operand or a tree";
+    case 62: return "the expanded formula has more than 1,024 nodes";
     case 91: return "the text is not of the form: a header, then a line for each vertex";
     case 92: return "a vertex is missing, given twice or, also as a successor, above the highest";
     case 93: return "more vertices or edges than there is room for, or a priority beyond 32 bits";

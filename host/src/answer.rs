@@ -4,7 +4,8 @@ use std::fmt;
 
 #[derive(Clone, Copy, Debug, PartialEq, Eq)]
 pub enum Answer {
-    /// The whole game. A game that was restricted or read counts its vertices as steps.
+    /// The whole game. A game that was restricted or read counts its vertices as steps; of what is no game, a text or
+    /// an expanded formula, the bytes or words are the steps.
     Done {
         steps: u32,
         vertices: u32,
@@ -106,6 +107,8 @@ impl Refusal {
             52 => "the offsets don't begin at 0, fall, or don't end at the number of edges",
             53 => "an owner is above 1, or a target or the initial vertex is not below n",
             60 => "the game needs more vertices or edges than there is room for",
+            61 => "the regular formulas are no table of at most 1,024 nodes: its words, a kind, an operand or a tree",
+            62 => "the expanded formula has more than 1,024 nodes",
             91 => "the text is not of the form: a header, then a line for each vertex",
             92 => "a vertex is missing, given twice or, also as a successor, above the highest",
             93 => "more vertices or edges than there is room for, or a priority beyond 32 bits",
@@ -130,7 +133,7 @@ impl Refusal {
     pub fn who(&self) -> Party {
         match self.number {
             11..=26 => Party::Modeller,
-            31..=45 => Party::FormulaWriter,
+            31..=45 | 61 | 62 => Party::FormulaWriter,
             51..=53 | 98 => Party::GameSupplier,
             91..=93 => Party::TextSupplier,
             _ => Party::Host,

@@ -4,6 +4,7 @@ pub mod call;
 pub mod cases;
 pub mod counts;
 pub mod damage;
+pub mod expansion;
 pub mod finished;
 pub mod generate;
 pub mod kinds;

@@ -1,6 +1,7 @@
 //! The command `hingrezh`: games from files with the proved library, one at a time or a night's worth.
 mod build;
 mod dot;
+mod expand;
 mod format;
 mod help;
 mod input;
@@ -103,11 +104,12 @@ struct Command {
 /// The options of what builds games and writes them.
 const BUILDING: &[Choice] = &[VERTICES, EDGES, LIMIT, FORMAT, COUNTS, OUTPUT];
 
-const COMMANDS: [Command; 6] = [
+const COMMANDS: [Command; 7] = [
     Command { name: "build", options: BUILDING, help: help::BUILD, run: build::run },
     Command { name: "night", options: BUILDING, help: help::NIGHT, run: night::run },
     Command { name: "read", options: &[VERTICES, EDGES, FORMAT, OUTPUT], help: help::READ, run: read::run },
     Command { name: "restrict", options: &[MAP, FORMAT, COUNTS, OUTPUT], help: help::RESTRICT, run: restrict::run },
+    Command { name: "expand", options: &[OUTPUT], help: help::EXPAND, run: expand::run },
     Command { name: "show", options: &[ALL], help: help::SHOW, run: show::run },
     Command { name: "dot", options: &[VERTICES, EDGES, LIMIT, OUTPUT], help: help::DOT, run: dot::run },
 ];

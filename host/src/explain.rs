@@ -1,7 +1,8 @@
 //! Refusals told by the thing that is wrong, a transition, an action, a node, with the value found and what is legal:
 //! the number of a word helps nobody who writes models or formulas. Things are counted from 0, as in the words.
 use crate::nodes::{Nodes, at};
-use crate::{Game, Model, Refusal, Room, game_words};
+use crate::sizes::expanded_nodes;
+use crate::{Formulas, Game, Model, Refusal, Room, game_words};
 
 impl Refusal {
     /// What is wrong with the model, the formula or the room of a run that was refused so.
@@ -11,9 +12,24 @@ impl Refusal {
             11..=13 => self.of_labels(&model.labels),
             21..=24 => self.of_system(&model.system),
             25 | 26 => self.of_transition(model),
-            31..=34 => self.of_actions(model),
-            41..=44 => self.of_formula(model),
+            31..=34 => self.of_actions(&model.labels, &model.actions),
+            41..=44 => self.of_formula(&model.formula, &Row::of_actions(&model.actions)),
             45 => self.of_reference(&model.formula),
+            _ => self.what().to_string(),
+        }
+    }
+
+    /// What is wrong with labels, or with formulas whose expansion was refused so.
+    pub fn in_formulas(&self, labels: &[u32], formulas: &Formulas) -> String {
+        let Formulas { actions, regulars, formula } = formulas;
+        let row = regulars.as_ref().map_or_else(|| Row::of_actions(actions), |words| Row::of_regulars(words));
+        match self.number {
+            11..=13 => self.of_labels(labels),
+            31..=34 => self.of_actions(labels, actions),
+            41..=44 => self.of_formula(formula, &row),
+            45 => self.of_reference(formula),
+            61 => wrong_regulars(actions, regulars.as_deref().unwrap_or_default()),
+            62 => too_many_nodes(formulas),
             _ => self.what().to_string(),
         }
     }
@@ -105,33 +121,34 @@ impl Refusal {
         }
     }
 
-    fn of_actions(&self, model: &Model) -> String {
-        let (nodes, place) = (Nodes::of_actions(&model.actions), self.place as usize);
+    fn of_actions(&self, labels: &[u32], actions: &[u32]) -> String {
+        let (nodes, place) = (Nodes::of_actions(actions), self.place as usize);
         match self.number {
-            31 => table_length("the action formulas", &model.actions),
-            32 => format!("the action formulas have {} nodes, and at most 1024 are legal", at(&model.actions, 0)),
+            31 => table_length("the action formulas", actions),
+            32 => many_nodes("the action formulas have", actions),
             33 => unknown_kind(nodes, place, "action formulas", 5),
             _ if place == nodes.count() => unfinished(nodes, *nodes.first_nodes().last().unwrap_or(&0), "action"),
             _ if nodes.kind(place) == 2 => {
-                let labels = counted(at(&model.labels, 0), "label");
+                let labels = counted(at(labels, 0), "label");
                 format!("action node {place} (multi-action) names label {}, and {labels}", nodes.operand(place))
             }
             _ => wrong_operand(nodes, place, "action"),
         }
     }
 
-    fn of_formula(&self, model: &Model) -> String {
-        let (nodes, place) = (Nodes::of_formula(&model.formula), self.place as usize);
+    /// `row` is what boxes and diamonds name trees of.
+    fn of_formula(&self, formula: &[u32], row: &Row) -> String {
+        let (nodes, place) = (Nodes::of_formula(formula), self.place as usize);
         match self.number {
-            41 => table_length("the formula", &model.formula),
-            42 => format!("the formula has {} nodes, and 1 to 1024 are legal", at(&model.formula, 0)),
+            41 => table_length("the formula", formula),
+            42 => format!("the formula has {} nodes, and 1 to 1024 are legal", at(formula, 0)),
             43 => unknown_kind(nodes, place, "formula", 8),
             _ if place == nodes.count() => unfinished(nodes, 0, "formula"),
             _ if nodes.end(0) == Ok(place) => {
                 let last = nodes.count().saturating_sub(1);
                 format!("the formula's tree ends before node {place}, and nodes {place} to {last} are left over")
             }
-            _ if matches!(nodes.kind(place), 4 | 5) => wrong_modality(nodes, place, &model.actions),
+            _ if matches!(nodes.kind(place), 4 | 5) => row.lacks(nodes, place, "formula"),
             _ => wrong_operand(nodes, place, "formula"),
         }
     }
@@ -206,7 +223,8 @@ fn counted(count: u32, thing: &str) -> String {
 
 fn table_length(name: &str, words: &[u32]) -> String {
     match words.first() {
-        None => format!("{name} has no words, not even its number of nodes").replace("formulas has", "formulas have"),
+        None if name.ends_with('s') => format!("{name} have no words, not even their number of nodes"),
+        None => format!("{name} has no words, not even its number of nodes"),
         Some(&n) => {
             let wanted = 1 + 2 * n as u64;
             format!(
@@ -237,15 +255,71 @@ fn wrong_operand(nodes: Nodes, node: usize, name: &str) -> String {
     }
 }
 
-fn wrong_modality(nodes: Nodes, node: usize, actions: &[u32]) -> String {
-    let (row, to) = (Nodes::of_actions(actions), nodes.operand(node));
-    let first = row.first_nodes();
-    let why = match first.iter().rfind(|&&first| first < to) {
-        None => "there are no action formulas".to_string(),
-        Some(_) if to >= row.count() => counted(row.count() as u32, "action node"),
-        Some(tree) => format!("that is inside the action formula that begins at node {tree}"),
+/// A row of trees that nodes of another table name by their first nodes.
+struct Row<'a> {
+    nodes: Nodes<'a>,
+    of: &'static str,
+}
+
+impl<'a> Row<'a> {
+    fn of_actions(words: &'a [u32]) -> Row<'a> {
+        Row { nodes: Nodes::of_actions(words), of: "action" }
+    }
+
+    fn of_regulars(words: &'a [u32]) -> Row<'a> {
+        Row { nodes: Nodes::of_regulars(words), of: "regular" }
+    }
+
+    /// Why what a node of a table names is no tree of the row.
+    fn lacks(&self, table: Nodes, node: usize, name: &str) -> String {
+        let (to, of, count) = (table.operand(node), self.of, self.nodes.count());
+        let why = match self.nodes.first_nodes().iter().rfind(|&&first| first < to) {
+            None => format!("there are no {of} formulas"),
+            Some(_) if to >= count => counted(count as u32, &format!("{of} node")),
+            Some(tree) => format!("that is inside the {of} formula that begins at node {tree}"),
+        };
+        format!("{name} node {node} ({}) names {of} node {to}, and {why}", table.name(node))
+    }
+}
+
+/// What is wrong with refused regular formulas: of several faults that of the table before that of a kind, and that
+/// before the others, of which the one at the smallest node is told.
+fn wrong_regulars(actions: &[u32], regulars: &[u32]) -> String {
+    let nodes = Nodes::of_regulars(regulars);
+    let count = at(regulars, 0) as usize;
+    if regulars.len() != 1 + 2 * count {
+        return table_length("the regular formulas", regulars);
+    }
+    if count > 1024 {
+        return many_nodes("the regular formulas have", regulars);
+    }
+    if let Some(node) = (0..count).find(|&node| nodes.kind(node) > 4) {
+        return unknown_kind(nodes, node, "regular formulas", 4);
+    }
+    let row = Row::of_actions(actions);
+    let named = row.nodes.first_nodes();
+    let is_wrong = |node: usize| match (nodes.children(node), nodes.end(node + 1)) {
+        (0, _) => !named.contains(&nodes.operand(node)),
+        (2, right) => right.is_ok_and(|right| right != nodes.operand(node)),
+        _ => nodes.operand(node) != 0,
     };
-    format!("formula node {node} ({}) names action node {to}, and {why}", nodes.name(node))
+    match (0..count).find(|&node| is_wrong(node)) {
+        Some(node) if nodes.children(node) == 0 => row.lacks(nodes, node, "regular"),
+        Some(node) => wrong_operand(nodes, node, "regular"),
+        None => unfinished(nodes, *nodes.first_nodes().last().unwrap_or(&0), "regular"),
+    }
+}
+
+fn too_many_nodes(formulas: &Formulas) -> String {
+    let nodes = expanded_nodes(formulas).map_or("more than 10^19".to_string(), |nodes| nodes.to_string());
+    format!(
+        "expanded, the formula has {nodes} nodes, and at most 1024 are legal: each part of a choice has a copy of what \
+         stands behind it (a union of action formulas needs none), and a plus has one of what it repeats"
+    )
+}
+
+fn many_nodes(what: &str, words: &[u32]) -> String {
+    format!("{what} {} nodes, and at most 1024 are legal", at(words, 0))
 }
 
 fn no_game(game: &[u32]) -> String {

@@ -43,6 +43,19 @@ unsafe extern "C" {
         game_len: usize,
         answer: *mut u32,
     );
+    fn hingrezh_expand(
+        labels: *const u32,
+        labels_len: usize,
+        actions: *const u32,
+        actions_len: usize,
+        regulars: *const u32,
+        regulars_len: usize,
+        formula: *const u32,
+        formula_len: usize,
+        out: *mut u32,
+        out_len: usize,
+        answer: *mut u32,
+    );
 }
 
 /// Builds a game; the contract is that of `hingrezh_translate` in include/hingrezh.h.
@@ -124,6 +137,29 @@ pub fn read_pgsolver(text: &[u8], vertices: u32, edges: u32, game: &mut [u32]) -
             edges,
             game.as_mut_ptr(),
             game.len(),
+            answer.as_mut_ptr(),
+        );
+    }
+    Answer::of_words(answer)
+}
+
+/// Expands a formula over regular formulas; the contract is that of `hingrezh_expand` in include/hingrezh.h. Where it
+/// is done the answer's steps are the words of the formula, and it has no vertices or edges.
+pub fn expand(labels: &[u32], actions: &[u32], regulars: &[u32], formula: &[u32], out: &mut [u32]) -> Answer {
+    let mut answer = [0; 4];
+    // SAFETY: as above.
+    unsafe {
+        hingrezh_expand(
+            labels.as_ptr(),
+            labels.len(),
+            actions.as_ptr(),
+            actions.len(),
+            regulars.as_ptr(),
+            regulars.len(),
+            formula.as_ptr(),
+            formula.len(),
+            out.as_mut_ptr(),
+            out.len(),
             answer.as_mut_ptr(),
         );
     }

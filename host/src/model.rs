@@ -1,7 +1,7 @@
 //! Models and games as words, from files and to the library.
 use crate::game::game_words;
 use crate::pgsolver::{bytes_written, most_bytes};
-use crate::{Answer, Game, Refusal, library};
+use crate::{Answer, Game, Promised, Refusal, library};
 use std::alloc::{Layout, alloc_zeroed};
 use std::fmt;
 
@@ -150,12 +150,10 @@ impl Model {
         self.parts().iter().map(|part| part.len()).sum()
     }
 
-    /// As the thin program reads it: four lengths, then the four groups.
+    /// As the thin program reads it: four lengths, then the four groups. [`crate::Source`] reads files with regular
+    /// formulas, too.
     pub fn to_bytes(&self) -> Vec<u8> {
-        let lengths: Vec<u32> = self.parts().iter().map(|part| part.len() as u32).collect();
-        let mut bytes = bytes_of(&lengths);
-        self.parts().iter().for_each(|part| bytes.extend(bytes_of(part)));
-        bytes
+        bytes_of(&behind_lengths(&self.parts()))
     }
 
     pub fn from_bytes(bytes: &[u8]) -> Result<Model, FileFault> {
@@ -242,6 +240,12 @@ pub enum FileFault {
     More {
         promised: u64,
     },
+    /// In a file of formulas: neither the words that are promised without regular formulas nor those with them. Where
+    /// more than either follow in a stream, it is not known how many.
+    Neither {
+        promised: Promised,
+        found: Option<u64>,
+    },
     /// More bytes than any legal file has.
     TooLong {
         bytes: u64,
@@ -259,6 +263,12 @@ pub enum FileFault {
         words: u32,
         sizes: [u32; 2],
     },
+    /// The same in a stream, where it is not known yet whether there are regular formulas: by the length's number.
+    LongLength {
+        which: usize,
+        words: u32,
+        most: u32,
+    },
 }
 
 /// The groups of words that files hold.
@@ -267,6 +277,7 @@ pub enum Group {
     Labels,
     System,
     Actions,
+    Regulars,
     Formula,
 }
 
@@ -276,7 +287,7 @@ impl Group {
         match self {
             Group::Labels => 2 + 2 * 16_384,
             Group::System => 3 + 65_535 + 2 * 262_144,
-            Group::Actions | Group::Formula => 1 + 2 * 1_024,
+            Group::Actions | Group::Regulars | Group::Formula => 1 + 2 * 1_024,
         }
     }
 
@@ -293,6 +304,7 @@ impl Group {
                 told("the system has", sizes, "65535 states, 262144 transitions")
             }
             Group::Actions => told("the action formulas have", nodes, "1024 nodes"),
+            Group::Regulars => told("the regular formulas have", nodes, "1024 nodes"),
             Group::Formula => told("the formula has", nodes, "1024 nodes"),
         }
     }
@@ -307,15 +319,26 @@ impl fmt::Display for FileFault {
                 write!(f, "the lengths promise {promised} words, and {found} follow")
             }
             FileFault::More { promised } => write!(f, "the lengths promise {promised} words, and more follow"),
+            FileFault::Neither { promised, found } => f.write_str(&promised.tell(*found)),
             FileFault::TooLong { bytes, most } => write!(f, "{bytes} bytes, and the largest legal file has {most}"),
             FileFault::Endless { most } => write!(f, "more bytes than the {most} of the largest legal file"),
             FileFault::Text => write!(f, "this is PGSolver text; `hingrezh read` makes a game's words of it"),
             FileFault::LongGroup { group, words, sizes } => f.write_str(&group.tell(*words, *sizes)),
+            FileFault::LongLength { which, words, most } => {
+                let length = ["first", "second", "third", "fourth"].get(*which).unwrap_or(&"fifth");
+                write!(f, "the {length} length is {words}, and at most {most} are legal there")
+            }
         }
     }
 }
 
 impl std::error::Error for FileFault {}
+
+/// The lengths of the groups, then the groups.
+pub(crate) fn behind_lengths(groups: &[&Vec<u32>]) -> Vec<u32> {
+    let lengths = groups.iter().map(|group| group.len() as u32);
+    lengths.chain(groups.iter().flat_map(|group| group.iter().copied())).collect()
+}
 
 /// Little-endian words.
 pub fn words_of(bytes: &[u8]) -> Result<Vec<u32>, FileFault> {

@@ -1,5 +1,5 @@
-//! The tables of action formulas and of the formula, by node: what the messages and the readable text need. Any words
-//! may be looked at, also refused ones: what is not there counts as 0.
+//! The tables of action formulas, regular formulas and the formula, by node: what the messages and the readable text
+//! need. Any words may be looked at, also refused ones: what is not there counts as 0.
 
 /// Names of the kinds of nodes and how many children each has.
 pub struct Kinds {
@@ -11,6 +11,9 @@ pub const ACTIONS: Kinds = Kinds {
     names: &["true", "false", "multi-action", "union", "intersection", "negation"],
     children: &[0, 0, 0, 2, 2, 1],
 };
+
+pub const REGULARS: Kinds =
+    Kinds { names: &["action formula", "sequence", "choice", "star", "plus"], children: &[0, 2, 2, 1, 1] };
 
 pub const FORMULA: Kinds = Kinds {
     names: &["true", "false", "and", "or", "box", "diamond", "least fixpoint", "greatest fixpoint", "reference"],
@@ -32,6 +35,10 @@ pub fn at(words: &[u32], place: usize) -> u32 {
 impl<'a> Nodes<'a> {
     pub fn of_actions(words: &'a [u32]) -> Nodes<'a> {
         Nodes { words, kinds: &ACTIONS }
+    }
+
+    pub fn of_regulars(words: &'a [u32]) -> Nodes<'a> {
+        Nodes { words, kinds: &REGULARS }
     }
 
     pub fn of_formula(words: &'a [u32]) -> Nodes<'a> {

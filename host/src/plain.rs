@@ -5,6 +5,7 @@
 //! items, sets of matching labels) and what is read from a text are vectors. PGSolver text is written and read a second
 //! time on the library's own terms, with nothing allocated.
 mod checks;
+mod expand;
 mod items;
 mod pgsolver;
 mod pgsolver_lent;
@@ -18,6 +19,9 @@ const NONE: u32 = u32::MAX;
 /// The largest room for vertices and for edges.
 pub const MOST_VERTICES: u32 = 1 << 20;
 pub const MOST_EDGES: u32 = 1 << 22;
+
+/// The most nodes of a formula and of a row of action or regular formulas.
+const MOST_NODES: usize = 1_024;
 
 fn refused((number, place): Fault) -> [u32; 4] {
     [2, number, place, 0]
@@ -59,6 +63,19 @@ pub fn compute_reachable(game: &[u32], out: &mut [u32], map: &mut [u32], work: &
             [0, reached as u32, reached as u32, edges as u32]
         }
     };
+}
+
+/// As the library's `hingrezh_expand`.
+pub fn expand(
+    labels: &[u32],
+    actions: &[u32],
+    regulars: &[u32],
+    formula: &[u32],
+    out: &mut [u32],
+    answer: &mut [u32; 4],
+) {
+    let expanded = expand::expand(labels, actions, regulars, formula, out);
+    *answer = expanded.map_or_else(refused, |words| [0, words as u32, 0, 0]);
 }
 
 fn text_answer(written: Result<usize, Fault>) -> [u32; 4] {

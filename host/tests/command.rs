@@ -1,5 +1,5 @@
 //! The command as people use it: options, exit statuses, messages, bounds, a night's folder.
-use hingrezh::{Answer, Game, Model, Player, Refusal, Room, Slices};
+use hingrezh::{Answer, Formulas, Game, Model, Player, Refusal, Room, Slices};
 use hingrezh::{bytes_of, game_words, read_pgsolver, restrict, words_of, write_pgsolver};
 use std::fs;
 use std::io::Write;
@@ -114,6 +114,11 @@ fn wrong_usage() {
         ("night in.words f -o out --counts", "--counts is for lines, and the format is pgsolver: add --format lines"),
         ("read in.words --format lines --counts", "no option --counts"),
         ("show in.words --counts", "no option --counts"),
+        ("expand", "one file is wanted"),
+        ("expand a b c", "one file is wanted"),
+        ("expand in.words --limit 3", "no option --limit"),
+        ("expand in.words --format words", "no option --format"),
+        ("expand in.words -o in.words", "the output in.words is the input in.words"),
         ("restrict in.words --map -o -", "--map is a line"),
         ("restrict in.words --map --format pgsolver", "--map is a line"),
         ("build in.words -o in.words", "the output in.words is the input in.words"),
@@ -138,7 +143,7 @@ fn help_and_version() {
     let at = &folder("help");
     let manual = fs::read_to_string(concat!(env!("CARGO_MANIFEST_DIR"), "/man/hingrezh.1")).unwrap();
     let manual = manual.replace("\\-", "-");
-    for command in ["build", "night", "read", "restrict", "show", "dot"] {
+    for command in ["build", "night", "read", "restrict", "expand", "show", "dot"] {
         let asked = [format!("{command} --help"), format!("{command} -h x y"), format!("help {command}")];
         let texts = asked.map(|line| {
             let got = hingrezh(at, &line);
@@ -260,9 +265,9 @@ fn refusals_of_formulas() {
     }
 }
 
-fn refused(at: &Path, groups: [String; 4], told: &str, who: &str) {
+fn refused<const N: usize>(at: &Path, groups: [String; N], told: &str, who: &str) {
     file(at, "wrong.words", &groups.each_ref().map(|group| group.as_str()));
-    for command in ["build", "show", "dot"] {
+    for command in ["build", "expand", "show", "dot"] {
         let got = hingrezh(at, &format!("{command} wrong.words"));
         assert_eq!((status(&got), out(&got)), (2, String::new()), "{told}: {}", err(&got));
         assert!(err(&got).starts_with(&format!("hingrezh: wrong.words: {told}")), "{told}: {}", err(&got));
@@ -325,7 +330,7 @@ fn bounds() {
         let mut shell = Command::new("sh");
         shell.current_dir(at).args(["-c", &line, env!("CARGO_BIN_EXE_hingrezh")]).output().unwrap()
     };
-    for command in ["build", "show", "dot", "restrict", "read", "build -o large.game"] {
+    for command in ["build", "expand", "show", "dot", "restrict", "read", "build -o large.game"] {
         let got = limited(20_000, &format!("{command} large"));
         assert_eq!(status(&got), 65, "{command}: {}", err(&got));
         assert!(err(&got).contains("large: 1073741824 bytes, and the largest legal file has"), "{}", err(&got));
@@ -380,7 +385,8 @@ fn broken_files() {
     written(&bytes[..bytes.len() - 1]);
     told("build broken", 65, &format!("broken: {} bytes are no whole number of 32-bit words", bytes.len() - 1));
     written(&bytes[..bytes.len() - 4]);
-    told("build broken", 65, "broken: the lengths promise 31 words, and 30 follow");
+    let sums = "the four lengths promise 31 words, and 30 follow; with regular formulas the five promise 33, and 29";
+    told("build broken", 65, &format!("broken: {sums} follow (expected: four lengths, labels, system, action"));
     written(&[0; 12]);
     told("build broken", 65, "broken: there are 3 words, fewer than the lengths");
     let long = [words("6 600000 7 7"), words(LABELS), vec![65535, 267231, 0], vec![0; 600011]].concat();
@@ -395,7 +401,263 @@ fn broken_files() {
     told("build .", 66, ".: Is a directory");
     told("build in.words -o no/such/out", 74, "no/such/out: No such file");
     written(&bytes[..bytes.len() - 4]);
-    told("dot broken", 65, "broken: neither the words of a game nor four lengths");
+    told("dot broken", 65, "broken: neither the words of a game nor four lengths (five with regular formulas) and");
+}
+
+/// The actions a7 and a9, each an action formula.
+const EACH: &str = "2 2 2 0 1";
+/// (a7 + a9)* . a9+ and, at node 7, a7.
+const REGULARS: &str = "8 1 3 2 0 0 4 0 0 5 0 4 0 1 0 1 0";
+/// Greatest X, and of the box of the first to X, and the diamond of the other.
+const OVER: &str = "6 7 2 4 8 5 0 0 4 0 0 7 0";
+/// The same for a run.
+const EXPANDED: &str = "17 7 2 7 2 2 4 8 4 8 4 7 2 4 8 8 5 0 0 15 0 9 7 0 2 1 2 1 0 14 1 10 0 0 0";
+
+/// A formula over regular formulas as one file and as a formula's, and both as they are expanded.
+fn regular_files(at: &Path) {
+    file(at, "plan.model", &[LABELS, SYSTEM]);
+    file(at, "in.words", &[LABELS, SYSTEM, EACH, REGULARS, OVER]);
+    file(at, "over.words", &[EACH, REGULARS, OVER]);
+    file(at, "in.plain", &[LABELS, SYSTEM, EACH, EXPANDED]);
+    file(at, "over.plain", &[EACH, EXPANDED]);
+}
+
+/// An input is expanded to an input, a formula to a formula, and what has no regular formulas to itself.
+#[test]
+fn expansions() {
+    let at = &folder("expand");
+    regular_files(at);
+    for (from, to) in [
+        ("in.words", "in.plain"),
+        ("plan.model over.words", "over.plain"),
+        ("in.plain", "in.plain"),
+        ("plan.model over.plain", "over.plain"),
+    ] {
+        let wanted = fs::read(at.join(to)).unwrap();
+        for options in ["", "-o -"] {
+            let got = hingrezh(at, &format!("expand {from} {options}"));
+            assert_eq!((status(&got), err(&got)), (0, "hingrezh: done 35 0 0\n".to_string()), "{from}");
+            assert_eq!(got.stdout, wanted, "{from}");
+        }
+        let got = hingrezh(at, &format!("expand {from} -o out"));
+        assert_eq!((status(&got), out(&got), err(&got)), (0, "done 35 0 0\n".to_string(), String::new()), "{from}");
+        assert_eq!(fs::read(at.join("out")).unwrap(), wanted, "{from}");
+    }
+    assert_eq!(status(&hingrezh(at, "expand in.words -o no/such/out")), 74);
+    assert_eq!(status(&hingrezh(at, "expand missing")), 66);
+    // A formula alone has no labels.
+    let got = hingrezh(at, "expand over.words");
+    assert_eq!((status(&got), err(&got).contains("(expected: four lengths, labels, system")), (65, true));
+    // What can't be built is not written, and an old output stays: the system, and a formula that needs no expansion.
+    file(at, "bad.model", &[LABELS, "2 3 0 2 1 0 1 0 0 9 1"]);
+    file(at, "bad.plain", &[EACH, "1 9 0"]);
+    for (from, told) in [
+        ("bad.model over.words", "bad.model: refused 26 9: transition 1, from state 0"),
+        ("bad.model over.plain", "bad.model: refused 26 9: transition 1, from state 0"),
+        ("plan.model bad.plain", "bad.plain: refused 43 0: node 0 of the formula has kind 9"),
+    ] {
+        let got = hingrezh(at, &format!("expand {from} -o out"));
+        assert_eq!((status(&got), out(&got)), (2, String::new()), "{from}");
+        assert!(err(&got).starts_with(&format!("hingrezh: {told}")), "{from}: {}", err(&got));
+    }
+    assert_eq!(fs::read(at.join("out")).unwrap(), fs::read(at.join("over.plain")).unwrap());
+}
+
+/// Whatever takes a formula takes one over regular formulas, from files and from standard input.
+#[test]
+fn regular_formulas_are_expanded() {
+    let at = &folder("regular");
+    regular_files(at);
+    for line in ["build", "build --counts --format lines", "build --format words -o -", "dot"] {
+        let wanted = hingrezh(at, &format!("{line} in.plain"));
+        assert_eq!(status(&wanted), 0, "{line}: {}", err(&wanted));
+        let input = |name: &str| fs::read(at.join(name)).unwrap();
+        for got in [
+            hingrezh(at, &format!("{line} in.words")),
+            hingrezh(at, &format!("{line} plan.model over.words")),
+            fed(at, &format!("{line} -"), &input("in.words")),
+            fed(at, &format!("{line} -"), &input("in.plain")),
+            fed(at, &format!("{line} plan.model -"), &input("over.words")),
+            fed(at, &format!("{line} plan.model -"), &input("over.plain")),
+            fed(at, &format!("{line} - over.words"), &input("plan.model")),
+        ] {
+            assert_eq!((status(&got), got.stdout), (0, wanted.stdout.clone()), "{line}");
+        }
+    }
+    let got = fed(at, "expand -", &fs::read(at.join("in.words")).unwrap());
+    assert_eq!((status(&got), got.stdout), (0, fs::read(at.join("in.plain")).unwrap()));
+    let got = hingrezh(at, "night plan.model over.words -o out");
+    assert_eq!((status(&got), err(&got)), (0, String::new()));
+    let text = hingrezh(at, "build in.plain --format pgsolver").stdout;
+    assert_eq!(fs::read(at.join("out/over.pg")).unwrap(), text);
+    assert!(fs::read_to_string(at.join("out/manifest")).unwrap().contains(&sum_of(at, "over.words")));
+    // The wrapper's functions.
+    let regulars = Some(words(REGULARS));
+    let formulas = Formulas { actions: words(EACH), regulars, formula: words(OVER) };
+    let mut model = Model { labels: words(LABELS), system: words(SYSTEM), ..Model::default() };
+    assert_eq!(formulas.expand(&model.labels), Ok(words(EXPANDED)));
+    assert_eq!(model.take(&formulas), Ok(()));
+    assert_eq!(model, Model::from_bytes(&fs::read(at.join("in.plain")).unwrap()).unwrap());
+    let wrong = Formulas { regulars: Some(words("1 0 2")), ..formulas.clone() };
+    assert_eq!(model.take(&wrong), Err(Refusal { number: 61, place: 0 }));
+    assert_eq!((&model.actions, &model.formula), (&words(EACH), &words(EXPANDED)));
+    assert_eq!(Formulas { regulars: None, ..formulas }.expand(&[]), Ok(words(OVER)));
+}
+
+/// Of the night's formulas one is refused before its expansion, one because of it, one is done.
+#[test]
+fn a_night_with_regular_formulas() {
+    let at = &folder("regular-night");
+    regular_files(at);
+    file(at, "wrong.words", &[EACH, "1 3 0", OVER]);
+    file(at, "large.words", &[EACH, "3 2 0 0 2 0 1", "10 5 5 5 5 5 5 5 5 5 0 0 0 0 0 0 0 0 0 0 0"]);
+    let line = "night plan.model over.words wrong.words large.words over.plain -o out --format words";
+    let got = hingrezh(at, line);
+    assert_eq!((status(&got), err(&got).contains("both be written to out/over.game")), (64, true), "{}", err(&got));
+    let got = hingrezh(at, &line.replace(" over.plain", ""));
+    assert_eq!(status(&got), 2);
+    let told = err(&got);
+    assert!(told.contains("wrong.words: refused 61 0: the regular tree of node 0 is unfinished"), "{told}");
+    assert!(told.contains("large.words: refused 62 0: expanded, the formula has 2045 nodes"), "{told}");
+    let rows = ["over     done", "wrong    refused 61 0", "large    refused 62 0"];
+    assert!(rows.iter().all(|row| out(&got).contains(row)), "{}", out(&got));
+    assert_eq!(files_in(&at.join("out")), ["manifest", "over.game"]);
+    let manifest = fs::read_to_string(at.join("out/manifest")).unwrap();
+    assert!(manifest.contains(" large.words\n# refused 62 0: no game\n"), "{manifest}");
+    // A fault of the labels is the model's, and is told once.
+    file(at, "bad.model", &["2 2 1 0 7 9", SYSTEM]);
+    let got = hingrezh(at, "night bad.model over.words over.words/../over.plain wrong.words -o out");
+    assert_eq!(status(&got), 64, "two formulas of one name");
+    let got = hingrezh(at, "night bad.model over.words wrong.words -o out");
+    assert_eq!(status(&got), 2);
+    assert_eq!(err(&got).matches("bad.model: refused 13 3: action 9").count(), 1, "{}", err(&got));
+    assert_eq!(err(&got).lines().count(), 1, "{}", err(&got));
+}
+
+/// Each fault of regular formulas tells the thing, though their refusal has no place.
+#[test]
+fn refusals_of_regular_formulas() {
+    let at = &folder("regular-refusals");
+    for (regulars, told) in [
+        ("", "the regular formulas have no words, not even their number of nodes"),
+        ("2 0 0", "the first word of the regular formulas says 2 nodes, which makes 5 words, and there are 3"),
+        ("1 5 0", "node 0 of the regular formulas has kind 5, and the kinds are 0 to 4"),
+        ("3 3 0 7 9 0 0", "node 2 of the regular formulas has kind 7, and the kinds are 0 to 4"),
+        ("1 0 2", "regular node 0 (action formula) names action node 2, and there are 2 action nodes, 0 to 1"),
+        ("3 1 0 0 1 0 0", "regular node 0 (sequence) has operand 1, and its right child is node 2, just past its"),
+        ("3 2 0 0 3 0 0", "regular node 0 (choice) has operand 3, and its right child is node 2, just past its left"),
+        ("2 3 0 1 0", "regular node 0 (star) has operand 1, and it must be 0"),
+        ("3 0 4 0 0 1 0", "regular node 1 (plus) has operand 1, and it must be 0"),
+        // The operand of a sequence whose left tree is unfinished is not judged.
+        ("3 0 1 3 0 9 0", "the regular tree of node 1 is unfinished: after node 2 (star) it needs 2 more subtrees"),
+        ("2 1 0 2 0", "the regular tree of node 0 is unfinished: after node 1 (action formula) it needs one more"),
+    ] {
+        let groups = [LABELS, SYSTEM, EACH, regulars, OVER].map(str::to_string);
+        refused(at, groups, &format!("refused 61 0: {told}"), "the formula's writer");
+    }
+    let many = format!("1025{}", " 0".repeat(2050));
+    file(at, "many.words", &[LABELS, SYSTEM, EACH, &many, OVER]);
+    let got = hingrezh(at, "build many.words");
+    let told = "many.words: the regular formulas have 2051 words (1025 nodes), and at most 2049 are legal (1024 nodes)";
+    assert_eq!((status(&got), err(&got).contains(told)), (65, true), "{}", err(&got));
+}
+
+/// Actions, regular formulas and formula: modalities are judged by the regular formulas, these by the action formulas.
+#[test]
+fn refusals_of_formulas_over_regular_formulas() {
+    let at = &folder("over-refusals");
+    for (formulas, told) in [
+        ([ACTIONS, "1 0 1", OVER], "61 0: regular node 0 (action formula) names action node 1, and that is inside the"),
+        (["0", "1 0 0", OVER], "61 0: regular node 0 (action formula) names action node 0, and there are no action"),
+        ([EACH, "0", OVER], "44 2: formula node 2 (box) names regular node 0, and there are no regular formulas"),
+        (
+            [EACH, "3 1 0 0 2 0 1", "2 5 0 1 0"],
+            "44 0: formula node 0 (diamond) names regular node 1, and that is inside the regular formula that begins",
+        ),
+        (
+            [EACH, "1 0 0", "2 5 0 1 0"],
+            "44 0: formula node 0 (diamond) names regular node 1, and there is one regular node, number 0",
+        ),
+        ([EACH, REGULARS, "1 9 0"], "43 0: node 0 of the formula has kind 9"),
+        ([EACH, REGULARS, "1 8 0"], "45 0: formula node 0 (reference) names node 0, and that is no fixpoint"),
+        (["1 2 4", REGULARS, OVER], "34 0: action node 0 (multi-action) names label 4, and there are 2 labels"),
+        (["1 6 0", "", ""], "33 0: node 0 of the action formulas has kind 6"),
+    ] {
+        let groups = [&[LABELS, SYSTEM], &formulas[..]].concat();
+        let groups: [String; 5] = std::array::from_fn(|i| groups[i].to_string());
+        refused(at, groups, &format!("refused {told}"), "the formula's writer");
+    }
+    let groups = ["2 2 1 0 7 9", SYSTEM, EACH, REGULARS, OVER].map(str::to_string);
+    refused(at, groups, "refused 13 3: action 9, entry 1 of the labels", "the modeller");
+}
+
+/// How large an expanded formula would be, if that can be counted.
+#[test]
+fn expansions_that_are_too_large() {
+    let at = &folder("too-large");
+    let boxes = |count: usize| format!("{}{} 0{} 0", count + 1, " 4".repeat(count), " 0".repeat(count));
+    let choice = "3 2 0 0 2 0 1";
+    for (regulars, count, told) in [
+        (choice, 9, "2045 nodes"),
+        (choice, 62, "18446744073709551613 nodes"),
+        (choice, 63, "more than 10^19 nodes"),
+        (choice, 1023, "more than 10^19 nodes"),
+        // Each plus copies what it repeats.
+        ("10 4 4 4 4 4 4 4 4 4 0 0 0 0 0 0 0 0 0 0 0", 1, "2046 nodes"),
+    ] {
+        let groups = [LABELS, SYSTEM, EACH, regulars, &boxes(count)].map(str::to_string);
+        let told = format!("refused 62 0: expanded, the formula has {told}, and at most 1024 are legal: each part");
+        refused(at, groups, &told, "the formula's writer");
+    }
+    // Eight choices in a row, and eight pluses around each other, have room.
+    let pluses = "9 4 4 4 4 4 4 4 4 0 0 0 0 0 0 0 0 0 0";
+    for (regulars, count, words) in [(choice, 8, 2043), (pluses, 1, 2045)] {
+        file(at, "in.words", &[LABELS, SYSTEM, EACH, regulars, &boxes(count)]);
+        let got = hingrezh(at, "expand in.words -o out");
+        assert_eq!((status(&got), out(&got)), (0, format!("done {words} 0 0\n")), "{}", err(&got));
+    }
+}
+
+/// Wherever a file of formulas ends too early, and where it goes on, both sums are told.
+#[test]
+fn broken_files_of_formulas() {
+    let at = &folder("broken-regular");
+    regular_files(at);
+    for (line, whole, lengths, shorter) in
+        [("build", "in.words", 4, 43), ("build", "in.plain", 4, 0), ("build plan.model", "over.words", 2, 24)]
+    {
+        let bytes = fs::read(at.join(whole)).unwrap();
+        // Where it ends with as many words as without regular formulas, all of its words stand one place off.
+        for end in (0..bytes.len()).filter(|&end| end != 4 * shorter) {
+            fs::write(at.join("broken"), &bytes[..end]).unwrap();
+            let got = hingrezh(at, &format!("{line} broken"));
+            assert_eq!((status(&got), out(&got)), (65, String::new()), "{whole} {end}: {}", err(&got));
+            let told = match end {
+                _ if end % 4 != 0 => format!("broken: {end} bytes are no whole number"),
+                _ if end < 4 * lengths => format!("broken: there are {} words, fewer than the lengths", end / 4),
+                _ => format!("words, and {} follow", end / 4 - lengths),
+            };
+            assert!(err(&got).contains(&told), "{whole} {end}: {}", err(&got));
+        }
+        fs::write(at.join("broken"), &bytes[..4 * shorter]).unwrap();
+        let wanted = if shorter == 0 { 65 } else { 2 };
+        assert_eq!(status(&hingrezh(at, &format!("{line} broken"))), wanted, "{whole}");
+        fs::write(at.join("broken"), [&bytes[..], &[0; 4]].concat()).unwrap();
+        let got = hingrezh(at, &format!("{line} broken"));
+        assert_eq!((status(&got), err(&got).contains("; with regular formulas the ")), (65, true), "{}", err(&got));
+        let got = fed(at, &format!("{line} -"), &[&bytes[..], &[0; 4]].concat());
+        let told = if whole == "in.plain" { "follow" } else { "and more follow" };
+        assert_eq!((status(&got), err(&got).contains(told)), (65, true), "{whole}: {}", err(&got));
+    }
+    let told = |bytes: &[u32], wanted: &str| {
+        let got = fed(at, "build plan.model -", &bytes_of(bytes));
+        assert_eq!((status(&got), err(&got).contains(wanted)), (65, true), "{}", err(&got));
+    };
+    told(&[2, 3, 9], "standard input: the two lengths promise 5 words, and 1 follow; with regular formulas the three");
+    told(&[2, 3000], "standard input: the second length is 3000, and at most 2049 are legal there (expected: two");
+    told(&[0, 1, 3000, 9], "standard input: the third length is 3000, and at most 2049 are legal there");
+    told(&[0, 0, 0, 9], "the two lengths promise 0 words, with regular formulas the three promise 0 words, and more");
+    told(&[0, 1], "standard input: the two lengths promise 1 words, and 0 follow (expected: two lengths");
 }
 
 #[test]
@@ -428,6 +690,57 @@ fn readable_text() {
     file(at, "model", &[labels, "1 1 0 1 2 0"]);
     file(at, "formula", &[actions, formula]);
     assert_eq!(out(&hingrezh(at, "show model formula")), out(&got));
+}
+
+/// The formula as it was written, its regular formulas by node, and what it is expanded to.
+#[test]
+fn readable_regular_formulas() {
+    let at = &folder("show-regular");
+    regular_files(at);
+    let got = hingrezh(at, "show in.words");
+    assert_eq!((status(&got), err(&got)), (0, String::new()));
+    let text = out(&got);
+    let formulas = "\
+formula over regular formulas: 6 nodes
+  nu X0. [(a7 + a9)* . a9+]X0 && <a7>true
+regular formulas: 2
+  0  (a7 + a9)* . a9+
+  7  a7
+expanded formula: 17 nodes
+  nu X0. (nu X1. ([a7]X1 && [a9]X1) && [a9](nu X2. [a9]X2 && X0)) && <a7>true
+";
+    assert!(text.contains(formulas), "{text}");
+    let (before, after) = text.split_once(formulas).unwrap();
+    let plain = out(&hingrezh(at, "show in.plain"));
+    assert!(plain.starts_with(before) && plain.ends_with(after), "{plain}");
+    assert!(plain.contains("\nformula: 17 nodes\n"), "{plain}");
+    assert_eq!(out(&hingrezh(at, "show plan.model over.words")), text);
+    // Brackets where they are needed: a7|a9, not a7, a7 or a9 and a7 as action formulas, alone and in larger ones.
+    let actions = "7 2 5 2 3 2 2 2 0 0 1 5 1 2 2";
+    let many = |count: usize| format!("{count}{}{}", " 0".repeat(count), " 1".repeat(count));
+    for (regulars, shown) in [
+        ("1 0 0", "a7|a9"),
+        ("1 0 1", "!a7"),
+        ("1 0 3", "a7 || a9"),
+        ("2 3 0 0 0", "(a7|a9)*"),
+        ("2 4 0 0 6", "a9+"),
+        ("3 1 0 0 2 1 3", "(!a7) . (a7 || a9)"),
+        ("3 3 4 0 0 0 6", "(a9+)*"),
+        ("5 1 1 0 0 0 4 3 6 6 6", "(a9 . a9) . a9"),
+        ("5 1 0 1 0 0 2 6 4 6 6", "a9 . (a9 . a9)"),
+        ("5 2 1 0 0 0 4 3 6 6 6", "a9 . a9 + a9"),
+        ("5 1 2 0 0 0 4 3 6 6 6", "(a9 + a9) . a9"),
+        ("4 3 1 0 0 0 3 6 6", "(a9 . a9)*"),
+        ("5 1 3 0 4 0 3 0 6 0 6", "a9* . a9+"),
+        (&many(21), "!a7"),
+    ] {
+        file(at, "in.words", &["3 4 0 0 1 2 7 9 7 9", "1 0 0 0", actions, regulars, "2 5 0 0 0"]);
+        let text = out(&hingrezh(at, "show in.words"));
+        assert!(text.contains(&format!("\n  <{shown}>true\nregular formulas: ")), "{shown}: {text}");
+        assert!(text.contains(&format!("\n  0  {shown}\n")), "{shown}: {text}");
+        assert_eq!(text.contains("\n  19  !a7\n  and 1 more (--all lists them)\n"), regulars.starts_with("21"));
+    }
+    assert!(out(&hingrezh(at, "show in.words --all")).contains("\n  20  !a7\nexpanded formula: 2 nodes\n"));
 }
 
 #[test]

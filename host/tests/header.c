@@ -38,6 +38,11 @@ static const char TEXT[] = "parity 2;\n0 0 0 1;\n1 0 0 2;\n2 0 1 0;\n";
 #define TEXT_LEN (sizeof TEXT - 1)
 static const uint32_t UNCOUNTED[HINGREZH_GAME_WORDS(3, 3)] = {3, 3, 0, 0, 0, 1, 0, 0, 0, 0, 1, 2, 3, 1, 2, 0, 0, 0, 0};
 
+/* The box of any number of actions to true, and its expansion: greatest I, (box I) and true. */
+static const uint32_t REGULARS[HINGREZH_NODE_WORDS(2)] = {2, 3, 0, 0, 0};
+static const uint32_t OVER[HINGREZH_NODE_WORDS(2)] = {2, 4, 0, 0, 0};
+static const uint32_t EXPANDED[HINGREZH_NODE_WORDS(5)] = {5, 7, 2, 4, 8, 0, 0, 4, 0, 0, 0};
+
 static int answered(const uint32_t *answer, uint32_t kind, uint32_t first, uint32_t second, uint32_t third)
 {
     return answer[0] == kind && answer[1] == first && answer[2] == second && answer[3] == third;
@@ -207,6 +212,83 @@ static void refused_texts(void)
     free(game);
 }
 
+static void expand(const uint32_t *regulars, size_t regulars_len, const uint32_t *formula, size_t formula_len,
+                   uint32_t *out, uint32_t *answer)
+{
+    hingrezh_expand(LABELS, sizeof LABELS / 4, ACTIONS, sizeof ACTIONS / 4, regulars, regulars_len, formula,
+                    formula_len, out, HINGREZH_EXPANDED_WORDS, answer);
+}
+
+/* The words, then zeros; a run takes what is written. */
+static void an_expansion(void)
+{
+    uint32_t *out = lent(HINGREZH_EXPANDED_WORDS), answer[HINGREZH_ANSWER_WORDS];
+    uint32_t *game = lent(HINGREZH_GAME_WORDS(V, E)), *work = lent(HINGREZH_WORK_WORDS(V, E));
+    memset(out, 7, HINGREZH_EXPANDED_WORDS * sizeof(uint32_t));
+    expand(REGULARS, sizeof REGULARS / 4, OVER, sizeof OVER / 4, out, answer);
+    CHECK(answered(answer, HINGREZH_DONE, 11, 0, 0));
+    CHECK(memcmp(out, EXPANDED, sizeof EXPANDED) == 0);
+    CHECK(all_zero(out, 11, HINGREZH_EXPANDED_WORDS));
+    hingrezh_translate(LABELS, sizeof LABELS / 4, SYSTEM, sizeof SYSTEM / 4, ACTIONS, sizeof ACTIONS / 4, out,
+                       answer[1], V, E, 0, game, HINGREZH_GAME_WORDS(V, E), work, HINGREZH_WORK_WORDS(V, E), answer);
+    CHECK(answered(answer, HINGREZH_CUT, 0, 1, 0));
+    free(out);
+    free(game);
+    free(work);
+}
+
+/* A formula of so many boxes above true, each of which names regular node 0. */
+static size_t boxes(uint32_t count, uint32_t *formula)
+{
+    uint32_t n = count + 1, v;
+    formula[0] = n;
+    for (v = 0; v < n; v++) {
+        formula[1 + v] = v < count ? 4 : 0;
+        formula[1 + n + v] = 0;
+    }
+    return HINGREZH_NODE_WORDS(n);
+}
+
+/* Each part of a choice has a copy of what stands behind it: nine in a row are too many nodes. */
+static void large_expansions(void)
+{
+    static const uint32_t choice[HINGREZH_NODE_WORDS(3)] = {3, 2, 0, 0, 2, 0, 0};
+    uint32_t formula[HINGREZH_NODE_WORDS(10)], answer[HINGREZH_ANSWER_WORDS], *out = lent(HINGREZH_EXPANDED_WORDS);
+    expand(choice, sizeof choice / 4, formula, boxes(8, formula), out, answer);
+    CHECK(answered(answer, HINGREZH_DONE, HINGREZH_NODE_WORDS(1021), 0, 0));
+    CHECK(out[0] == 1021 && all_zero(out, answer[1], HINGREZH_EXPANDED_WORDS));
+    memset(out, 7, HINGREZH_EXPANDED_WORDS * sizeof(uint32_t));
+    expand(choice, sizeof choice / 4, formula, boxes(9, formula), out, answer);
+    CHECK(answered(answer, HINGREZH_REFUSED, 62, 0, 0));
+    CHECK(out[0] == UINT32_C(0x07070707) && out[HINGREZH_EXPANDED_WORDS - 1] == UINT32_C(0x07070707));
+    free(out);
+}
+
+/* Each group of words, with the slice as it was; and slices of other lengths. */
+static void refused_expansions(void)
+{
+    static const uint32_t star[] = {1, 3, 0}, no_label[] = {1, 2, 1}, no_kind[] = {1, 9, 0}, inside[] = {2, 4, 0, 1, 0};
+    uint32_t *out = lent(HINGREZH_EXPANDED_WORDS + 1), answer[HINGREZH_ANSWER_WORDS];
+    memset(out, 7, (HINGREZH_EXPANDED_WORDS + 1) * sizeof(uint32_t));
+    expand(star, sizeof star / 4, OVER, sizeof OVER / 4, out, answer);
+    CHECK(answered(answer, HINGREZH_REFUSED, 61, 0, 0));
+    expand(REGULARS, sizeof REGULARS / 4, no_kind, sizeof no_kind / 4, out, answer);
+    CHECK(answered(answer, HINGREZH_REFUSED, 43, 0, 0));
+    expand(REGULARS, sizeof REGULARS / 4, inside, sizeof inside / 4, out, answer);
+    CHECK(answered(answer, HINGREZH_REFUSED, 44, 0, 0));
+    hingrezh_expand(LABELS, sizeof LABELS / 4, no_label, sizeof no_label / 4, star, sizeof star / 4, no_kind,
+                    sizeof no_kind / 4, out, HINGREZH_EXPANDED_WORDS, answer);
+    CHECK(answered(answer, HINGREZH_REFUSED, 34, 0, 0));
+    hingrezh_expand(LABELS, sizeof LABELS / 4, ACTIONS, sizeof ACTIONS / 4, REGULARS, sizeof REGULARS / 4, OVER,
+                    sizeof OVER / 4, out, HINGREZH_EXPANDED_WORDS - 1, answer);
+    CHECK(answered(answer, HINGREZH_REFUSED, 2, 0, 0));
+    hingrezh_expand(LABELS, sizeof LABELS / 4, ACTIONS, sizeof ACTIONS / 4, REGULARS, sizeof REGULARS / 4, OVER,
+                    sizeof OVER / 4, out, HINGREZH_EXPANDED_WORDS + 1, answer);
+    CHECK(answered(answer, HINGREZH_REFUSED, 2, 0, 0));
+    CHECK(out[0] == UINT32_C(0x07070707) && out[HINGREZH_EXPANDED_WORDS] == UINT32_C(0x07070707));
+    free(out);
+}
+
 /* A slice of length 0 may be NULL, read or written. */
 static void empty_slices(void)
 {
@@ -233,15 +315,32 @@ static void empty_slices(void)
     CHECK(answered(answer, HINGREZH_REFUSED, 2, 0, 0));
     hingrezh_read_pgsolver(NULL, 0, 0, 0, NULL, 0, answer);
     CHECK(answered(answer, HINGREZH_REFUSED, 1, 0, 0));
+    hingrezh_expand(NULL, 0, NULL, 0, NULL, 0, NULL, 0, NULL, 0, answer);
+    CHECK(answered(answer, HINGREZH_REFUSED, 2, 0, 0));
     free(game);
     free(work);
+}
+
+/* The same of an expansion: one group after another is there. */
+static void empty_slices_of_expansions(void)
+{
+    uint32_t *out = lent(HINGREZH_EXPANDED_WORDS), answer[HINGREZH_ANSWER_WORDS];
+    hingrezh_expand(NULL, 0, NULL, 0, NULL, 0, NULL, 0, out, HINGREZH_EXPANDED_WORDS, answer);
+    CHECK(answered(answer, HINGREZH_REFUSED, 11, 0, 0));
+    hingrezh_expand(LABELS, sizeof LABELS / 4, NULL, 0, NULL, 0, NULL, 0, out, HINGREZH_EXPANDED_WORDS, answer);
+    CHECK(answered(answer, HINGREZH_REFUSED, 31, 0, 0));
+    expand(NULL, 0, NULL, 0, out, answer);
+    CHECK(answered(answer, HINGREZH_REFUSED, 61, 0, 0));
+    expand(REGULARS, sizeof REGULARS / 4, NULL, 0, out, answer);
+    CHECK(answered(answer, HINGREZH_REFUSED, 41, 0, 0));
+    free(out);
 }
 
 /* Calls of several threads at the same time read the same inputs. */
 static void *many_runs(void *same)
 {
     uint32_t *game = lent(HINGREZH_GAME_WORDS(V, E)), *work = lent(HINGREZH_WORK_WORDS(V, E));
-    uint32_t answer[HINGREZH_ANSWER_WORDS];
+    uint32_t *out = lent(HINGREZH_EXPANDED_WORDS), answer[HINGREZH_ANSWER_WORDS];
     uint8_t text[TEXT_LEN];
     int i, *good = (int *)same;
     for (i = 0; i < 2000; i++) {
@@ -251,27 +350,50 @@ static void *many_runs(void *same)
         *good = *good && answered(answer, HINGREZH_DONE, TEXT_LEN, 0, 0) && memcmp(text, TEXT, TEXT_LEN) == 0;
         read_text(TEXT, game, answer);
         *good = *good && answered(answer, HINGREZH_DONE, 3, 3, 3) && memcmp(game, UNCOUNTED, sizeof UNCOUNTED) == 0;
+        expand(REGULARS, sizeof REGULARS / 4, OVER, sizeof OVER / 4, out, answer);
+        *good = *good && answered(answer, HINGREZH_DONE, 11, 0, 0) && memcmp(out, EXPANDED, sizeof EXPANDED) == 0;
     }
     free(game);
     free(work);
+    free(out);
+    return NULL;
+}
+
+/* The deepest formula that is expanded: nested fixpoints, as many as a table holds. */
+static void *deepest_expansion(void *good)
+{
+    uint32_t *deep = lent(HINGREZH_EXPANDED_WORDS), *out = lent(HINGREZH_EXPANDED_WORDS), answer[HINGREZH_ANSWER_WORDS];
+    const size_t n = HINGREZH_MOST_NODES;
+    size_t v;
+    for (v = 0; v < n; v++) {
+        deep[1 + v] = v + 1 < n ? 6 + (uint32_t)(v % 2) : 8;
+        deep[1 + n + v] = 0;
+    }
+    deep[0] = (uint32_t)n;
+    expand(REGULARS, sizeof REGULARS / 4, deep, HINGREZH_EXPANDED_WORDS, out, answer);
+    *(int *)good = answered(answer, HINGREZH_DONE, (uint32_t)HINGREZH_EXPANDED_WORDS, 0, 0) &&
+                   memcmp(out, deep, HINGREZH_EXPANDED_WORDS * sizeof(uint32_t)) == 0;
+    free(deep);
+    free(out);
     return NULL;
 }
 
 static void threads(void)
 {
-    pthread_t thread[4];
+    pthread_t thread[5];
     pthread_attr_t small;
-    int good[4] = {1, 1, 1, 1}, i;
+    int good[5] = {1, 1, 1, 1, 0}, i;
     CHECK(pthread_attr_init(&small) == 0 && pthread_attr_setstacksize(&small, 256 * 1024) == 0);
     for (i = 0; i < 4; i++) CHECK(pthread_create(&thread[i], &small, many_runs, &good[i]) == 0);
-    for (i = 0; i < 4; i++) CHECK(pthread_join(thread[i], NULL) == 0 && good[i]);
+    CHECK(pthread_create(&thread[4], &small, deepest_expansion, &good[4]) == 0);
+    for (i = 0; i < 5; i++) CHECK(pthread_join(thread[i], NULL) == 0 && good[i]);
 }
 
 static void refusals(void)
 {
     static const uint32_t numbers[] = {1,  2,  11, 12, 13, 21, 22, 23, 24, 25, 26, 31,
                                        32, 33, 34, 41, 42, 43, 44, 45, 51, 52, 53, 60,
-                                       91, 92, 93, 98};
+                                       61, 62, 91, 92, 93, 98};
     size_t i, texts = 0, known = sizeof numbers / sizeof numbers[0];
     uint32_t n;
     for (i = 0; i < known; i++) CHECK(hingrezh_refusal_text(numbers[i]) != NULL);
@@ -293,6 +415,7 @@ static void macros(void)
     CHECK(HINGREZH_SYSTEM_WORDS(HINGREZH_MOST_STATES, HINGREZH_MOST_TRANSITIONS) == (size_t)589826);
     CHECK(HINGREZH_LABEL_WORDS(HINGREZH_MOST_ACTIONS) == (size_t)32770);
     CHECK(HINGREZH_NODE_WORDS(HINGREZH_MOST_NODES) == (size_t)2049);
+    CHECK(HINGREZH_EXPANDED_WORDS == (size_t)2049);
     CHECK(HINGREZH_TEXT_BYTES(HINGREZH_MOST_VERTICES, HINGREZH_MOST_EDGES) == (size_t)56623120);
     CHECK(HINGREZH_MOST_LABELS == 4096 && HINGREZH_NOT_REACHED == UINT32_MAX);
 }
@@ -307,7 +430,11 @@ int main(void)
     the_longest_text();
     a_text_read();
     refused_texts();
+    an_expansion();
+    large_expansions();
+    refused_expansions();
     empty_slices();
+    empty_slices_of_expansions();
     threads();
     return failures != 0;
 }

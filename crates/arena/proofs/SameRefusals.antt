@@ -21,7 +21,7 @@ use Rattle.rules.specs.Refusal.{fault_from, lower_fault, refusal1, refusal2, ref
 use Rattle.rules.specs.Refusal.{refusal21, refusal22, refusal23, refusal24, too_large, refusal25, refusal26}
 use Rattle.rules.specs.Refusal.{refusal31, refusal32, refusal33, wrong_operand, bad_action_operand, refusal34, refusal41}
 use Rattle.rules.specs.Refusal.{refusal42, refusal43}
-use Rattle.rules.specs.Refusal.{names_no_tree, refusal44, refusal45}
+use Rattle.rules.specs.Refusal.{names_no_tree, names_no_root, refusal44, refusal45}
 use Rattle.rules.specs.Refusal.{input_refusal, refusal}
 use Rattle.tables.specs.Good.{GoodLabels, GoodActions}
 use Rattle.tables.proofs.Faults.{if-false, from_none, from_same}
@@ -175,7 +175,7 @@ module _ (ls acts acts' : List ℕ) (good : GoodActions (label_count ls) acts) (
       (ap₂ (λ (c : ℕ → ℕ) (n : ℕ). fault_if 34 n (not (on_row c n n))) children_path same.sizes)
 
   same_names : (a : ℕ) → names_no_tree acts' a ≡ names_no_tree acts a
-  unfolding names_no_tree
+  unfolding names_no_root
   same_names a = ap₂ (λ (c : ℕ → ℕ) (n : ℕ). leb n a || not (on_row c n a)) children_path same.sizes
 
   same_44 : (f : List ℕ) → refusal44 (names_no_tree acts') f ≡ refusal44 (names_no_tree acts) f

@@ -1,4 +1,5 @@
-// The check of the formula: n, n kinds, n operands.
+// The check of the formula: n, n kinds, n operands. Its modalities name trees of another table: of the action formulas,
+// or of the regular formulas (#104).
 #![tactic(auto)]
 
 ghost use Rattle.std.specs.Prelude.{◌≡◌, ◌||◌, [], ◌∷◌, ◌<◌, eqb};
@@ -6,24 +7,16 @@ ghost use Rattle.tables.specs.Ends.{end_of};
 ghost use Rattle.rules.specs.Answers.{first_fault};
 ghost use Rattle.rules.specs.Formula.{is_fixpoint};
 ghost use Rattle.rules.specs.Table.{size, kind, formula_children, formula_node, reference_of, is_some};
-ghost use Rattle.rules.specs.Refusal.{fault_from, names_no_tree, bad_formula_operand, wrong_reference, encloses};
+ghost use Rattle.rules.specs.Refusal.{fault_from, names_no_root, bad_formula_operand, wrong_reference, encloses};
 ghost use Rattle.rules.specs.Refusal.{refusal41, refusal42, refusal43, refusal44, refusal45};
 ghost use Rattle.node_kinds.specs.Codes.{ReadsFormula};
-ghost use Rattle.table_words.specs.Tables.{Sized};
+ghost use Rattle.table_words.specs.Tables.{Sized, children_of};
 
 use faults::fault_if;
-use node_kinds::{ActionKind, FormulaKind, UnknownKind};
+use node_kinds::{FormulaKind, UnknownKind};
 use rules::Fault;
-use table_words::{Row, Trees};
+use table_words::{NodeKind, Row, Trees};
 use words::NODES;
-
-// The number `named` is not the first node of one of the trees of the action formulas.
-#[tactic(auto, unfolding(rules::specs::Refusal::names_no_tree))]
-fn names_no_tree(row: &Row<'_, '_, ActionKind>, named: usize) -> bool
-    ensures { result ≡ names_no_tree row.now.words.now named }
-{
-    row.size() <= named || !row.has_tree_at(named)
-}
 
 // A node of the formula, with the ends of its trees.
 #[derive(Clone, Copy)]
@@ -41,14 +34,15 @@ impl<'t, 'a, 'b> FormulaNode<'t, 'a, 'b> {
         FormulaKind::try_from(words::kind_at(self.trees.words, self.node))
     }
 
-    // Its operand is wrong. As a name, that of a modality, it is the first node of an action formula.
+    // Its operand is wrong. As a name, that of a modality, it is the first node of a tree of the row.
     #[tactic(auto, unfolding(rules::specs::Refusal::bad_formula_operand))]
-    fn has_bad_operand(self, row: &Row<'_, '_, ActionKind>) -> bool
-        ensures { result ≡ bad_formula_operand (names_no_tree row.now.words.now)
+    fn has_bad_operand<K: NodeKind>(self, row: &Row<'_, '_, K>) -> bool
+        ensures { result ≡ bad_formula_operand
+            (names_no_root (children_of K.node_shape row.now.words.now) (size row.now.words.now))
             self.entry.trees.now.words.now self.entry.node }
     {
         self.trees
-            .bad_operand(self.node, |named| names_no_tree(row, named))
+            .bad_operand(self.node, |named| row.names_no_root(named))
     }
 
     // It is a fixpoint.
@@ -97,14 +91,16 @@ impl<'t, 'a, 'b> FormulaNode<'t, 'a, 'b> {
 }
 
 // 44: an operand, or nodes left over, of which the one at which the formula's tree ends is the first.
-// Kept (no plainer): row and trees are two parameters: the row is of the action formulas, and `check_references` reads
-// the trees alone.
-fn check_operands(
-    row: &Row<'_, '_, ActionKind>,
+// Kept (no plainer): row and trees are two parameters: the row is of the table whose trees are named, and
+// `check_references` reads the trees alone.
+fn check_operands<K: NodeKind>(
+    row: &Row<'_, '_, K>,
     trees: &Trees<'_, '_, FormulaKind>,
 ) -> Result<(), Fault>
     ensures { result ≡ fault_from 44 0 (size trees.now.words.now)
-        (λ node. bad_formula_operand (names_no_tree row.now.words.now) trees.now.words.now node
+        (λ node. bad_formula_operand
+        (names_no_root (children_of K.node_shape row.now.words.now) (size row.now.words.now))
+        trees.now.words.now node
         || eqb node (end_of (formula_children trees.now.words.now) (size trees.now.words.now) 0)) }
 {
     let end = trees.end(0);
@@ -120,11 +116,13 @@ fn check_operands(
 
 // 44: an operand, nodes left over, or an unfinished tree.
 #[tactic(auto, using(tables::proofs::Pools::refusal44_scan), unfolding(rules::specs::Answers::and_then))]
-fn check_tree(
-    row: &Row<'_, '_, ActionKind>,
+fn check_tree<K: NodeKind>(
+    row: &Row<'_, '_, K>,
     trees: &Trees<'_, '_, FormulaKind>,
 ) -> Result<(), Fault>
-    ensures { result ≡ refusal44 (names_no_tree row.now.words.now) trees.now.words.now }
+    ensures { result ≡ refusal44
+        (names_no_root (children_of K.node_shape row.now.words.now) (size row.now.words.now))
+        trees.now.words.now }
 {
     check_operands(row, trees)?;
     let count = trees.size();
@@ -146,29 +144,30 @@ fn check_references(trees: &Trees<'_, '_, FormulaKind>) -> Result<(), Fault>
     )
 }
 
-// 44 and 45, for which the ends of the trees and the row of action formulas are kept here.
+// 44 and 45, for which the ends of the trees and the row of the table whose trees are named are kept here.
 #[tactic(auto, unfolding(rules::specs::Answers::first_fault, rules::specs::Answers::and_then))]
-fn check_trees(actions: &[u32], formula: &[u32]) -> Result<(), Fault>
-    requires { Sized actions.now × Sized formula.now }
-    ensures { result ≡ first_fault (refusal44 (names_no_tree actions.now) formula.now
+fn check_trees<K: NodeKind>(named: &[u32], formula: &[u32]) -> Result<(), Fault>
+    requires { Sized named.now × Sized formula.now }
+    ensures { result ≡ first_fault (refusal44
+        (names_no_root (children_of K.node_shape named.now) (size named.now)) formula.now
         ∷ refusal45 formula.now ∷ []) }
 {
     let mut ends = [0usize; NODES + 2];
     let mut firsts = [false; NODES + 1];
-    let row = Trees::<ActionKind>::of(actions, &mut ends).row(&mut firsts);
+    let row = Trees::<K>::of(named, &mut ends).row(&mut firsts);
     let trees = Trees::<FormulaKind>::of(formula, &mut ends);
     check_tree(&row, &trees)?;
     check_references(&trees)
 }
 
-// 41 to 45: the formula, where the action formulas are those of a table.
+// 41 to 45: the formula, whose modalities name trees of a table of kinds K.
 #[tactic(auto, unfolding(rules::specs::Answers::first_fault, rules::specs::Answers::and_then, rules::specs::Refusal::outside, rules::specs::Refusal::refusal41, rules::specs::Refusal::refusal42, rules::specs::Refusal::refusal43))]
-pub fn check_formula(actions: &[u32], formula: &[u32]) -> Result<(), Fault>
-    requires { Sized actions.now }
-    ensures { result ≡ first_fault (refusal41 formula.now ∷ refusal42 formula.now
-        ∷ refusal43 formula.now ∷ refusal44 (names_no_tree actions.now) formula.now
+pub fn check_formula<K: NodeKind>(named: &[u32], formula: &[u32]) -> Result<(), Fault>
+    requires { Sized named.now }
+    ensures { result ≡ first_fault (refusal41 formula.now ∷ refusal42 formula.now ∷ refusal43 formula.now
+        ∷ refusal44 (names_no_root (children_of K.node_shape named.now) (size named.now)) formula.now
         ∷ refusal45 formula.now ∷ []) }
 {
     table_words::check_table(formula, 1, 8, 41)?;
-    check_trees(actions, formula)
+    check_trees::<K>(named, formula)
 }

@@ -11,7 +11,7 @@ use Rattle.rules.specs.declared.Room.{Room}
 use Rattle.rules.specs.Words.{Input}
 use Rattle.rules.specs.Labels.{label_count, action_count}
 use Rattle.rules.specs.System.{state_count, transition_count}
-use Rattle.rules.specs.Table.{size}
+use Rattle.rules.specs.Table.{size, action_children}
 use Rattle.rules.specs.Refusal.{refusal}
 use Rattle.rules.specs.Faulty.{FaultyRoom, few_vertices, many_vertices, few_edges, many_edges, wrong_game, wrong_work}
 use Rattle.rules.specs.Faulty.{FaultyLabels, few_label_words, wrong_label_words, many_labels, many_actions}
@@ -67,19 +67,19 @@ action_small m acts (action_no_label v a k l) few = (omega arith, omega (arith, 
 action_small m acts (action_not_right v e a k t d) few = (omega arith, omega (arith, few (omega arith)))
 action_small m acts (action_unfinished v a t) few = (omega arith, omega (arith, few (omega arith)))
 
-formula_small : (acts f : List ℕ) {n p : ℕ} → FaultyFormula acts f n p → (42 < n → size f ≤ 1_024) → Small n p
-formula_small acts f (no_formula_words e) few = (omega arith, omega arith)
-formula_small acts f (wrong_formula_words d) few = (omega arith, omega arith)
-formula_small acts f (no_formula_nodes l) few = (omega arith, omega arith)
-formula_small acts f (many_formula_nodes l) few = (omega arith, omega arith)
-formula_small acts f (formula_kind_too_large v a l) few = (omega arith, omega (arith, few (omega arith)))
-formula_small acts f (formula_not_zero v a k d) few = (omega arith, omega (arith, few (omega arith)))
-formula_small acts f (formula_not_right v e a k t d) few = (omega arith, omega (arith, few (omega arith)))
-formula_small acts f (formula_no_action v a k l) few = (omega arith, omega (arith, few (omega arith)))
-formula_small acts f (formula_no_root v a k d) few = (omega arith, omega (arith, few (omega arith)))
-formula_small acts f (formula_unfinished t) few = (omega arith, omega (arith, few (omega arith)))
-formula_small acts f (formula_left_over e t l) few = (omega arith, omega (arith, few (omega arith)))
-formula_small acts f (wrong_reference v a k d) few = (omega arith, omega (arith, few (omega arith)))
+formula_small : (children : ℕ → ℕ) (m : ℕ) (f : List ℕ) {n p : ℕ} → FaultyFormula children m f n p → (42 < n → size f ≤ 1_024) → Small n p
+formula_small children m f (no_formula_words e) few = (omega arith, omega arith)
+formula_small children m f (wrong_formula_words d) few = (omega arith, omega arith)
+formula_small children m f (no_formula_nodes l) few = (omega arith, omega arith)
+formula_small children m f (many_formula_nodes l) few = (omega arith, omega arith)
+formula_small children m f (formula_kind_too_large v a l) few = (omega arith, omega (arith, few (omega arith)))
+formula_small children m f (formula_not_zero v a k d) few = (omega arith, omega (arith, few (omega arith)))
+formula_small children m f (formula_not_right v e a k t d) few = (omega arith, omega (arith, few (omega arith)))
+formula_small children m f (formula_no_action v a k l) few = (omega arith, omega (arith, few (omega arith)))
+formula_small children m f (formula_no_root v a k d) few = (omega arith, omega (arith, few (omega arith)))
+formula_small children m f (formula_unfinished t) few = (omega arith, omega (arith, few (omega arith)))
+formula_small children m f (formula_left_over e t l) few = (omega arith, omega (arith, few (omega arith)))
+formula_small children m f (wrong_reference v a k d) few = (omega arith, omega (arith, few (omega arith)))
 
 not_later : (n p m q : ℕ) → m < n → ¬ NoLater (λ k. k) n p m q
 not_later n p m q h (inl l) = absurd (omega arith)
@@ -106,7 +106,7 @@ module _ (x : Input) (r : Room) (game work n p : ℕ) (refused : refusal x r gam
       action_small (label_count x.labels) x.actions f
       (λ h. limited 32 1_024 _ h (λ l. faulty_actions (many_action_nodes l)))
   refusal_small (faulty_formula f) =
-      formula_small x.actions x.formula f (λ h. limited 42 1_024 _ h (λ l. faulty_formula (many_formula_nodes l)))
+      formula_small (action_children x.actions) (size x.actions) x.formula f (λ h. limited 42 1_024 _ h (λ l. faulty_formula (many_formula_nodes l)))
 
   pub refused_small : Small n p
   refused_small = refusal_small ((exact x r game work n p).0 refused).0

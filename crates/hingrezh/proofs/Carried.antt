@@ -19,6 +19,10 @@ use Rattle.rules.specs.PgsolverWriting.{written_game}
 use Rattle.rules.specs.PgsolverReading.{Readback, read_game}
 use Rattle.rules.specs.PgsolverCalls.{WritingDemand, ReadingDemand}
 use Rattle.satisfaction.specs.Claims.{NoFalsePass}
+use Rattle.regular_rules.specs.Refusals.{RegularInput}
+use Rattle.regular_rules.specs.Expansion.{Expansion, expansion}
+use Rattle.regular_rules.specs.Accepts.{ExpansionDemand}
+use Rattle.regular_meaning.specs.Claims.{WrittenMeans}
 
 -- the first word tells the kind of an answer
 unlike : (a b : Answer) → said a ≡ said b → (¬ (word (said a) 0 ≡ word (said b) 0)) → a ≡ b
@@ -83,3 +87,13 @@ module _ (r : Room) (text game g : List ℕ) where
       × (Says ws (λ b. ◌≡◌ {A = Readback} (record { answer = b; game = g }) (read_game r text game))
       × Says ws (λ b. ReadingDemand r text game b g))
   reading_carried ws a e (p, (c, d)) = (e ∙ c, ((a, e, p), (a, e, d)))
+
+-- what the expansion promises
+module _ (x : RegularInput) (out o : List ℕ) where
+  pub expansion_carried : (ws : List ℕ) (a : Answer) → ws ≡ said a
+      → (◌≡◌ {A = Expansion} (record { answer = a; out = o }) (expansion x out))
+      × (ExpansionDemand x out a o × WrittenMeans x a o)
+      → (ws ≡ said (expansion x out).answer)
+      × (Says ws (λ b. ◌≡◌ {A = Expansion} (record { answer = b; out = o }) (expansion x out))
+      × (Says ws (λ b. ExpansionDemand x out b o) × Says ws (λ b. WrittenMeans x b o)))
+  expansion_carried ws a e (p, (d, m)) = (e ∙ ap (λ (y : Expansion). said y.answer) p, ((a, e, p), ((a, e, d), (a, e, m))))

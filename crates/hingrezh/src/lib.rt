@@ -16,6 +16,10 @@ ghost use Rattle.rules.specs.PgsolverWriting.{written_game};
 ghost use Rattle.rules.specs.PgsolverReading.{Readback, read_game};
 ghost use Rattle.rules.specs.PgsolverCalls.{WritingDemand, ReadingDemand};
 ghost use Rattle.satisfaction.specs.Claims.{NoFalsePass};
+ghost use Rattle.regular_rules.specs.Refusals.{regular_input};
+ghost use Rattle.regular_rules.specs.Expansion.{Expansion, expansion};
+ghost use Rattle.regular_rules.specs.Accepts.{ExpansionDemand};
+ghost use Rattle.regular_meaning.specs.Claims.{WrittenMeans};
 
 // Kept (rule): the C interface is made of these parameters and words.
 
@@ -111,5 +115,30 @@ pub extern "C" fn hingrezh_read_pgsolver(
         ReadingDemand (room_of vertices edges) text.now game.old a game.new) }
 {
     let result = pgsolver_reader::read_pgsolver(text, vertices, edges, game);
+    *answer = result.into();
+}
+
+// A formula whose modalities name regular formulas, written as one whose modalities name action formulas: see `expand`
+// of the crate expand, whose contract this is of the answer that the lent words say.
+#[unsafe(no_mangle)]
+pub extern "C" fn hingrezh_expand(
+    labels: &[u32],
+    actions: &[u32],
+    regulars: &[u32],
+    formula: &[u32],
+    out: &mut [u32],
+    answer: &mut [u32; 4],
+)
+    ensures coded { answer.new ≡ said (expansion (regular_input labels.now
+        actions.now regulars.now formula.now) out.old).answer }
+    ensures equals { Says answer.new (λ a. ◌≡◌ {A = Expansion}
+        (record { answer = a; out = out.new })
+        (expansion (regular_input labels.now actions.now regulars.now formula.now) out.old)) }
+    ensures demand { Says answer.new (λ a. ExpansionDemand (regular_input labels.now
+        actions.now regulars.now formula.now) out.old a out.new) }
+    ensures means { Says answer.new (λ a. WrittenMeans (regular_input labels.now
+        actions.now regulars.now formula.now) a out.new) }
+{
+    let result = expand::expand(labels, actions, regulars, formula, out);
     *answer = result.into();
 }

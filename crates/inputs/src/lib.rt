@@ -11,6 +11,7 @@ ghost use Rattle.inputs.specs.Accepting.{checked};
 
 use faults::fault_if;
 use lent_input::Input;
+use node_kinds::ActionKind;
 use rules::{Fault, Room};
 
 // What a run is lent to build its game in: the room, and how long the slices for the game and the work are.
@@ -41,7 +42,7 @@ fn check_formulas(labels: &[u32], actions: &[u32], formula: &[u32]) -> Result<()
         ≡ first_fault (formula_checks labels.now actions.now formula.now) }
 {
     action_words::check_actions(labels, actions)?;
-    formula_words::check_formula(actions, formula)
+    formula_words::check_formula::<ActionKind>(actions, formula)
 }
 
 // 11 to 45: the labels, the system and the formulas.

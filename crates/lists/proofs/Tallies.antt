@@ -2,7 +2,7 @@
 -- holds at each. Assumes nothing.
 use mathlib.Core.Path.{◌≡◌, refl, sym, ap, ap₂, ◌∙◌}
 use mathlib.Core.Logic.{⊎_elim}
-use mathlib.Core.Bool.{Bool, true, false}
+use mathlib.Core.Bool.{Bool, true, false, ◌&&◌, true≢false}
 use Prim.Native.Nat.{ℕ, zero, suc, ◌+◌, ◌≤◌, ◌<◌}
 use native.Mathlib.Decide.{ℕ_discrete}
 use native.Mathlib.Omega.{arith}
@@ -39,6 +39,17 @@ module _ (f : ℕ → Bool) where
   unfolding every
   every-all p zero h = refl
   every-all p (suc n) h = rw (every-all p n (λ q a b. h q a (omega arith))) (h (p + n) (omega arith) (omega arith))
+
+  -- it does not hold at one
+  pub every-not : (p n : ℕ) → every f p n ≡ false → (q : ℕ) × (p ≤ q) × (q < p + n) × (f q ≡ false)
+  unfolding every
+  every-not p zero h = absurd (true≢false h)
+  every-not p (suc n) h = go (every-not p n) (every f p n) refl
+    where
+      go : (every f p n ≡ false → (q : ℕ) × (p ≤ q) × (q < p + n) × (f q ≡ false)) → (b : Bool) → every f p n ≡ b
+          → (q : ℕ) × (p ≤ q) × (q < p + suc n) × (f q ≡ false)
+      go before true e = (p + n, omega arith, omega arith, sym (ap (λ b. b && f (p + n)) e) ∙ h)
+      go before false e = let (q, a, l, i) = before e in (q, a, omega arith, i)
 
 -- g is f, but for the position s, at which g holds and f does not
 module _ (f g : ℕ → Bool) (s : ℕ) (was : f s ≡ false) (is : g s ≡ true) where

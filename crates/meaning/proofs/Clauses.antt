@@ -20,7 +20,7 @@ use Rattle.writing.specs.ActionSyntax.{ActionSyntax, label_action, read_action}
 use Rattle.writing.specs.FormulaSyntax.{FormulaSyntax, true_formula, false_formula, and_formula, or_formula, box_formula, diamond_formula, least_formula, greatest_formula, reference_formula}
 use Rattle.meaning.specs.Quantifiers.{all, any}
 use Rattle.meaning.specs.Satisfies.{nowhere, Satisfies}
-use Rattle.meaning.specs.Evaluation.{everywhere, iterate, evaluate}
+use Rattle.meaning.specs.Evaluation.{everywhere, iterate, evaluate_by, evaluate}
 use Rattle.meaning.proofs.Quantifiers.{all_in}
 use Rattle.meaning.proofs.Evaluates.{evaluates}
 
@@ -52,17 +52,17 @@ abbrev pub Told : FormulaSyntax → ℕ → Bool → Type 0
 Told f s true = Satisfies here row f [] s
 Told f s false = ¬ Satisfies here row f [] s
 
-abbrev same : Bool → Bool → Bool
+abbrev pub same : Bool → Bool → Bool
 same true b = b
 same false true = false
 same false false = true
 
-same-value : (a b : Bool) → same a b ≡ true → a ≡ b
+pub same-value : (a b : Bool) → same a b ≡ true → a ≡ b
 same-value true b e = sym e
 same-value false true e = e
 same-value false false e = refl
 
-good : GoodInput here
+pub good : GoodInput here
 good = accepted_words here room (game_length room) (work_length room) passed
 
 told : (f : FormulaSyntax) (s : ℕ) → s < 3 → (b : Bool) → evaluate here row f [] s ≡ b → Told f s b
@@ -136,7 +136,7 @@ clause_cases =
     ∷ []
 
 computed : all right clause_cases ≡ true
-unfolding every_rule all any nowhere everywhere iterate evaluate read_action
+unfolding every_rule all any nowhere everywhere iterate evaluate_by read_action
 computed = refl
 
 -- each state satisfies what is said of it, by the clauses, and does not where that is said

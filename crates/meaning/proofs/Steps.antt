@@ -7,13 +7,13 @@ use Prim.Native.Nat.{ℕ}
 use lib.Dec.{eqb}
 use Rattle.rules.specs.Lists.{filter, once}
 use Rattle.rules.specs.Words.{Input}
-use Rattle.rules.specs.System.{transitions}
+use Rattle.rules.specs.System.{transition_target, transitions}
 use Rattle.rules.specs.Actions.{Action}
 use Rattle.rules.specs.Pairs.{matching_transitions, successors}
 use Rattle.lists.proofs.Inserts.{once_in}
 use Rattle.lists.proofs.Equalities.{number_equality}
 use Rattle.meaning.specs.Quantifiers.{all, any}
-use Rattle.meaning.specs.Satisfies.{label_matches, leads_to}
+use Rattle.meaning.specs.Satisfies.{label_matches}
 use Rattle.meaning.proofs.Quantifiers.{all_members, any_members, all_map, any-map}
 
 -- ---- over the elements for which another test holds
@@ -43,19 +43,19 @@ module _ {A : Type 0} (f test : A → Bool) where
 
 module _ (x : Input) (a : Action) (test : ℕ → Bool) where
   pub successors-all : (s : ℕ)
-      → all test (successors x a s) ≡ all (λ t. not (label_matches x a t) || test (leads_to x t)) (transitions x.system s)
+      → all test (successors x a s) ≡ all (λ t. not (label_matches x a t) || test (transition_target x.system t)) (transitions x.system s)
   unfolding successors matching_transitions
   successors-all s =
-      let ms = map (leads_to x) (matching_transitions x a s) in
+      let ms = map (transition_target x.system) (matching_transitions x a s) in
       all_members test (once eqb ms) ms (once_in number_equality ms)
-      ∙ all_map test (leads_to x) (matching_transitions x a s)
-      ∙ all_filter (label_matches x a) (λ t. test (leads_to x t)) (transitions x.system s)
+      ∙ all_map test (transition_target x.system) (matching_transitions x a s)
+      ∙ all_filter (label_matches x a) (λ t. test (transition_target x.system t)) (transitions x.system s)
 
   pub successors-any : (s : ℕ)
-      → any test (successors x a s) ≡ any (λ t. label_matches x a t && test (leads_to x t)) (transitions x.system s)
+      → any test (successors x a s) ≡ any (λ t. label_matches x a t && test (transition_target x.system t)) (transitions x.system s)
   unfolding successors matching_transitions
   successors-any s =
-      let ms = map (leads_to x) (matching_transitions x a s) in
+      let ms = map (transition_target x.system) (matching_transitions x a s) in
       any_members test (once eqb ms) ms (once_in number_equality ms)
-      ∙ any-map test (leads_to x) (matching_transitions x a s)
-      ∙ any-filter (label_matches x a) (λ t. test (leads_to x t)) (transitions x.system s)
+      ∙ any-map test (transition_target x.system) (matching_transitions x a s)
+      ∙ any-filter (label_matches x a) (λ t. test (transition_target x.system t)) (transitions x.system s)

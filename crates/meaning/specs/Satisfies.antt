@@ -8,7 +8,7 @@ use Rattle.rules.specs.Labels.{multiset}
 use Rattle.rules.specs.System.{state_count, initial_state, transition_label, transition_target, transitions}
 use Rattle.rules.specs.Actions.{Action, matches}
 use Rattle.writing.specs.ActionSyntax.{ActionSyntax}
-use Rattle.writing.specs.FormulaSyntax.{FormulaSyntax, true_formula, false_formula, and_formula, or_formula, box_formula, diamond_formula, least_formula, greatest_formula, reference_formula, read_tree, Written}
+use Rattle.writing.specs.FormulaSyntax.{FormulaOver, FormulaSyntax, true_formula, false_formula, and_formula, or_formula, box_formula, diamond_formula, least_formula, greatest_formula, reference_formula, read_tree, Written}
 
 -- ---- transitions
 
@@ -16,9 +16,9 @@ use Rattle.writing.specs.FormulaSyntax.{FormulaSyntax, true_formula, false_formu
 abbrev pub label_matches : Input → Action → (i : ℕ) → Bool
 label_matches x a i = matches (multiset x.labels (transition_label x.system i)) a
 
--- the state to which transition i leads
-abbrev pub leads_to : Input → (i : ℕ) → ℕ
-leads_to x i = transition_target x.system i
+-- state s has a transition to state t that passes the test
+abbrev pub MovesBy : (ss : List ℕ) → (test : (i : ℕ) → Bool) → (s t : ℕ) → Type 0
+MovesBy ss test s t = (i : ℕ) × In i (transitions ss s) × (test i ≡ true) × (transition_target ss i ≡ t)
 
 -- ---- sets of states
 
@@ -34,31 +34,36 @@ abbrev pub Of : StateSet → ℕ → Type 0
 Of E s = E s ≡ true
 
 -- every state of the system of which P holds has Q too
-abbrev pub Within : Input → (P Q : ℕ → Type 0) → Type 0
-Within x P Q = (s : ℕ) → s < state_count x.system → P s → Q s
+abbrev pub Within : (ss : List ℕ) → (P Q : ℕ → Type 0) → Type 0
+Within ss P Q = (s : ℕ) → s < state_count ss → P s → Q s
 
 -- ---- the clauses
 
-module _ (x : Input) (row : List ActionSyntax) where
-  -- state s has a transition to state t whose label matches action formula a of the row
-  abbrev pub Moves : (a s t : ℕ) → Type 0
-  Moves a s t =
-      (i : ℕ) × In i (transitions x.system s) × (label_matches x (read_tree x.labels row a) i ≡ true) × (leads_to x i ≡ t)
-
+-- `ss` are the words of the system. What a modality carries leads from state to state
+module _ {M : Type 0} (ss : List ℕ) (leads : M → (s t : ℕ) → Type 0) where
   -- State s satisfies the formula. `env` gives each fixpoint around the formula its set of states, the nearest first,
   -- and a reference names one of them by its place. The fixpoints are Knaster and Tarski's: least, s is in every set E
   -- that contains all states that satisfy the body under E; greatest, s is in some set E all of whose states satisfy
   -- the body under E
-  unfoldable pub Satisfies : FormulaSyntax → (env : List StateSet) → (s : ℕ) → Type 0
-  Satisfies true_formula env s = Unit {0}
-  Satisfies false_formula env s = ⊥
-  Satisfies (and_formula f g) env s = Satisfies f env s × Satisfies g env s
-  Satisfies (or_formula f g) env s = Satisfies f env s ⊎ Satisfies g env s
-  Satisfies (box_formula a f) env s = (t : ℕ) → Moves a s t → Satisfies f env t
-  Satisfies (diamond_formula a f) env s = (t : ℕ) × Moves a s t × Satisfies f env t
-  Satisfies (least_formula f) env s = (E : StateSet) → Within x (Satisfies f (E ∷ env)) (Of E) → Of E s
-  Satisfies (greatest_formula f) env s = (E : StateSet) × Within x (Of E) (Satisfies f (E ∷ env)) × Of E s
-  Satisfies (reference_formula i) env s = Of (get_or env i nowhere) s
+  unfoldable pub SatisfiesBy : FormulaOver M → (env : List StateSet) → (s : ℕ) → Type 0
+  SatisfiesBy true_formula env s = Unit {0}
+  SatisfiesBy false_formula env s = ⊥
+  SatisfiesBy (and_formula f g) env s = SatisfiesBy f env s × SatisfiesBy g env s
+  SatisfiesBy (or_formula f g) env s = SatisfiesBy f env s ⊎ SatisfiesBy g env s
+  SatisfiesBy (box_formula m f) env s = (t : ℕ) → leads m s t → SatisfiesBy f env t
+  SatisfiesBy (diamond_formula m f) env s = (t : ℕ) × leads m s t × SatisfiesBy f env t
+  SatisfiesBy (least_formula f) env s = (E : StateSet) → Within ss (SatisfiesBy f (E ∷ env)) (Of E) → Of E s
+  SatisfiesBy (greatest_formula f) env s = (E : StateSet) × Within ss (Of E) (SatisfiesBy f (E ∷ env)) × Of E s
+  SatisfiesBy (reference_formula i) env s = Of (get_or env i nowhere) s
+
+module _ (x : Input) (row : List ActionSyntax) where
+  -- state s has a transition to state t whose label matches action formula a of the row
+  abbrev pub Moves : (a s t : ℕ) → Type 0
+  Moves a = MovesBy x.system (label_matches x (read_tree x.labels row a))
+
+  -- state s satisfies a formula of document 01, whose modalities lead by one transition
+  abbrev pub Satisfies : FormulaSyntax → (env : List StateSet) → (s : ℕ) → Type 0
+  Satisfies = SatisfiesBy x.system Moves
 
 -- ---- an input
 

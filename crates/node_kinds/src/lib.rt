@@ -1,8 +1,10 @@
-// The kinds of the nodes of an action formula and of a formula, and the words that stand for them.
+// The kinds of the nodes of an action formula, of a regular formula and of a formula, and the words that stand for
+// them.
 #![tactic(auto)]
 
 ghost use Rattle.std.specs.Prelude.{◌≡◌, ◌/◌, eqb, ltb, min};
-ghost use Rattle.node_kinds.specs.Codes.{ReadsAction, ReadsFormula, action_code, formula_code};
+ghost use Rattle.node_kinds.specs.Codes.{ReadsAction, ReadsRegular, ReadsFormula};
+ghost use Rattle.node_kinds.specs.Codes.{action_code, regular_code, formula_code};
 
 #[derive(Clone, Copy, Debug, PartialEq, Eq)]
 pub enum ActionKind {
@@ -12,6 +14,15 @@ pub enum ActionKind {
     Union,
     Intersection,
     Negation,
+}
+
+#[derive(Clone, Copy, Debug, PartialEq, Eq)]
+pub enum RegularKind {
+    Action,
+    Sequence,
+    Choice,
+    Star,
+    Plus,
 }
 
 #[derive(Clone, Copy, Debug, PartialEq, Eq)]
@@ -48,8 +59,8 @@ impl<K> Shape<K> {
 #[derive(Clone, Copy, Debug, PartialEq, Eq)]
 pub struct UnknownKind(pub u32);
 
-// Kept (no plainer): two kinds have two lists of words, and no derive reads a kind from its word. What takes a word of
-// no kind for the last one is a function of its own, since a conversion would hide that.
+// Kept (no plainer): three kinds have three lists of words, and no derive reads a kind from its word. What takes a word
+// of no kind for the last one is a function of its own, since a conversion would hide that.
 impl TryFrom<u32> for ActionKind {
     type Error = UnknownKind;
 
@@ -63,6 +74,23 @@ impl TryFrom<u32> for ActionKind {
             3 => Ok(ActionKind::Union),
             4 => Ok(ActionKind::Intersection),
             5 => Ok(ActionKind::Negation),
+            _ => Err(UnknownKind(word)),
+        }
+    }
+}
+
+impl TryFrom<u32> for RegularKind {
+    type Error = UnknownKind;
+
+    ghost try_from_gives = { ReadsRegular };
+
+    fn try_from(word: u32) -> Result<Self, UnknownKind> {
+        match word {
+            0 => Ok(RegularKind::Action),
+            1 => Ok(RegularKind::Sequence),
+            2 => Ok(RegularKind::Choice),
+            3 => Ok(RegularKind::Star),
+            4 => Ok(RegularKind::Plus),
             _ => Err(UnknownKind(word)),
         }
     }
@@ -95,6 +123,15 @@ impl ActionKind {
         ensures { action_code result ≡ min word 5 }
     {
         ActionKind::try_from(word).unwrap_or(ActionKind::Negation)
+    }
+}
+
+impl RegularKind {
+    // The kind with this word. A word that stands for none is read as the last kind.
+    pub fn of(word: u32) -> RegularKind
+        ensures { regular_code result ≡ min word 4 }
+    {
+        RegularKind::try_from(word).unwrap_or(RegularKind::Plus)
     }
 }
 

@@ -11,7 +11,7 @@ use lib.Dec.{eqb, lit<, lit≤}
 use borrow.Author.Tests.{eqb-false}
 use Rattle.rules.specs.Lists.{one, In, has}
 use Rattle.rules.specs.Words.{room_of}
-use Rattle.rules.specs.Table.{action_children, end_of_trees}
+use Rattle.rules.specs.Table.{size, action_children, end_of_trees}
 use Rattle.rules.specs.Rows.{Root, first_root, next_root}
 use Rattle.rules.specs.Faulty.{FaultyRoom, few_vertices, many_vertices, few_edges, many_edges, wrong_game, wrong_work}
 use Rattle.rules.specs.Faulty.{FaultyLabels, few_label_words, wrong_label_words, many_labels, many_actions}
@@ -179,30 +179,34 @@ fixpoint_beside e =
     let h = e.inside in
     omega (arith, p, h)
 
+-- for these action formulas
+abbrev FaultyOver : (acts f : List ℕ) → (n p : ℕ) → Type 0
+FaultyOver acts f = FaultyFormula (action_children acts) (size acts) f
+
 -- operands of true, false, least, greatest, and, or, box, diamond; an unfinished tree, nodes left over; references to a
 -- node that is no fixpoint, to a fixpoint that comes later, and to one whose tree ends just before
 pub formula_faults :
-    FaultyFormula (words "1; 2; 0") [] 41 0
-    × FaultyFormula (words "1; 2; 0") (words "1; 0") 41 0
-    × FaultyFormula (words "1; 2; 0") (words "1; 0; 0 0") 41 0
-    × FaultyFormula (words "1; 2; 0") (words "0") 42 0
-    × FaultyFormula (words "1; 2; 0") (words "1025") 42 0
-    × FaultyFormula (words "1; 2; 0") (words "2; 7 9; 0 0") 43 1
-    × FaultyFormula (words "1; 2; 0") (words "1; 0; 1") 44 0
-    × FaultyFormula (words "1; 2; 0") (words "1; 1; 1") 44 0
-    × FaultyFormula (words "1; 2; 0") (words "2; 6 0; 1 0") 44 0
-    × FaultyFormula (words "1; 2; 0") (words "2; 7 0; 1 0") 44 0
-    × FaultyFormula (words "1; 2; 0") (words "3; 2 0 0; 1 0 0") 44 0
-    × FaultyFormula (words "1; 2; 0") (words "3; 3 0 0; 3 0 0") 44 0
-    × FaultyFormula (words "1; 2; 0") (words "2; 4 0; 1 0") 44 0
-    × FaultyFormula (words "1; 2; 0") (words "2; 5 0; 1 0") 44 0
-    × FaultyFormula (words "2; 5 0; 0 0") (words "2; 4 0; 1 0") 44 0
-    × FaultyFormula (words "2; 5 0; 0 0") (words "2; 5 0; 1 0") 44 0
-    × FaultyFormula (words "1; 2; 0") (words "1; 6; 0") 44 1
-    × FaultyFormula (words "1; 2; 0") (words "3; 0 0 0; 0 0 0") 44 1
-    × FaultyFormula (words "1; 2; 0") (words "2; 5 8; 0 0") 45 1
-    × FaultyFormula (words "1; 2; 0") (words "4; 2 8 6 0; 2 2 0 0") 45 1
-    × FaultyFormula (words "1; 2; 0") (words "4; 2 6 0 8; 3 0 0 1") 45 3
+    FaultyOver (words "1; 2; 0") [] 41 0
+    × FaultyOver (words "1; 2; 0") (words "1; 0") 41 0
+    × FaultyOver (words "1; 2; 0") (words "1; 0; 0 0") 41 0
+    × FaultyOver (words "1; 2; 0") (words "0") 42 0
+    × FaultyOver (words "1; 2; 0") (words "1025") 42 0
+    × FaultyOver (words "1; 2; 0") (words "2; 7 9; 0 0") 43 1
+    × FaultyOver (words "1; 2; 0") (words "1; 0; 1") 44 0
+    × FaultyOver (words "1; 2; 0") (words "1; 1; 1") 44 0
+    × FaultyOver (words "1; 2; 0") (words "2; 6 0; 1 0") 44 0
+    × FaultyOver (words "1; 2; 0") (words "2; 7 0; 1 0") 44 0
+    × FaultyOver (words "1; 2; 0") (words "3; 2 0 0; 1 0 0") 44 0
+    × FaultyOver (words "1; 2; 0") (words "3; 3 0 0; 3 0 0") 44 0
+    × FaultyOver (words "1; 2; 0") (words "2; 4 0; 1 0") 44 0
+    × FaultyOver (words "1; 2; 0") (words "2; 5 0; 1 0") 44 0
+    × FaultyOver (words "2; 5 0; 0 0") (words "2; 4 0; 1 0") 44 0
+    × FaultyOver (words "2; 5 0; 0 0") (words "2; 5 0; 1 0") 44 0
+    × FaultyOver (words "1; 2; 0") (words "1; 6; 0") 44 1
+    × FaultyOver (words "1; 2; 0") (words "3; 0 0 0; 0 0 0") 44 1
+    × FaultyOver (words "1; 2; 0") (words "2; 5 8; 0 0") 45 1
+    × FaultyOver (words "1; 2; 0") (words "4; 2 8 6 0; 2 2 0 0") 45 1
+    × FaultyOver (words "1; 2; 0") (words "4; 2 6 0 8; 3 0 0 1") 45 3
 unfolding every_rule
 formula_faults = (
   no_formula_words refl,
@@ -376,7 +380,7 @@ enclosing_fixpoints = (
 )
 
 -- case 1
-pub formula_right : (n p : ℕ) → ¬ FaultyFormula (1 ∷ 2 ∷ 0 ∷ []) (3 ∷ 7 ∷ 5 ∷ 8 ∷ 0 ∷ 0 ∷ 0 ∷ []) n p
+pub formula_right : (n p : ℕ) → ¬ FaultyOver (1 ∷ 2 ∷ 0 ∷ []) (3 ∷ 7 ∷ 5 ∷ 8 ∷ 0 ∷ 0 ∷ 0 ∷ []) n p
 unfolding every_rule
 formula_right n p (no_formula_words h) = omega (arith, h)
 formula_right n p (wrong_formula_words h) = h refl
@@ -409,7 +413,7 @@ formula_right n p (wrong_reference (suc zero) a k h) = omega (arith, k)
 formula_right n p (wrong_reference (suc (suc zero)) a k h) = h enclosing_fixpoints.1
 formula_right n p (wrong_reference (suc (suc (suc v))) a k h) = omega (arith, a)
 
-pub least_formula_right : (n p : ℕ) → FaultyFormula (words "1; 2; 0") (words "1") n p → ¬ (n ≡ 42)
+pub least_formula_right : (n p : ℕ) → FaultyOver (words "1; 2; 0") (words "1") n p → ¬ (n ≡ 42)
 unfolding every_rule
 least_formula_right n p (no_formula_words h) q = omega (arith, q)
 least_formula_right n p (wrong_formula_words h) q = omega (arith, q)
@@ -424,7 +428,7 @@ least_formula_right n p (formula_unfinished t) q = omega (arith, q)
 least_formula_right n p (formula_left_over e t h) q = omega (arith, q)
 least_formula_right n p (wrong_reference v a k h) q = omega (arith, q)
 
-pub most_formula_right : (n p : ℕ) → FaultyFormula (words "1; 2; 0") (words "1024") n p → ¬ (n ≡ 42)
+pub most_formula_right : (n p : ℕ) → FaultyOver (words "1; 2; 0") (words "1024") n p → ¬ (n ≡ 42)
 unfolding every_rule
 most_formula_right n p (no_formula_words h) q = omega (arith, q)
 most_formula_right n p (wrong_formula_words h) q = omega (arith, q)

@@ -6,6 +6,7 @@ use Rattle.rules.specs.Words.{game_length, work_length}
 use Rattle.rules.specs.Answers.{fault_if, and_then, first_fault}
 use Rattle.rules.specs.Labels.{times, same_label, multiset}
 use Rattle.rules.specs.System.{first_transition, transitions}
+use Rattle.rules.specs.Table.{decode_regular, regular_node, regular_shape}
 use Rattle.rules.specs.Table.{decode_action, action_node, action_shape, decode_formula, formula_node, formula_shape}
 use Rattle.rules.specs.Table.{fixpoint_of, reference_of}
 use Rattle.rules.specs.Table.{end_of_trees, tree_end, is_end, is_not_end, is_before_end, comes_to, on_row}
@@ -25,7 +26,7 @@ use Rattle.rules.specs.Game.{vertex_at, vertices, edge_count, offsets, all_edges
 use Rattle.rules.specs.Refusal.{outside, differ, fault_from, lower_fault, refusal1, refusal2, refusal11, refusal12}
 use Rattle.rules.specs.Refusal.{bad_label, refusal13, refusal21, refusal22, refusal23, refusal24, too_large}
 use Rattle.rules.specs.Refusal.{refusal25, refusal26, refusal31, refusal32, refusal33, wrong_operand}
-use Rattle.rules.specs.Refusal.{bad_action_operand, refusal34, refusal41, refusal42, refusal43, names_no_tree}
+use Rattle.rules.specs.Refusal.{bad_action_operand, refusal34, refusal41, refusal42, refusal43, names_no_root}
 use Rattle.rules.specs.Refusal.{bad_formula_operand, wrong_end, refusal44, encloses}
 use Rattle.rules.specs.Refusal.{wrong_reference, refusal45, input_refusal, refusal}
 use Rattle.rules.specs.GameRefusal.{above_room, refusal51, falls, refusal52, refusal53, game_refusal}
@@ -51,7 +52,7 @@ use Rattle.rules.specs.Run.{walk_of, vertices_of, exceeds, built_answer, built_o
 unfoldable pub every_rule : Unit {0}
 unfolding from sum largest zeros tally every seek sum_words filter has occurrences position insert insert_all once
     game_length work_length fault_if and_then first_fault
-    times same_label multiset first_transition transitions decode_action action_node action_shape decode_formula formula_node
+    times same_label multiset first_transition transitions decode_action action_node action_shape decode_regular regular_node regular_shape decode_formula formula_node
     formula_shape fixpoint_of reference_of end_of_trees tree_end is_end is_not_end is_before_end comes_to on_row action_of action_to action_tree matches
     equation_at is_fixpoint placeholder equations_before equations equation_count equation_of equation_number formula_of
     formula_to formula_tree body_tree first_body_node body_nodes references alternates contribution reading_to reading depth
@@ -62,7 +63,7 @@ unfolding from sum largest zeros tally every seek sum_words filter has occurrenc
     totalised settled_vertex ruled_edge ruled_vertex vertex_at vertices edge_count offsets all_edges columns game_of padded edge_at edges_at outside differ fault_from lower_fault refusal1
     refusal2 refusal11 refusal12 bad_label refusal13 refusal21 refusal22 refusal23 refusal24 too_large refusal25
     refusal26 refusal31 refusal32 refusal33 wrong_operand bad_action_operand refusal34 refusal41 refusal42
-    refusal43 names_no_tree bad_formula_operand wrong_end refusal44 encloses wrong_reference refusal45
+    refusal43 names_no_root bad_formula_operand wrong_end refusal44 encloses wrong_reference refusal45
     input_refusal refusal walk_of vertices_of exceeds built_answer built_outcome out_of_room walk_outcome refused_or run above_room
     refusal51 falls refusal52 refusal53 game_refusal search_from reached_vertices new_number kept_edge kept_vertex kept_vertices
     vertex_map restriction_refusal restricted_to restricted_or restriction digits_to decimal spaced

@@ -68,21 +68,22 @@ pub record EnclosingFixpoint (f : List ℕ) (u v : ℕ) : Type 0 where
 
 -- "41: no formula words, or not 1 + 2n. 42: n. 43: kind above 8. 44: operand of kinds 0 to 7, unfinished tree, or nodes
 -- left over"; "45: reference"; "Operands of 0, 1, 6, 7 are 0"; of 2 and 3 the right child; of 4 and 5 the "first node
--- of one of the row's trees" of the action formulas
-pub data FaultyFormula (acts f : List ℕ) : (n p : ℕ) → Type 0 where
-  no_formula_words : length f ≡ 0 → FaultyFormula acts f 41 0
-  wrong_formula_words : (¬ (length f ≡ 1 + 2 * size f)) → FaultyFormula acts f 41 0
-  no_formula_nodes : size f < 1 → FaultyFormula acts f 42 0
-  many_formula_nodes : most_nodes < size f → FaultyFormula acts f 42 0
-  formula_kind_too_large : (v : ℕ) → v < size f → 8 < kind f v → FaultyFormula acts f 43 v
-  formula_not_zero : (v : ℕ) → v < size f → In (kind f v) (0 ∷ 1 ∷ 6 ∷ 7 ∷ []) → (¬ (operand f v ≡ 0)) → FaultyFormula acts f 44 v
+-- of one of the row's trees", of a table of m nodes with so many children each: of the action formulas, or of the
+-- regular formulas (document 02, #104)
+pub data FaultyFormula (children : ℕ → ℕ) (m : ℕ) (f : List ℕ) : (n p : ℕ) → Type 0 where
+  no_formula_words : length f ≡ 0 → FaultyFormula children m f 41 0
+  wrong_formula_words : (¬ (length f ≡ 1 + 2 * size f)) → FaultyFormula children m f 41 0
+  no_formula_nodes : size f < 1 → FaultyFormula children m f 42 0
+  many_formula_nodes : most_nodes < size f → FaultyFormula children m f 42 0
+  formula_kind_too_large : (v : ℕ) → v < size f → 8 < kind f v → FaultyFormula children m f 43 v
+  formula_not_zero : (v : ℕ) → v < size f → In (kind f v) (0 ∷ 1 ∷ 6 ∷ 7 ∷ []) → (¬ (operand f v ≡ 0)) → FaultyFormula children m f 44 v
   formula_not_right : (v e : ℕ) → v < size f → In (kind f v) (2 ∷ 3 ∷ []) → tree_end (formula_children f) (size f) (suc v) ≡ some e → (¬ (operand f v ≡ e))
-      → FaultyFormula acts f 44 v
-  formula_no_action : (v : ℕ) → v < size f → In (kind f v) (4 ∷ 5 ∷ []) → size acts ≤ operand f v → FaultyFormula acts f 44 v
-  formula_no_root : (v : ℕ) → v < size f → In (kind f v) (4 ∷ 5 ∷ []) → (¬ Root (action_children acts) (size acts) (operand f v)) → FaultyFormula acts f 44 v
-  formula_unfinished : tree_end (formula_children f) (size f) 0 ≡ none → FaultyFormula acts f 44 (size f)
-  formula_left_over : (e : ℕ) → tree_end (formula_children f) (size f) 0 ≡ some e → e < size f → FaultyFormula acts f 44 e
-  wrong_reference : (v : ℕ) → v < size f → kind f v ≡ 8 → (¬ EnclosingFixpoint f (operand f v) v) → FaultyFormula acts f 45 v
+      → FaultyFormula children m f 44 v
+  formula_no_action : (v : ℕ) → v < size f → In (kind f v) (4 ∷ 5 ∷ []) → m ≤ operand f v → FaultyFormula children m f 44 v
+  formula_no_root : (v : ℕ) → v < size f → In (kind f v) (4 ∷ 5 ∷ []) → (¬ Root children m (operand f v)) → FaultyFormula children m f 44 v
+  formula_unfinished : tree_end (formula_children f) (size f) 0 ≡ none → FaultyFormula children m f 44 (size f)
+  formula_left_over : (e : ℕ) → tree_end (formula_children f) (size f) 0 ≡ some e → e < size f → FaultyFormula children m f 44 e
+  wrong_reference : (v : ℕ) → v < size f → kind f v ≡ 8 → (¬ EnclosingFixpoint f (operand f v) v) → FaultyFormula children m f 45 v
 
 -- fault n at place p; `game` and `work` are the lengths of the slices lent
 pub data Faulty (x : Input) (r : Room) (game work n p : ℕ) : Type 0 where
@@ -90,7 +91,7 @@ pub data Faulty (x : Input) (r : Room) (game work n p : ℕ) : Type 0 where
   faulty_labels : FaultyLabels x.labels n p → Faulty x r game work n p
   faulty_system : FaultySystem (label_count x.labels) x.system n p → Faulty x r game work n p
   faulty_actions : FaultyActions (label_count x.labels) x.actions n p → Faulty x r game work n p
-  faulty_formula : FaultyFormula x.actions x.formula n p → Faulty x r game work n p
+  faulty_formula : FaultyFormula (action_children x.actions) (size x.actions) x.formula n p → Faulty x r game work n p
 
 -- "Within a number the smallest place wins": fault n at place p comes no later than fault m at place q, where `turn`
 -- orders the numbers

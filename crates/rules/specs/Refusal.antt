@@ -143,9 +143,13 @@ refusal42 f = fault_if 42 0 (outside 1 most_nodes (size f))
 unfoldable pub refusal43 : List ℕ → Check
 refusal43 f = fault_from 43 0 (size f) (λ v. ltb 8 (kind f v))
 
--- a is not the first node of one of the trees of the action formulas (decision A8)
-unfoldable pub names_no_tree : List ℕ → ℕ → Bool
-names_no_tree acts a = leb (size acts) a || not (on_row (action_children acts) (size acts) a)
+-- a is not the first node of one of the trees of a row of m nodes (decision A8)
+unfoldable pub names_no_root : (children : ℕ → ℕ) → (m a : ℕ) → Bool
+names_no_root children m a = leb m a || not (on_row children m a)
+
+-- of the trees of the action formulas
+abbrev pub names_no_tree : List ℕ → ℕ → Bool
+names_no_tree acts = names_no_root (action_children acts) (size acts)
 
 -- the operand of node v is wrong; that of a modality names a tree, that of a reference is judged by 45
 unfoldable pub bad_formula_operand : (names_no_tree : ℕ → Bool) → List ℕ → ℕ → Bool

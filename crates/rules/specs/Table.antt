@@ -1,6 +1,7 @@
 -- Tables of trees in prefix order (document 01, "Words handed over": "m kinds, m operands .. A first child is the next
--- node; the operand of 3 and 4 is the right child, just past the left child's tree"). A node is decoded here, once; all
--- other rules go by the names of the nodes. Assumes nothing: these are definitions.
+-- node; the operand of 3 and 4 is the right child, just past the left child's tree"; document 02, #104: "a table of
+-- regular trees, laid out like the action table"). A node is decoded here, once; all other rules go by the names of the
+-- nodes. Assumes nothing: these are definitions.
 use Rattle.std.specs.Prelude.{ℕ, zero, suc, ◌+◌, ◌-◌, Bool, true, false, cond, not, List, [], ◌∷◌, ◌≡◌, get_or, eqb, ltb}
 use Rattle.std.proofs.Math.Option.{Option, none, some}
 use Rattle.rules.specs.Lists.{word}
@@ -59,6 +60,35 @@ action_shape no_action_node = record { children = 0; rule = not_judged }
 
 abbrev pub action_children : List ℕ → ℕ → ℕ
 action_children acts v = (action_shape (action_node acts v)).children
+
+-- ---- nodes of the regular formulas (document 02, #104)
+
+pub data RegularNode : Type 0 where
+  action_formula_node : (tree : ℕ) → RegularNode
+  sequence_node choice_node : (right : ℕ) → RegularNode
+  star_node plus_node : RegularNode
+  no_regular_node : RegularNode
+
+-- "0 action formula (operand: an action tree), 1 sequence, 2 choice, 3 star, 4 plus"; of any other kind, none
+unfoldable pub decode_regular : (kind operand : ℕ) → RegularNode
+decode_regular k o = get_or (action_formula_node o ∷ sequence_node o ∷ choice_node o ∷ star_node ∷ plus_node ∷ []) k no_regular_node
+
+-- node v, and none past the table
+unfoldable pub regular_node : List ℕ → ℕ → RegularNode
+regular_node regs v = cond (ltb v (size regs)) (decode_regular (kind regs v) (operand regs v)) no_regular_node
+
+-- "operand: an action tree"; as in the action table, the operand of a node with two children is the right child, that
+-- of a node with one is 0
+unfoldable pub regular_shape : RegularNode → Shape
+regular_shape (action_formula_node a) = record { children = 0; rule = outside_name }
+regular_shape (sequence_node r) = record { children = 2; rule = right_child }
+regular_shape (choice_node r) = record { children = 2; rule = right_child }
+regular_shape star_node = record { children = 1; rule = zero_operand }
+regular_shape plus_node = record { children = 1; rule = zero_operand }
+regular_shape no_regular_node = record { children = 0; rule = not_judged }
+
+abbrev pub regular_children : List ℕ → ℕ → ℕ
+regular_children regs v = (regular_shape (regular_node regs v)).children
 
 -- ---- nodes of the formula
 

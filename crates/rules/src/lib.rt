@@ -40,7 +40,7 @@ impl From<Fault> for Answer {
 
 // Why an input is refused.
 // Kept (rule): its number is a number. The papers and the C interface know a refusal by it alone, and the checks of
-// both tables of trees are one function whose numbers are ten apart.
+// the tables of trees are one function whose numbers go up from one that it is given.
 #[derive(Clone, Copy, Debug, PartialEq, Eq)]
 pub struct Fault {
     pub number: u32,

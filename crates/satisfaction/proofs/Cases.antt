@@ -20,11 +20,11 @@ use Rattle.rules.proofs.Unfold.{every_rule}
 use Rattle.rules.proofs.Print.{words}
 use Rattle.writing.specs.Nodes.{table_words}
 use Rattle.writing.specs.ActionSyntax.{ActionSyntax, label_action, action_size, write_action, row_size, write_row, row_words, first_node, read_action}
-use Rattle.writing.specs.FormulaSyntax.{FormulaSyntax, diamond_formula, least_formula, greatest_formula, reference_formula, Written}
-use Rattle.writing.specs.FormulaSyntax.{formula_size, write_formula, formula_words, fixpoints, begins_with_fixpoint, read_formula, read_equations, read_system, equations_read}
+use Rattle.writing.specs.FormulaSyntax.{FormulaSyntax, diamond_formula, least_formula, greatest_formula, reference_formula, Written, write_over, words_over}
+use Rattle.writing.specs.FormulaSyntax.{formula_size, fixpoints, begins_with_fixpoint, read_formula, read_equations, read_system, equations_read}
 use Rattle.meaning.specs.Quantifiers.{all, any}
 use Rattle.meaning.specs.Satisfies.{nowhere, Satisfied}
-use Rattle.meaning.specs.Evaluation.{everywhere, iterate, evaluate}
+use Rattle.meaning.specs.Evaluation.{everywhere, iterate, evaluate_by, evaluate}
 use Rattle.meaning.proofs.Told.{satisfied_exactly}
 use Rattle.satisfaction.specs.Ranks.{is_even, Parity, right_parity, is_right, right_nodes, is_sound}
 use Rattle.satisfaction.specs.Verdict.{Kept, AcceptedVerdict, Verdict, right_numbers, right_edge, right_vertex, passes}
@@ -200,7 +200,7 @@ Computed =
     × (evaluate loop_never row never_inside [] 0 ≡ false)
 
 computed : Computed
-unfolding every_rule all any nowhere everywhere iterate evaluate read_action is_even right_parity is_right right_nodes is_sound right_numbers right_edge right_vertex passes
+unfolding every_rule all any nowhere everywhere iterate evaluate_by read_action is_even right_parity is_right right_nodes is_sound right_numbers right_edge right_vertex passes
 computed = (refl, refl, refl, refl, refl, (refl, refl), (refl, refl), (refl, refl), (refl, refl), refl, refl, refl, (refl, refl), refl)
 
 -- ---- formulas that hold
@@ -224,7 +224,7 @@ depth_unsound = computed.4
 -- ---- the order can't be dropped: parity is right, a verdict is accepted, and the formula does not hold
 
 written_never : Written loop_never
-unfolding every_rule table_words action_size write_action row_size write_row row_words first_node read_action formula_size write_formula formula_words fixpoints begins_with_fixpoint read_formula read_equations read_system equations_read
+unfolding every_rule table_words action_size write_action row_size write_row row_words first_node read_action formula_size write_over words_over fixpoints begins_with_fixpoint read_formula read_equations read_system equations_read
 written_never =
     record {
       row = row;

@@ -28,11 +28,11 @@ use Rattle.trees.proofs.FormulaTrees.{conjunction_tree, disjunction_tree, box_tr
 use Rattle.trees.proofs.Equations.{number_more, number_monotone, number_below, fixpoint_body}
 use Rattle.trees.proofs.Fixpoints.{fixpoint_inside, fixpoint_kind}
 use Rattle.trees.proofs.ChainReadings.{chain_most, chain_attained}
-use Rattle.writing.specs.ActionSyntax.{ActionSyntax}
-use Rattle.writing.specs.FormulaSyntax.{FormulaSyntax, true_formula, false_formula, and_formula, or_formula, box_formula, diamond_formula, least_formula, greatest_formula, reference_formula, formula_size, write_formula}
-use Rattle.writing.proofs.Nodes.{Holds}
+use Rattle.writing.specs.ActionSyntax.{ActionSyntax, first_node}
+use Rattle.writing.specs.FormulaSyntax.{FormulaSyntax, true_formula, false_formula, and_formula, or_formula, box_formula, diamond_formula, least_formula, greatest_formula, reference_formula, formula_size, write_formula, write_over}
+use Rattle.writing.specs.Nodes.{Holds}
 use Rattle.writing.proofs.FormulaNodes.{holds_both, formula_ends}
-use Rattle.writing.proofs.FormulaTheorems.{formula_words_size, formula_words_hold, accepted_input_is_written}
+use Rattle.writing.proofs.FormulaTheorems.{words_size, words_hold, accepted_input_is_written}
 use Rattle.satisfaction.specs.Ranks.{PassSound}
 use Rattle.satisfaction.proofs.Nesting.{before_end, bit_parity}
 
@@ -191,18 +191,18 @@ module _ (m : ℕ) (x : Input) (good : GoodFormula m x.formula) (row : List Acti
 
   path : (t : FormulaSyntax) (around : List ℕ) (v : ℕ) → Holds (write_formula row t around v) f v → v + formula_size t ≤ size f
       → (w : ℕ) → is_fixpoint (formula_node f w) ≡ true → v ≤ w → w < v + formula_size t → Path v w
-  unfolding write_formula formula_size references
+  unfolding write_over formula_size references
   path true_formula around v (k, o, h) l w i p q = absurd (other v w (fixpoint_low f v (omega arith) (omega arith)) i (omega arith))
   path false_formula around v (k, o, h) l w i p q = absurd (other v w (fixpoint_low f v (omega arith) (omega arith)) i (omega arith))
   path (and_formula a b) around v (k, o, h) l w i p q =
-      let (c, d) = holds_both row f a b around v h in
+      let (c, d) = holds_both (first_node row) f a b around v h in
       let n = other v w (fixpoint_low f v (omega arith) (omega arith)) i in
       let e = conjunction_tree m x good v (omega arith) k in
       either w (suc v + formula_size a) (Path v w)
       (λ y. left_path v w _ (references (formula_tree x (operand f v))) e refl (path a around (suc v) c (omega arith) w i (omega (arith, n)) y))
       (λ y. right_path v (operand f v) w _ (references (formula_tree x (suc v))) (omega arith) e refl (subst (λ (r : ℕ). Path r w) (sym o) (path b around (suc v + formula_size a) d (omega arith) w i y (omega arith))))
   path (or_formula a b) around v (k, o, h) l w i p q =
-      let (c, d) = holds_both row f a b around v h in
+      let (c, d) = holds_both (first_node row) f a b around v h in
       let n = other v w (fixpoint_low f v (omega arith) (omega arith)) i in
       let e = disjunction_tree m x good v (omega arith) k in
       either w (suc v + formula_size a) (Path v w)
@@ -235,16 +235,16 @@ module _ (m : ℕ) (x : Input) (good : GoodFormula m x.formula) (row : List Acti
       go (no d) = r (omega arith)
 
   at : (t : FormulaSyntax) (around : List ℕ) (v : ℕ) → Holds (write_formula row t around v) f v → v + formula_size t ≤ size f → (u : ℕ) → v ≤ u → u < v + formula_size t → At u
-  unfolding write_formula formula_size
+  unfolding write_over formula_size
   at true_formula around v h l u p q = at_first true_formula around v u h l p (λ y. absurd (omega arith))
   at false_formula around v h l u p q = at_first false_formula around v u h l p (λ y. absurd (omega arith))
   at (and_formula a b) around v h l u p q =
-      let (c, d) = holds_both row f a b around v h.2 in
+      let (c, d) = holds_both (first_node row) f a b around v h.2 in
       at_first (and_formula a b) around v u h l p (λ y. either u (suc v + formula_size a) (At u)
       (λ z. at a around (suc v) c (omega arith) u y z)
       (λ z. at b around (suc v + formula_size a) d (omega arith) u z (omega arith)))
   at (or_formula a b) around v h l u p q =
-      let (c, d) = holds_both row f a b around v h.2 in
+      let (c, d) = holds_both (first_node row) f a b around v h.2 in
       at_first (or_formula a b) around v u h l p (λ y. either u (suc v + formula_size a) (At u)
       (λ z. at a around (suc v) c (omega arith) u y z)
       (λ z. at b around (suc v + formula_size a) d (omega arith) u z (omega arith)))
@@ -261,7 +261,7 @@ module _ (m : ℕ) (x : Input) (good : GoodFormula m x.formula) (row : List Acti
   inner_steps u w a i j e =
       let (b, c) = and-true (ltb u w) _ e in
       let l : u < w = ltb-true u w b in
-      let r : w < u + formula_size a.whole = before_end w (u + formula_size a.whole) (tree_end (formula_children f) (size f) u) (formula_ends row f a.whole a.around u a.holds a.fits) c in
+      let r : w < u + formula_size a.whole = before_end w (u + formula_size a.whole) (tree_end (formula_children f) (size f) u) (formula_ends (first_node row) f a.whole a.around u a.holds a.fits) c in
       let p = path a.whole a.around u a.holds a.fits w j (omega arith) r in
       let s : p.first ≡ equation_number f u = only (subst (λ (ks : List ℕ). In p.first ks) (own_references u i) p.met) in
       (p.rest, subst (λ (k : ℕ). Steps x k p.rest) s p.steps, ap (λ (k : ℕ). last_of k p.rest) (sym s) ∙ p.ends)
@@ -278,9 +278,9 @@ unfolding by_depth least_bit
 by_depth_pass_sound x passed =
     let good = accepted x passed in
     let w = accepted_input_is_written x passed in
-    let e : size x.formula ≡ formula_size w.whole = ap size w.whole_words ∙ formula_words_size w.row w.whole in
+    let e : size x.formula ≡ formula_size w.whole = ap size w.whole_words ∙ words_size (first_node w.row) w.whole in
     let h : Holds (write_formula w.row w.whole [] 0) x.formula 0 =
-    subst (λ (ws : List ℕ). Holds (write_formula w.row w.whole [] 0) ws 0) (sym w.whole_words) (formula_words_hold w.row w.whole) in
+    subst (λ (ws : List ℕ). Holds (write_formula w.row w.whole [] 0) ws 0) (sym w.whole_words) (words_hold (first_node w.row) w.whole) in
     record {
       parity = λ i l. bit_parity (depth x i / 2) (equation_of x.formula i).operator;
       below = λ i j n p q.

@@ -24,9 +24,9 @@ use Rattle.trees.proofs.Fixpoints.{fixpoint_inside}
 use Rattle.trees.proofs.Equations.{number_monotone, number_later, number_order, number_apart, number_below, count_number, equation_node}
 use Rattle.meaning.specs.Quantifiers.{all}
 use Rattle.meaning.proofs.Quantifiers.{all_in, in_all}
-use Rattle.writing.specs.ActionSyntax.{ActionSyntax}
+use Rattle.writing.specs.ActionSyntax.{ActionSyntax, first_node}
 use Rattle.writing.specs.FormulaSyntax.{FormulaSyntax, formula_size, write_formula, fixpoints}
-use Rattle.writing.proofs.Nodes.{Holds}
+use Rattle.writing.specs.Nodes.{Holds}
 use Rattle.writing.proofs.FormulaNodes.{formula_ends}
 use Rattle.writing.proofs.FormulaEquations.{formula_number}
 use Rattle.satisfaction.specs.Ranks.{is_even, is_greatest, Parity, Nested, Sound, PassSound, right_parity, is_right, right_nodes, is_sound, by_number}
@@ -52,7 +52,7 @@ module _ (row : List ActionSyntax) (f : List ℕ) (t : FormulaSyntax) (around : 
       let e : n.outer ≡ v = number_apart f n.outer v n.outer_fixpoint fixed n.outer_number in
       let l : n.outer < n.inner = ltb-true n.outer n.inner a in
       let r : n.inner < v + formula_size t =
-      before_end n.inner (v + formula_size t) (tree_end (formula_children f) (size f) n.outer) (ap (tree_end (formula_children f) (size f)) e ∙ formula_ends row f t around v holds fits) b in
+      before_end n.inner (v + formula_size t) (tree_end (formula_children f) (size f) n.outer) (ap (tree_end (formula_children f) (size f)) e ∙ formula_ends (first_node row) f t around v holds fits) b in
       let p = number_later f n.outer n.inner n.outer_fixpoint l in
       let q = number_later f n.inner (v + formula_size t) n.inner_fixpoint r in
       let y = n.outer_number in
@@ -78,7 +78,7 @@ module _ (row : List ActionSyntax) (f : List ℕ) (t : FormulaSyntax) (around : 
             inner_fixpoint = h;
             outer_number = refl;
             inner_number = e;
-            inside = rw (lt-ltb v w p, formula_ends row f t around v holds fits) (lt-ltb w (v + formula_size t) q);
+            inside = rw (lt-ltb v w p, formula_ends (first_node row) f t around v holds fits) (lt-ltb w (v + formula_size t) q);
           }
         where
           order : Dec (w < v + formula_size t) → w < v + formula_size t

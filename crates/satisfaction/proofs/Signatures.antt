@@ -38,10 +38,10 @@ use Rattle.arena.proofs.Parts.{carried_parts}
 use Rattle.arena.proofs.Inside.{item_cases, targets_inside, initial_inside}
 use Rattle.writing.specs.ActionSyntax.{first_node}
 use Rattle.writing.specs.FormulaSyntax.{formula_size, write_formula, fixpoints, read_tree, Written}
-use Rattle.writing.proofs.Nodes.{Holds}
+use Rattle.writing.specs.Nodes.{Holds}
 use Rattle.writing.proofs.ActionTheorems.{written_row_reads}
 use Rattle.writing.proofs.FormulaEquations.{formula_number}
-use Rattle.writing.proofs.FormulaTheorems.{formula_words_size, formula_words_hold}
+use Rattle.writing.proofs.FormulaTheorems.{words_size, words_hold}
 use Rattle.meaning.specs.Satisfies.{nowhere}
 use Rattle.meaning.specs.Evaluation.{evaluate}
 use Rattle.satisfaction.specs.Ranks.{is_even, Sound}
@@ -68,7 +68,7 @@ module _ (rank : Ranking) (x : Input) (good : GoodInput x) (sound : Sound rank x
   unfolding every
   whole_place =
       record {
-        holds = subst (λ (ws : List ℕ). Holds (write_formula w.row w.whole [] 0) ws 0) (sym w.whole_words) (formula_words_hold w.row w.whole);
+        holds = subst (λ (ws : List ℕ). Holds (write_formula w.row w.whole [] 0) ws 0) (sym w.whole_words) (words_hold (first_node w.row) w.whole);
         fits = omega (arith, whole_size);
         names = w.formula_fits.closed;
         surround = λ i h. absurd (omega arith);
@@ -81,7 +81,7 @@ module _ (rank : Ranking) (x : Input) (good : GoodInput x) (sound : Sound rank x
       }
     where
       whole_size : size x.formula ≡ formula_size w.whole
-      whole_size = ap size w.whole_words ∙ formula_words_size w.row w.whole
+      whole_size = ap size w.whole_words ∙ words_size (first_node w.row) w.whole
 
   abbrev S : ℕ
   S = state_count x.system
@@ -144,7 +144,7 @@ module _ (rank : Ranking) (x : Input) (good : GoodInput x) (sound : Sound rank x
   fixpoint_onward s u l fixed b low =
       let j = equation_number x.formula u in
       let count = number_below x.formula u fixed in
-      let whole : size x.formula ≡ formula_size w.whole = ap size w.whole_words ∙ formula_words_size w.row w.whole in
+      let whole : size x.formula ≡ formula_size w.whole = ap size w.whole_words ∙ words_size (first_node w.row) w.whole in
       let found = find x good w.row reads every w.whole [] 0 u whole_place (omega arith) (omega arith) fixed in
       let d = digits_enough j count in
       let h = sym (truth_equation rank x good sound w.row reads every (lowest (s, j)) s j count) ∙ lowest_true (s, j) low in
@@ -243,7 +243,7 @@ module _ (rank : Ranking) (x : Input) (good : GoodInput x) (sound : Sound rank x
       → holds_in x w.row (value_at rank x good sound w.row reads every most) (formula_tree x 0) s ≡ true
   unfolding frame_sets
   whole_true s l h =
-      let e : size x.formula ≡ formula_size w.whole = ap size w.whole_words ∙ formula_words_size w.row w.whole in
+      let e : size x.formula ≡ formula_size w.whole = ap size w.whole_words ∙ words_size (first_node w.row) w.whole in
       let c : equation_number x.formula 0 + fixpoints w.whole ≡ equation_count x.formula =
       sym (formula_number w.row x.formula w.whole [] 0 whole_place.holds whole_place.fits)
       ∙ (let i : 0 + formula_size w.whole ≡ size x.formula = omega arith in ap (equation_number x.formula) i)

@@ -30,10 +30,10 @@ use Rattle.trees.proofs.Equations.{number_below, least_equation}
 use Rattle.arena.specs.Arena.{BodyNode}
 use Rattle.arena.proofs.ItemNumbers.{later_body}
 use Rattle.writing.specs.ActionSyntax.{ActionSyntax, first_node}
-use Rattle.writing.specs.FormulaSyntax.{FormulaSyntax, true_formula, false_formula, and_formula, or_formula, box_formula, diamond_formula, least_formula, greatest_formula, reference_formula, formula_size, write_formula, Names, read_tree}
-use Rattle.writing.proofs.Nodes.{Holds}
+use Rattle.writing.specs.FormulaSyntax.{FormulaSyntax, true_formula, false_formula, and_formula, or_formula, box_formula, diamond_formula, least_formula, greatest_formula, reference_formula, formula_size, write_formula, Names, read_tree, write_over}
+use Rattle.writing.specs.Nodes.{Holds}
 use Rattle.writing.proofs.FormulaNodes.{formula_some, holds_both, formula_ends, Surround, surround_inner, surround_more}
-use Rattle.meaning.specs.Satisfies.{StateSet, Within, Of, Satisfies}
+use Rattle.meaning.specs.Satisfies.{StateSet, Within, Of, Satisfies, SatisfiesBy}
 use Rattle.satisfaction.specs.Ranks.{is_even, is_greatest, Nested, PassSound}
 use Rattle.meaning.proofs.Tests.{both_true}
 use Rattle.meaning.proofs.Moving.{successor_moves, moves_successor, moves_inside}
@@ -108,7 +108,7 @@ module _ (rank : Ranking) (x : Input) (good : GoodInput x) (sound : PassSound ra
     greatest_claim : (f : FormulaSyntax)
         → ((l : Layer) → Layers (l ∷ ls) → l.node ≡ v → (s : ℕ) → s < state_count x.system → Claimed (l ∷ ls) (node_pair (suc v) s) → Satisfies x row f (l.set ∷ sets ls) s)
         → (s : ℕ) → s < state_count x.system → Claimed ls (equation_pair v s) → Satisfies x row (greatest_formula f) (sets ls) s
-    unfolding Satisfies claimed_states meets_all
+    unfolding SatisfiesBy claimed_states meets_all
     greatest_claim f body s l c =
         (claimed_states, (λ t k e. let d = and-true _ _ e in body greatest_layer greatest_layered refl t k ((equation_goes t d.0).claimed, body_meets t d)), both_true _ _ c.0 c.1)
 
@@ -139,7 +139,7 @@ module _ (rank : Ranking) (x : Input) (good : GoodInput x) (sound : PassSound ra
 
       least_below : (f : FormulaSyntax)
           → ((l : Layer) → Layers (l ∷ ls) → l.node ≡ v → (s : ℕ) → s < state_count x.system → Claimed (l ∷ ls) (node_pair (suc v) s) → Satisfies x row f (l.set ∷ sets ls) s)
-          → Within x (Satisfies x row f (E ∷ sets ls)) (Of E)
+          → Within x.system (Satisfies x row f (E ∷ sets ls)) (Of E)
           → (n s : ℕ) → s < state_count x.system → Claimed ls (equation_pair v s) → number m (equation_pair v s) < n → E s ≡ true
       unfolding below meets_all
       least_below f body closed zero s l c k = absurd (omega arith)
@@ -155,7 +155,7 @@ module _ (rank : Ranking) (x : Input) (good : GoodInput x) (sound : PassSound ra
     least_claim : is_even m ≡ false → (f : FormulaSyntax)
         → ((l : Layer) → Layers (l ∷ ls) → l.node ≡ v → (s : ℕ) → s < state_count x.system → Claimed (l ∷ ls) (node_pair (suc v) s) → Satisfies x row f (l.set ∷ sets ls) s)
         → (s : ℕ) → s < state_count x.system → Claimed ls (equation_pair v s) → Satisfies x row (least_formula f) (sets ls) s
-    unfolding Satisfies
+    unfolding SatisfiesBy
     least_claim odd f body s l c E closed = least_below odd E f body closed (suc (number m (equation_pair v s))) s l c (omega arith)
 
   -- ---- an even rank inside a least fixpoint is below its rank
@@ -170,7 +170,7 @@ module _ (rank : Ranking) (x : Input) (good : GoodInput x) (sound : PassSound ra
   is-greatest least e = absurd (false≢true e)
   is-greatest greatest e = refl
 
-  inner_rank : (ls : List Layer) (v e : ℕ) → Surround row x.formula (nodes ls) v e → v < e → is_fixpoint (formula_node x.formula v) ≡ true
+  inner_rank : (ls : List Layer) (v e : ℕ) → Surround x.formula (nodes ls) v e → v < e → is_fixpoint (formula_node x.formula v) ≡ true
       → Inner rank x region number ls (rank x (equation_number x.formula v))
   unfolding encloses is_before_end
   inner_rank [] v e s l h = tt
@@ -201,43 +201,43 @@ module _ (rank : Ranking) (x : Input) (good : GoodInput x) (sound : PassSound ra
     pub holds : Holds (write_formula row f (nodes ls) v) x.formula v
     pub fits : v + formula_size f ≤ size x.formula
     pub names : Names (length row) (length (nodes ls)) f
-    pub surround : Surround row x.formula (nodes ls) v (v + formula_size f)
+    pub surround : Surround x.formula (nodes ls) v (v + formula_size f)
     pub layers : Layers ls
 
   stands_left : (f g : FormulaSyntax) (ls : List Layer) (v : ℕ)
       → Holds (write_formula row f (nodes ls) (suc v) ++ write_formula row g (nodes ls) (suc v + formula_size f)) x.formula (suc v)
       → v + suc (formula_size f + formula_size g) ≤ size x.formula → Names (length row) (length (nodes ls)) f
-      → Surround row x.formula (nodes ls) v (v + suc (formula_size f + formula_size g)) → Layers ls → Stands f ls (suc v)
+      → Surround x.formula (nodes ls) v (v + suc (formula_size f + formula_size g)) → Layers ls → Stands f ls (suc v)
   stands_left f g ls v h b n s l =
       record {
-        holds = (holds_both row x.formula f g (nodes ls) v h).0;
+        holds = (holds_both (first_node row) x.formula f g (nodes ls) v h).0;
         fits = omega arith;
         names = n;
-        surround = surround_inner row x.formula (nodes ls) v _ (suc v) _ (omega arith) (omega arith) s;
+        surround = surround_inner x.formula (nodes ls) v _ (suc v) _ (omega arith) (omega arith) s;
         layers = l;
       }
 
   stands_right : (f g : FormulaSyntax) (ls : List Layer) (v w : ℕ) → w ≡ suc v + formula_size f
       → Holds (write_formula row f (nodes ls) (suc v) ++ write_formula row g (nodes ls) (suc v + formula_size f)) x.formula (suc v)
       → v + suc (formula_size f + formula_size g) ≤ size x.formula → Names (length row) (length (nodes ls)) g
-      → Surround row x.formula (nodes ls) v (v + suc (formula_size f + formula_size g)) → Layers ls → Stands g ls w
+      → Surround x.formula (nodes ls) v (v + suc (formula_size f + formula_size g)) → Layers ls → Stands g ls w
   stands_right f g ls v w e h b n s l =
       record {
-        holds = subst (λ (u : ℕ). Holds (write_formula row g (nodes ls) u) x.formula u) (sym e) (holds_both row x.formula f g (nodes ls) v h).1;
+        holds = subst (λ (u : ℕ). Holds (write_formula row g (nodes ls) u) x.formula u) (sym e) (holds_both (first_node row) x.formula f g (nodes ls) v h).1;
         fits = omega arith;
         names = n;
-        surround = surround_inner row x.formula (nodes ls) v _ w _ (omega arith) (omega arith) s;
+        surround = surround_inner x.formula (nodes ls) v _ w _ (omega arith) (omega arith) s;
         layers = l;
       }
 
   stands_only : (f : FormulaSyntax) (ls : List Layer) (v : ℕ) → Holds (write_formula row f (nodes ls) (suc v)) x.formula (suc v) → v + suc (formula_size f) ≤ size x.formula
-      → Names (length row) (length (nodes ls)) f → Surround row x.formula (nodes ls) v (v + suc (formula_size f)) → Layers ls → Stands f ls (suc v)
+      → Names (length row) (length (nodes ls)) f → Surround x.formula (nodes ls) v (v + suc (formula_size f)) → Layers ls → Stands f ls (suc v)
   stands_only f ls v h b n s l =
       record {
         holds = h;
         fits = omega arith;
         names = n;
-        surround = surround_inner row x.formula (nodes ls) v _ (suc v) _ (omega arith) (omega arith) s;
+        surround = surround_inner x.formula (nodes ls) v _ (suc v) _ (omega arith) (omega arith) s;
         layers = l;
       }
 
@@ -245,16 +245,16 @@ module _ (rank : Ranking) (x : Input) (good : GoodInput x) (sound : PassSound ra
   stands_body : (f : FormulaSyntax) (ls : List Layer) (v : ℕ) → v < size x.formula → is_fixpoint (formula_node x.formula v) ≡ true
       → tree_end (formula_children x.formula) (size x.formula) v ≡ some (v + suc (formula_size f))
       → Holds (write_formula row f (v ∷ nodes ls) (suc v)) x.formula (suc v) → v + suc (formula_size f) ≤ size x.formula
-      → Names (length row) (suc (length (nodes ls))) f → Surround row x.formula (nodes ls) v (v + suc (formula_size f))
+      → Names (length row) (suc (length (nodes ls))) f → Surround x.formula (nodes ls) v (v + suc (formula_size f))
       → (l : Layer) → Layers (l ∷ ls) → l.node ≡ v → Stands f (l ∷ ls) (suc v)
   stands_body f ls v a fixed ends h b n s l ll e =
       record {
         holds = subst (λ (u : ℕ). Holds (write_formula row f (u ∷ nodes ls) (suc v)) x.formula (suc v)) (sym e) h;
         fits = omega arith;
         names = n;
-        surround = subst (λ (u : ℕ). Surround row x.formula (u ∷ nodes ls) (suc v) (suc v + formula_size f)) (sym e)
-            (surround_inner row x.formula (v ∷ nodes ls) (suc v) (v + suc (formula_size f)) (suc v) _ (omega arith) (omega arith)
-            (surround_more row x.formula (nodes ls) v _ fixed ends s));
+        surround = subst (λ (u : ℕ). Surround x.formula (u ∷ nodes ls) (suc v) (suc v + formula_size f)) (sym e)
+            (surround_inner x.formula (v ∷ nodes ls) (suc v) (v + suc (formula_size f)) (suc v) _ (omega arith) (omega arith)
+            (surround_more x.formula (nodes ls) v _ fixed ends s));
         layers = ll;
       }
 
@@ -274,7 +274,7 @@ module _ (rank : Ranking) (x : Input) (good : GoodInput x) (sound : PassSound ra
 
   module _ (f : FormulaSyntax) (ls : List Layer) (v : ℕ) where
     pub least_holds : Stands (least_formula f) ls v → ((l : Layer) → Stands f (l ∷ ls) (suc v) → Holding f (l ∷ ls) (node_pair (suc v))) → Holding (least_formula f) ls (equation_pair v)
-    unfolding write_formula formula_size is_greatest
+    unfolding write_over formula_size is_greatest
     least_holds st body =
         let (k, o, h) = st.holds in
         let fit = st.fits in
@@ -283,20 +283,20 @@ module _ (rank : Ranking) (x : Input) (good : GoodInput x) (sound : PassSound ra
         least_claim v ls st.layers fixed low
         (sound.parity (equation_number x.formula v) (number_below x.formula v fixed) ∙ ap (λ (q : Equation). is_greatest q.operator) (least_equation x.formula v (omega arith) k))
         f
-        (λ l ll e. body l (stands_body f ls v (omega arith) fixed (formula_ends row x.formula (least_formula f) (nodes ls) v st.holds st.fits) h fit st.names st.surround l ll e))
+        (λ l ll e. body l (stands_body f ls v (omega arith) fixed (formula_ends (first_node row) x.formula (least_formula f) (nodes ls) v st.holds st.fits) h fit st.names st.surround l ll e))
 
     pub greatest_holds : Stands (greatest_formula f) ls v → ((l : Layer) → Stands f (l ∷ ls) (suc v) → Holding f (l ∷ ls) (node_pair (suc v))) → Holding (greatest_formula f) ls (equation_pair v)
-    unfolding write_formula formula_size
+    unfolding write_over formula_size
     greatest_holds st body =
         let (k, o, h) = st.holds in
         let fit = st.fits in
         let fixed = fixpoint_yes x.formula v (omega arith) (omega arith) (omega arith) in
         let low = inner_rank ls v _ st.surround (omega arith) fixed in
         greatest_claim v ls st.layers fixed low f
-        (λ l ll e. body l (stands_body f ls v (omega arith) fixed (formula_ends row x.formula (greatest_formula f) (nodes ls) v st.holds st.fits) h fit st.names st.surround l ll e))
+        (λ l ll e. body l (stands_body f ls v (omega arith) fixed (formula_ends (first_node row) x.formula (greatest_formula f) (nodes ls) v st.holds st.fits) h fit st.names st.surround l ll e))
 
   reference_holds : (i : ℕ) (ls : List Layer) (v : ℕ) → Stands (reference_formula i) ls v → first_body_node x.formula ≤ v → Holding (reference_formula i) ls (node_pair v)
-  unfolding write_formula formula_size formula_targets formula_owner Satisfies
+  unfolding write_over formula_size formula_targets formula_owner SatisfiesBy
   reference_holds i ls v st b s l c =
       let (k, o, h) = st.holds in
       let fit = st.fits in
@@ -318,7 +318,7 @@ module _ (rank : Ranking) (x : Input) (good : GoodInput x) (sound : PassSound ra
   same_goes v s q r e g = subst (λ (z : Pair). GoesTo (node_pair v s) z) e g
 
   pub claim : (f : FormulaSyntax) (ls : List Layer) (v : ℕ) → Stands f ls v → first_body_node x.formula ≤ v → Holding f ls (node_pair v)
-  unfolding write_formula formula_size formula_targets formula_owner Satisfies node_item
+  unfolding write_over formula_size formula_targets formula_owner SatisfiesBy node_item
   claim true_formula ls v st b s l c = tt
   claim false_formula ls v st b s l c =
       let (k, o, h) = st.holds in

@@ -23,12 +23,12 @@ use Rattle.arena.proofs.Inside.{successor_inside}
 use Rattle.meaning.proofs.Quantifiers.{all_agree, any_agree}
 use Rattle.meaning.proofs.Steps.{successors-all, successors-any}
 use Rattle.writing.specs.ActionSyntax.{ActionSyntax, first_node}
-use Rattle.writing.specs.FormulaSyntax.{FormulaSyntax, true_formula, false_formula, and_formula, or_formula, box_formula, diamond_formula, least_formula, greatest_formula, reference_formula, formula_size, write_formula, Names, fixpoints, read_tree}
-use Rattle.writing.proofs.Nodes.{Holds}
+use Rattle.writing.specs.FormulaSyntax.{FormulaSyntax, true_formula, false_formula, and_formula, or_formula, box_formula, diamond_formula, least_formula, greatest_formula, reference_formula, formula_size, write_formula, Names, fixpoints, read_tree, write_over}
+use Rattle.writing.specs.Nodes.{Holds}
 use Rattle.writing.proofs.FormulaNodes.{holds_both, formula_ends, Surround, surround_inner, surround_more}
 use Rattle.writing.proofs.FormulaEquations.{formula_number}
 use Rattle.meaning.specs.Satisfies.{StateSet, nowhere}
-use Rattle.meaning.specs.Evaluation.{iterate, evaluate}
+use Rattle.meaning.specs.Evaluation.{iterate, evaluate_by, evaluate}
 use Rattle.satisfaction.proofs.Frames.{Frame, frame_nodes, frame, layout, layout_length, turn_set, frame_set, frame_sets, inner_set, holds_in}
 
 -- the fixpoint of an operator and a body
@@ -48,7 +48,7 @@ module _ (x : Input) (good : GoodInput x) (row : List ActionSyntax)
     pub holds : Holds (write_formula row f (frame_nodes fs) v) x.formula v
     pub fits : v + formula_size f ≤ size x.formula
     pub names : Names (length row) (length (frame_nodes fs)) f
-    pub surround : Surround row x.formula (frame_nodes fs) v (v + formula_size f)
+    pub surround : Surround x.formula (frame_nodes fs) v (v + formula_size f)
     pub placed : (i : ℕ) → i < fixpoints f → get_or every (equation_number x.formula v + i) [] ≡ get_or (layout f fs v) i []
     pub known : Known fs
 
@@ -57,16 +57,16 @@ module _ (x : Input) (good : GoodInput x) (row : List ActionSyntax)
   module _ (f g : FormulaSyntax) (fs : List Frame) (v : ℕ) (plain : is_fixpoint (formula_node x.formula v) ≡ false)
       (holds : Holds (write_formula row f (frame_nodes fs) (suc v) ++ write_formula row g (frame_nodes fs) (suc v + formula_size f)) x.formula (suc v))
       (fits : v + suc (formula_size f + formula_size g) ≤ size x.formula)
-      (surround : Surround row x.formula (frame_nodes fs) v (v + suc (formula_size f + formula_size g)))
+      (surround : Surround x.formula (frame_nodes fs) v (v + suc (formula_size f + formula_size g)))
       (placed : (i : ℕ) → i < fixpoints f + fixpoints g → get_or every (equation_number x.formula v + i) [] ≡ get_or (layout f fs (suc v) ++ layout g fs (suc v + formula_size f)) i [])
       (known : Known fs) where
     left_place : Names (length row) (length (frame_nodes fs)) f → Place f fs (suc v)
     left_place n =
         record {
-          holds = (holds_both row x.formula f g (frame_nodes fs) v holds).0;
+          holds = (holds_both (first_node row) x.formula f g (frame_nodes fs) v holds).0;
           fits = omega arith;
           names = n;
-          surround = surround_inner row x.formula (frame_nodes fs) v _ (suc v) _ (omega arith) (omega arith) surround;
+          surround = surround_inner x.formula (frame_nodes fs) v _ (suc v) _ (omega arith) (omega arith) surround;
           placed = λ i l.
               ap (λ (j : ℕ). get_or every (j + i) []) (number_same x.formula v plain)
               ∙ placed i (omega arith)
@@ -79,16 +79,16 @@ module _ (x : Input) (good : GoodInput x) (row : List ActionSyntax)
       where
         past : equation_number x.formula (suc v + formula_size f) ≡ equation_number x.formula v + fixpoints f
         past =
-            formula_number row x.formula f (frame_nodes fs) (suc v) (holds_both row x.formula f g (frame_nodes fs) v holds).0 (omega arith)
+            formula_number row x.formula f (frame_nodes fs) (suc v) (holds_both (first_node row) x.formula f g (frame_nodes fs) v holds).0 (omega arith)
             ∙ ap (λ (j : ℕ). j + fixpoints f) (number_same x.formula v plain)
 
         at : Place g fs (suc v + formula_size f)
         at =
             record {
-              holds = (holds_both row x.formula f g (frame_nodes fs) v holds).1;
+              holds = (holds_both (first_node row) x.formula f g (frame_nodes fs) v holds).1;
               fits = omega arith;
               names = n;
-              surround = surround_inner row x.formula (frame_nodes fs) v _ (suc v + formula_size f) _ (omega arith) (omega arith) surround;
+              surround = surround_inner x.formula (frame_nodes fs) v _ (suc v + formula_size f) _ (omega arith) (omega arith) surround;
               placed = λ i l.
                   let a : equation_number x.formula (suc v + formula_size f) + i ≡ equation_number x.formula v + (fixpoints f + i) = omega (arith, past) in
                   let b : fixpoints f + i ≡ length (layout f fs (suc v)) + i = omega (arith, layout_length f fs (suc v)) in
@@ -101,28 +101,28 @@ module _ (x : Input) (good : GoodInput x) (row : List ActionSyntax)
 
   only_place : (f : FormulaSyntax) (fs : List Frame) (v : ℕ) → is_fixpoint (formula_node x.formula v) ≡ false
       → Holds (write_formula row f (frame_nodes fs) (suc v)) x.formula (suc v) → v + suc (formula_size f) ≤ size x.formula
-      → Names (length row) (length (frame_nodes fs)) f → Surround row x.formula (frame_nodes fs) v (v + suc (formula_size f))
+      → Names (length row) (length (frame_nodes fs)) f → Surround x.formula (frame_nodes fs) v (v + suc (formula_size f))
       → ((i : ℕ) → i < fixpoints f → get_or every (equation_number x.formula v + i) [] ≡ get_or (layout f fs (suc v)) i []) → Known fs → Place f fs (suc v)
   only_place f fs v plain holds fits n surround placed known =
       record {
         holds = holds;
         fits = omega arith;
         names = n;
-        surround = surround_inner row x.formula (frame_nodes fs) v _ (suc v) _ (omega arith) (omega arith) surround;
+        surround = surround_inner x.formula (frame_nodes fs) v _ (suc v) _ (omega arith) (omega arith) surround;
         placed = λ i l. ap (λ (j : ℕ). get_or every (j + i) []) (number_same x.formula v plain) ∙ placed i l;
         known = known;
       }
 
   -- the body of a fixpoint, with the fixpoint around it
   pub fixpoint_at : (o : Operator) (f : FormulaSyntax) (fs : List Frame) (v : ℕ) → Place (fixpoint_of o f) fs v → is_fixpoint (formula_node x.formula v) ≡ true
-  unfolding write_formula formula_size
+  unfolding write_over formula_size
   fixpoint_at least f fs v p = let (k, o, h) = p.holds in let l = p.fits in fixpoint_yes x.formula v (omega arith) (omega arith) (omega arith)
   fixpoint_at greatest f fs v p = let (k, o, h) = p.holds in let l = p.fits in fixpoint_yes x.formula v (omega arith) (omega arith) (omega arith)
 
   body_parts : (o : Operator) (f : FormulaSyntax) (fs : List Frame) (v : ℕ) → is_fixpoint (formula_node x.formula v) ≡ true
       → tree_end (formula_children x.formula) (size x.formula) v ≡ some (v + suc (formula_size f))
       → Holds (write_formula row f (v ∷ frame_nodes fs) (suc v)) x.formula (suc v) → v + suc (formula_size f) ≤ size x.formula
-      → Names (length row) (suc (length (frame_nodes fs))) f → Surround row x.formula (frame_nodes fs) v (v + suc (formula_size f))
+      → Names (length row) (suc (length (frame_nodes fs))) f → Surround x.formula (frame_nodes fs) v (v + suc (formula_size f))
       → ((i : ℕ) → i < suc (fixpoints f) → get_or every (equation_number x.formula v + i) [] ≡ get_or ((frame o f v ∷ fs) ∷ layout f (frame o f v ∷ fs) (suc v)) i [])
       → Known fs → Place f (frame o f v ∷ fs) (suc v)
   body_parts o f fs v fixed ends holds fits n surround placed known =
@@ -130,8 +130,8 @@ module _ (x : Input) (good : GoodInput x) (row : List ActionSyntax)
         holds = holds;
         fits = omega arith;
         names = n;
-        surround = surround_inner row x.formula (v ∷ frame_nodes fs) (suc v) (v + suc (formula_size f)) (suc v) _ (omega arith) (omega arith)
-            (surround_more row x.formula (frame_nodes fs) v _ fixed ends surround);
+        surround = surround_inner x.formula (v ∷ frame_nodes fs) (suc v) (v + suc (formula_size f)) (suc v) _ (omega arith) (omega arith)
+            (surround_more x.formula (frame_nodes fs) v _ fixed ends surround);
         placed = λ i l.
             let a : equation_number x.formula (suc v) + i ≡ equation_number x.formula v + suc i = omega (arith, number_more x.formula v fixed) in
             ap (λ (j : ℕ). get_or every j []) a ∙ placed (suc i) (omega arith);
@@ -139,17 +139,17 @@ module _ (x : Input) (good : GoodInput x) (row : List ActionSyntax)
       }
 
   pub body_place : (o : Operator) (f : FormulaSyntax) (fs : List Frame) (v : ℕ) → Place (fixpoint_of o f) fs v → Place f (frame o f v ∷ fs) (suc v)
-  unfolding write_formula formula_size fixpoints layout
+  unfolding write_over formula_size fixpoints layout
   body_place least f fs v p =
       let (k, o, h) = p.holds in
-      body_parts least f fs v (fixpoint_at least f fs v p) (formula_ends row x.formula (least_formula f) (frame_nodes fs) v p.holds p.fits) h p.fits p.names p.surround p.placed p.known
+      body_parts least f fs v (fixpoint_at least f fs v p) (formula_ends (first_node row) x.formula (least_formula f) (frame_nodes fs) v p.holds p.fits) h p.fits p.names p.surround p.placed p.known
   body_place greatest f fs v p =
       let (k, o, h) = p.holds in
-      body_parts greatest f fs v (fixpoint_at greatest f fs v p) (formula_ends row x.formula (greatest_formula f) (frame_nodes fs) v p.holds p.fits) h p.fits p.names p.surround p.placed p.known
+      body_parts greatest f fs v (fixpoint_at greatest f fs v p) (formula_ends (first_node row) x.formula (greatest_formula f) (frame_nodes fs) v p.holds p.fits) h p.fits p.names p.surround p.placed p.known
 
   module _ (f g : FormulaSyntax) (fs : List Frame) (v : ℕ) where
     and_places : Place (and_formula f g) fs v → Place f fs (suc v) × Place g fs (operand x.formula v)
-    unfolding write_formula formula_size fixpoints layout
+    unfolding write_over formula_size fixpoints layout
     and_places p =
         let (k, o, h) = p.holds in
         let l = p.fits in
@@ -159,7 +159,7 @@ module _ (x : Input) (good : GoodInput x) (row : List ActionSyntax)
         )
 
     or_places : Place (or_formula f g) fs v → Place f fs (suc v) × Place g fs (operand x.formula v)
-    unfolding write_formula formula_size fixpoints layout
+    unfolding write_over formula_size fixpoints layout
     or_places p =
         let (k, o, h) = p.holds in
         let l = p.fits in
@@ -170,14 +170,14 @@ module _ (x : Input) (good : GoodInput x) (row : List ActionSyntax)
 
   module _ (i : ℕ) (f : FormulaSyntax) (fs : List Frame) (v : ℕ) where
     box_place : Place (box_formula i f) fs v → Place f fs (suc v)
-    unfolding write_formula formula_size fixpoints layout
+    unfolding write_over formula_size fixpoints layout
     box_place p =
         let (k, o, h) = p.holds in
         let l = p.fits in
         only_place f fs v (fixpoint_low x.formula v (omega arith) (omega arith)) h l p.names.1 p.surround p.placed p.known
 
     diamond_place : Place (diamond_formula i f) fs v → Place f fs (suc v)
-    unfolding write_formula formula_size fixpoints layout
+    unfolding write_over formula_size fixpoints layout
     diamond_place p =
         let (k, o, h) = p.holds in
         let l = p.fits in
@@ -210,7 +210,7 @@ module _ (x : Input) (good : GoodInput x) (row : List ActionSyntax)
       go (no i) = right (omega arith) b
 
   pub find : (f : FormulaSyntax) (fs : List Frame) (v u : ℕ) → Place f fs v → v ≤ u → u < v + formula_size f → is_fixpoint (formula_node x.formula u) ≡ true → Found u
-  unfolding write_formula formula_size
+  unfolding write_over formula_size
   find true_formula fs v u p a b t = let (k, o, h) = p.holds in let l = p.fits in absurd (not_here v u (omega arith) (fixpoint_low x.formula v (omega arith) (omega arith)) t)
   find false_formula fs v u p a b t = let (k, o, h) = p.holds in let l = p.fits in absurd (not_here v u (omega arith) (fixpoint_low x.formula v (omega arith) (omega arith)) t)
   find (and_formula f g) fs v u p a b t =
@@ -271,7 +271,7 @@ module _ (x : Input) (good : GoodInput x) (row : List ActionSyntax)
 
     pub says : (f : FormulaSyntax) (fs : List Frame) (v : ℕ) → Place f fs v → Full f v → (s : ℕ) → s < S
         → evaluate x row f (frame_sets x row turns fs) s ≡ holds_in x row value_of (formula_tree x v) s
-    unfolding write_formula formula_size fixpoints evaluate holds_in frame_set turn_set
+    unfolding write_over formula_size fixpoints evaluate_by holds_in frame_set turn_set
     says true_formula fs v p u s l =
         let (k, o, h) = p.holds in
         let fit = p.fits in

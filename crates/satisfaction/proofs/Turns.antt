@@ -32,7 +32,7 @@ use Rattle.arena.specs.Arena.{Carried, Parts}
 use Rattle.arena.proofs.ItemNumbers.{item_equation, item_subformula, later_body}
 use Rattle.meaning.proofs.Quantifiers.{all_in, any_in}
 use Rattle.writing.specs.ActionSyntax.{ActionSyntax, first_node}
-use Rattle.writing.specs.FormulaSyntax.{FormulaSyntax, least_formula, greatest_formula, write_formula, fixpoints, read_tree}
+use Rattle.writing.specs.FormulaSyntax.{FormulaSyntax, least_formula, greatest_formula, fixpoints, read_tree, write_over}
 use Rattle.writing.proofs.FormulaNodes.{formula_some}
 use Rattle.meaning.specs.Satisfies.{StateSet, nowhere}
 use Rattle.meaning.specs.Evaluation.{everywhere, iterate, evaluate}
@@ -241,7 +241,7 @@ module _ (rank : Ranking) (x : Input) (good : GoodInput x) (sound : Sound rank x
     -- greatest: the digits below become largest, and nothing else changes
     greatest_after : Place x good row reads every (greatest_formula f) fs u → (s : ℕ) → s < S → n ≤ fill S m 0 → digit_place rank x (equation_number x.formula u) ≤ m
         → value_at n (equation_number x.formula u) s ≡ true → After u s n (fill S m 0)
-    unfolding turns_of frame_set turn_set is_greatest write_formula
+    unfolding turns_of frame_set turn_set is_greatest write_over
     greatest_after place s l small fits h =
         let j = equation_number x.formula u in
         let q = digit_place rank x j in

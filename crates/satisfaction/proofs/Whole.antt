@@ -18,11 +18,11 @@ use Rattle.trees.proofs.Equations.{number_start, placeholder_equation, good_some
 use Rattle.arena.proofs.ItemNumbers.{first_body, later_body}
 use Rattle.writing.specs.ActionSyntax.{first_node}
 use Rattle.writing.specs.FormulaSyntax.{FormulaSyntax, true_formula, false_formula, and_formula, or_formula, box_formula, diamond_formula, least_formula, greatest_formula, reference_formula, formula_size, write_formula, begins_with_fixpoint, read_tree, Written}
-use Rattle.writing.proofs.Nodes.{Holds}
+use Rattle.writing.specs.Nodes.{Holds}
 use Rattle.writing.proofs.ActionTheorems.{written_row_reads}
 use Rattle.writing.proofs.FormulaNodes.{formula_some}
 use Rattle.writing.proofs.FormulaEquations.{first_fixpoint}
-use Rattle.writing.proofs.FormulaTheorems.{formula_words_size, formula_words_hold}
+use Rattle.writing.proofs.FormulaTheorems.{words_size, words_hold}
 use Rattle.meaning.specs.Satisfies.{Satisfies}
 use Rattle.satisfaction.specs.Ranks.{PassSound}
 use Rattle.satisfaction.proofs.Vertices.{node_item, equation_target}
@@ -41,8 +41,8 @@ module _ (rank : Ranking) (x : Input) (good : GoodInput x) (sound : PassSound ra
   stands : StandsHere w.whole [] 0
   stands =
       record {
-        holds = subst (λ (ws : List ℕ). Holds (write_formula w.row w.whole [] 0) ws 0) (sym w.whole_words) (formula_words_hold w.row w.whole);
-        fits = let e : size x.formula ≡ formula_size w.whole = ap size w.whole_words ∙ formula_words_size w.row w.whole in omega arith;
+        holds = subst (λ (ws : List ℕ). Holds (write_formula w.row w.whole [] 0) ws 0) (sym w.whole_words) (words_hold (first_node w.row) w.whole);
+        fits = let e : size x.formula ≡ formula_size w.whole = ap size w.whole_words ∙ words_size (first_node w.row) w.whole in omega arith;
         names = w.formula_fits.closed;
         surround = λ i h. absurd (omega arith);
         layers = tt;

@@ -94,7 +94,7 @@ impl fmt::Display for Printed {
 
 // Words or bytes as numbers, a space before each.
 #[derive(Drop)]
-struct Row<'a, T>(&'a [T]);
+pub struct Row<'a, T>(pub &'a [T]);
 
 impl<'a, T: fmt::Display> fmt::Display for Row<'a, T> {
     fn fmt<W: fmt::Write>(&self, f: &mut fmt::Formatter<W>) -> fmt::Result {

@@ -1,4 +1,4 @@
--- What words have that passed the checks with which both tables begin. Assumes nothing.
+-- What words have that passed the checks with which all tables begin. Assumes nothing.
 use Prim.Native.Nat.{ℕ, ◌+◌}
 use mathlib.Core.Path.{◌≡◌}
 use mathlib.Core.List.{List}

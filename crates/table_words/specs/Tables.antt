@@ -1,5 +1,5 @@
 -- What a program keeps of a table of trees: where each tree ends, and which nodes begin a tree of the row; and the
--- checks that both tables begin with. Assumes nothing: these are definitions.
+-- checks that all tables begin with. Assumes nothing: these are definitions.
 use Rattle.std.specs.Prelude.{ℕ, suc, ◌+◌, ◌*◌, ◌≤◌, ◌≡◌, Bool, false, ◌||◌, List, [], ◌∷◌, length, get_or, eqb, ltb}
 use Rattle.rules.specs.Answers.{Check}
 use Rattle.rules.specs.Words.{most_nodes}

@@ -1,4 +1,4 @@
-// Tables of trees as words: m, m kinds, m operands. What the checks of both tables of a run ask of one stands here.
+// Tables of trees as words: m, m kinds, m operands. What the checks of all tables ask of one stands here.
 #![tactic(auto)]
 
 ghost use Rattle.std.specs.Prelude.{◌≡◌, ◌<◌, ltb};
@@ -18,7 +18,7 @@ use words::NODES;
 
 // Fault `number` at the first node whose kind is above `most`.
 // Kept (rule): the greatest kind is a number, here and below: the check is of any table, and by the kinds of a
-// `NodeKind` it would be of two only.
+// `NodeKind` it would be of three only.
 fn check_kinds(ws: &[u32], most: usize, number: u32) -> Result<(), Fault>
     requires { Sized ws.now }
     ensures { result ≡ fault_from number 0 (size ws.now)
@@ -32,7 +32,7 @@ fn check_kinds(ws: &[u32], most: usize, number: u32) -> Result<(), Fault>
     )
 }
 
-// The checks that both tables begin with, of the length, of the number of nodes, which is `fewest` at least, and of the
+// The checks that all tables begin with, of the length, of the number of nodes, which is `fewest` at least, and of the
 // kinds, which are `most` at most. Their faults have the numbers from `number` on.
 #[tactic(auto, using(tables::proofs::Faults::if_passed), unfolding(rules::specs::Answers::first_fault, rules::specs::Answers::and_then, rules::specs::Refusal::differ, rules::specs::Refusal::outside))]
 pub fn check_table(ws: &[u32], fewest: usize, most: usize, number: u32) -> Result<(), Fault>

@@ -2,13 +2,15 @@
 
 ghost use Rattle.std.specs.Prelude.{◌≡◌, List, ℕ, ◌<◌, Result};
 ghost use Rattle.rules.specs.Table.{Shape as NodeShape, size, kind};
-ghost use Rattle.rules.specs.Table.{action_node, action_shape, formula_node, formula_shape};
+ghost use Rattle.rules.specs.Table.{action_node, action_shape, regular_node, regular_shape};
+ghost use Rattle.rules.specs.Table.{formula_node, formula_shape};
 ghost use Rattle.node_kinds.specs.declared.UnknownKind.{UnknownKind};
-ghost use Rattle.node_kinds.specs.Codes.{ReadsAction, ReadsFormula};
-ghost use Rattle.table_words.specs.Shapes.{shape_in, shape_read, action_kind_shape, formula_kind_shape};
-ghost use Rattle.table_words.specs.Laws.{action_reads, formula_reads};
+ghost use Rattle.node_kinds.specs.Codes.{ReadsAction, ReadsRegular, ReadsFormula};
+ghost use Rattle.table_words.specs.Shapes.{shape_in, shape_read};
+ghost use Rattle.table_words.specs.Shapes.{action_kind_shape, regular_kind_shape, formula_kind_shape};
+ghost use Rattle.table_words.specs.Laws.{action_reads, regular_reads, formula_reads};
 
-use node_kinds::{ActionKind, FormulaKind, UnknownKind};
+use node_kinds::{ActionKind, FormulaKind, RegularKind, UnknownKind};
 
 // How many children a node has.
 #[derive(Clone, Copy, Debug, PartialEq, Eq)]
@@ -77,6 +79,30 @@ impl NodeKind for ActionKind {
             ActionKind::MultiAction => (Arity::Leaf, OperandRule::OutsideName),
             ActionKind::Union | ActionKind::Intersection => (Arity::Pair, OperandRule::RightChild),
             ActionKind::Negation => (Arity::Single, OperandRule::Zero),
+        };
+        Shape { arity, rule }
+    }
+}
+
+impl NodeKind for RegularKind {
+    ghost read_gives = { ReadsRegular };
+
+    ghost node_shape = { λ ws node. regular_shape (regular_node ws node) };
+
+    ghost kind_shape = { regular_kind_shape };
+
+    ghost reads = { regular_reads };
+
+    fn read(word: u32) -> Result<Self, UnknownKind> {
+        RegularKind::try_from(word)
+    }
+
+    #[tactic(auto, unfolding(rules::specs::Table::decode_regular, rules::specs::Table::regular_shape))]
+    fn shape(self) -> Shape {
+        let (arity, rule) = match self {
+            RegularKind::Action => (Arity::Leaf, OperandRule::OutsideName),
+            RegularKind::Sequence | RegularKind::Choice => (Arity::Pair, OperandRule::RightChild),
+            RegularKind::Star | RegularKind::Plus => (Arity::Single, OperandRule::Zero),
         };
         Shape { arity, rule }
     }

@@ -5,6 +5,7 @@ ghost use Rattle.rules.specs.Table.{size, operand, tree_end, is_not_end, on_row}
 ghost use Rattle.tables.specs.Ends.{end_of};
 ghost use Rattle.table_words.specs.Shapes.{shape_in};
 ghost use Rattle.rules.specs.Words.{most_nodes};
+ghost use Rattle.rules.specs.Refusal.{names_no_root};
 ghost use Rattle.table_words.specs.Tables.{Sized, children_of, bad_in, Ends, SomeEnds, Firsts};
 
 use crate::shapes::{Arity, NodeKind, OperandRule, Shape};
@@ -189,6 +190,14 @@ impl<'a, 'c, K: NodeKind> Row<'a, 'c, K> {
         ensures { result ≡ on_row (children_of K.node_shape self.now.words.now) (size self.now.words.now) node }
     {
         self.firsts[node]
+    }
+
+    // A number is not that of a node at which a tree of the row begins.
+    #[tactic(auto, unfolding(rules::specs::Refusal::names_no_root))]
+    pub fn names_no_root(&self, named: usize) -> bool
+        ensures { result ≡ names_no_root (children_of K.node_shape self.now.words.now) (size self.now.words.now) named }
+    {
+        self.size() <= named || !self.has_tree_at(named)
     }
 
     // The row's last tree is finished.

@@ -19,7 +19,7 @@ use Rattle.rules.specs.System.{state_count, transition_count, initial_state, tra
 use Rattle.rules.specs.Table.{size, kind, operand, action_children, formula_node, formula_children, reference_of, tree_end}
 use Rattle.rules.specs.Table.{is_not_end, is_before_end, on_row}
 use Rattle.rules.specs.Formula.{is_fixpoint}
-use Rattle.rules.specs.Refusal.{outside, differ, fault_from, bad_label, too_large, bad_action_operand, names_no_tree, bad_formula_operand, wrong_end, encloses, wrong_reference}
+use Rattle.rules.specs.Refusal.{outside, differ, fault_from, bad_label, too_large, bad_action_operand, names_no_root, bad_formula_operand, wrong_end, encloses, wrong_reference}
 use Rattle.rules.specs.Refusal.{refusal1, refusal2, refusal11, refusal12, refusal13, refusal21, refusal22, refusal23, refusal24, refusal25, refusal26, refusal31, refusal32, refusal33, refusal34}
 use Rattle.rules.specs.Refusal.{refusal41, refusal42, refusal43, refusal44, refusal45, input_refusal, refusal}
 use Rattle.tables.specs.Good.{GoodLabels, GoodSystem, GoodActionNode, GoodActions, GoodFormulaNode, GoodFormula, GoodInput}
@@ -104,7 +104,7 @@ good_system ls ss r21 r22 r23 r24 r25 r26 =
 
 -- ---- right children: the operand is the end of the first child's tree
 
-is-end : (r : ℕ) (o : Option ℕ) (x : ℕ) → o ≡ some x → is_not_end r o ≡ false → r ≡ x
+pub is-end : (r : ℕ) (o : Option ℕ) (x : ℕ) → o ≡ some x → is_not_end r o ≡ false → r ≡ x
 unfolding is_not_end
 is-end r o x e h = eqb-true r x (not-false (eqb r x) (ap (is_not_end r) (sym e) ∙ h))
 
@@ -172,23 +172,23 @@ module _ (ls acts : List ℕ) (r33 : refusal33 acts ≡ Ok tt) (r34 : refusal34 
 
 -- ---- the formula
 
-module _ (acts f : List ℕ) (r43 : refusal43 f ≡ Ok tt) (r44 : refusal44 (names_no_tree acts) f ≡ Ok tt) where
+module _ (children : ℕ → ℕ) (m : ℕ) (f : List ℕ) (r43 : refusal43 f ≡ Ok tt) (r44 : refusal44 (names_no_root children m) f ≡ Ok tt) where
   pub formula_known : (v : ℕ) → v < size f → kind f v ≤ 8
   unfolding refusal43
   formula_known v h = ltb-false 8 (kind f v) (from_passed 43 0 (size f) (λ u. ltb 8 (kind f u)) r43 v (omega arith) h)
 
-  formula_operand : (v : ℕ) → v < size f → bad_formula_operand (names_no_tree acts) f v ≡ false
+  formula_operand : (v : ℕ) → v < size f → bad_formula_operand (names_no_root children m) f v ≡ false
   unfolding refusal44
   formula_operand v h =
-      let (a, b) = lower_both (fault_from 44 0 (size f) (bad_formula_operand (names_no_tree acts) f))
+      let (a, b) = lower_both (fault_from 44 0 (size f) (bad_formula_operand (names_no_root children m) f))
       (wrong_end (size f) (tree_end (formula_children f) (size f) 0)) r44 in
-      from_passed 44 0 (size f) (bad_formula_operand (names_no_tree acts) f) a v (omega arith) h
+      from_passed 44 0 (size f) (bad_formula_operand (names_no_root children m) f) a v (omega arith) h
 
   -- the tree of node 0 is the whole table
   pub formula_whole : tree_end (formula_children f) (size f) 0 ≡ some (size f)
   unfolding refusal44 wrong_end
   formula_whole =
-      let (a, b) = lower_both (fault_from 44 0 (size f) (bad_formula_operand (names_no_tree acts) f))
+      let (a, b) = lower_both (fault_from 44 0 (size f) (bad_formula_operand (names_no_root children m) f))
       (wrong_end (size f) (tree_end (formula_children f) (size f) 0)) r44 in
       go (tree_end (formula_children f) (size f) 0) refl b
     where
@@ -214,7 +214,7 @@ module _ (acts f : List ℕ) (r43 : refusal43 f ≡ Ok tt) (r44 : refusal44 (nam
       let (e, c, g) = formula_finished v h in
       let (x, i, j, k, l) = two_children (formula_children f) (size f) v e c (formula_children_two f v h a b) in
       let q : operand f v ≡ x = is-end (operand f v) _ x i
-      (sym (formula_right (names_no_tree acts) f v h a b) ∙ formula_operand v h) in
+      (sym (formula_right (names_no_root children m) f v h a b) ∙ formula_operand v h) in
       (i ∙ ap some (sym q), c ∙ sym j ∙ ap (tree_end (formula_children f) (size f)) (sym q), omega arith, omega arith)
 
   good_formula_next : (v : ℕ) → v < size f → 2 ≤ kind f v → kind f v ≤ 7 → Dec (kind f v < 4) → suc v < size f
@@ -225,15 +225,15 @@ module _ (acts f : List ℕ) (r43 : refusal43 f ≡ Ok tt) (r44 : refusal44 (nam
       let (e, c, g) = formula_finished v h in
       only_child (formula_children f) (size f) v e c (formula_children_one f v h (omega arith) b)
 
-  -- the action formula of a box or diamond is one of the row's trees
+  -- what a box or a diamond names is one of the row's trees
   pub formula_names : (v : ℕ) → v < size f → 4 ≤ kind f v → kind f v ≤ 5
-      → (operand f v < size acts) × (on_row (action_children acts) (size acts) (operand f v) ≡ true)
-  unfolding names_no_tree
+      → (operand f v < m) × (on_row children m (operand f v) ≡ true)
+  unfolding names_no_root
   formula_names v h a b =
-      let (p, q) = or-false (leb (size acts) (operand f v))
-      (not (on_row (action_children acts) (size acts) (operand f v)))
-      (sym (formula_action (names_no_tree acts) f v h a b) ∙ formula_operand v h) in
-      (leb-false (size acts) (operand f v) p, not-false (on_row (action_children acts) (size acts) (operand f v)) q)
+      let (p, q) = or-false (leb m (operand f v))
+      (not (on_row children m (operand f v)))
+      (sym (formula_action (names_no_root children m) f v h a b) ∙ formula_operand v h) in
+      (leb-false m (operand f v) p, not-false (on_row children m (operand f v)) q)
 
   module _ (r45 : refusal45 f ≡ Ok tt) where
     -- the fixpoint of a reference encloses it
@@ -249,7 +249,7 @@ module _ (acts f : List ℕ) (r43 : refusal43 f ≡ Ok tt) (r44 : refusal44 (nam
         let (i, j) = and-true (ltb (operand f v) v) (is_before_end v (tree_end (formula_children f) (size f) (operand f v))) q in
         (p, ltb-true (operand f v) v i, j)
 
-    pub good_formula_node : (v : ℕ) → v < size f → GoodFormulaNode (size acts) f v
+    pub good_formula_node : (v : ℕ) → v < size f → GoodFormulaNode m f v
     good_formula_node v h =
         record {
           known = formula_known v h;
@@ -259,7 +259,7 @@ module _ (acts f : List ℕ) (r43 : refusal43 f ≡ Ok tt) (r44 : refusal44 (nam
           refers = λ a. let (i, j, k) = formula_refers v h a in (j, i);
         }
 
-    pub good_formula : refusal41 f ≡ Ok tt → refusal42 f ≡ Ok tt → GoodFormula (size acts) f
+    pub good_formula : refusal41 f ≡ Ok tt → refusal42 f ≡ Ok tt → GoodFormula m f
     unfolding refusal41 refusal42
     good_formula r41 r42 =
         let (a, b) = outside_false 1 1_024 (size f) (if_passed 42 0 _ r42) in
@@ -279,7 +279,7 @@ accepted x h =
       labels = good_labels x.labels (first_passed _ h 0) (first_passed _ h 1) (first_passed _ h 2);
       system = good_system x.labels x.system (first_passed _ h 3) (first_passed _ h 4) (first_passed _ h 5) (first_passed _ h 6) (first_passed _ h 7) (first_passed _ h 8);
       actions = good_actions x.labels x.actions (first_passed _ h 11) (first_passed _ h 12) (first_passed _ h 9) (first_passed _ h 10);
-      formula = good_formula x.actions x.formula (first_passed _ h 15) (first_passed _ h 16) (first_passed _ h 17) (first_passed _ h 13) (first_passed _ h 14);
+      formula = good_formula (action_children x.actions) (size x.actions) x.formula (first_passed _ h 15) (first_passed _ h 16) (first_passed _ h 17) (first_passed _ h 13) (first_passed _ h 14);
     }
 
 module _ (x : Input) (r : Room) (game work : ℕ) (h : refusal x r game work ≡ Ok tt) where

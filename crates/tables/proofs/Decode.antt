@@ -14,6 +14,8 @@ use Rattle.rules.specs.Table.{size, kind, operand, zero_operand, right_child, ou
 use Rattle.rules.specs.Table.{ActionNode, true_node, false_node, multi_action_node, union_node, intersection_node}
 use Rattle.rules.specs.Table.{negation_node, no_action_node}
 use Rattle.rules.specs.Table.{decode_action, action_node, action_shape, action_children}
+use Rattle.rules.specs.Table.{RegularNode, action_formula_node, sequence_node, choice_node, star_node, plus_node}
+use Rattle.rules.specs.Table.{no_regular_node, decode_regular, regular_node, regular_shape, regular_children}
 use Rattle.rules.specs.Table.{FormulaNode, truth_node, falsity_node, and_node, or_node, box_node, diamond_node, least_node}
 use Rattle.rules.specs.Table.{greatest_node}
 use Rattle.rules.specs.Table.{reference_node, no_formula_node, decode_formula, formula_node, formula_shape, formula_children}
@@ -21,7 +23,7 @@ use Rattle.rules.specs.Table.{fixpoint_of, reference_of}
 use Rattle.rules.specs.Formula.{is_fixpoint}
 use Rattle.lists.proofs.Tests.{and-true, and-false}
 
--- ---- laws that both tables share
+-- ---- laws that all tables share
 
 -- what holds of each place with what the list has there
 abbrev AllAt : {A : Type 0} → (ℕ → A → Type 0) → List A → Type 0
@@ -136,6 +138,61 @@ module _ (acts : List ℕ) (v : ℕ) where
 
     pub action_children_unknown : 6 ≤ kind acts v → action_children acts v ≡ 0
     action_children_unknown l = ap (λ s. s.children) (action_unknown l)
+
+-- ---- regular formulas
+
+pub regular_kinds : (o : ℕ) (P : ℕ → RegularNode → Type 0)
+    → P 0 (action_formula_node o) → P 1 (sequence_node o) → P 2 (choice_node o) → P 3 star_node → P 4 plus_node
+    → ((k : ℕ) → 5 ≤ k → P k no_regular_node) → (k : ℕ) → P k (decode_regular k o)
+unfolding decode_regular
+regular_kinds o P a b c d e past =
+    each_read no_regular_node P (action_formula_node o ∷ sequence_node o ∷ choice_node o ∷ star_node ∷ plus_node ∷ [])
+    (a, (b, (c, (d, (e, tt))))) past
+
+abbrev regular_kind_shape : ℕ → Shape
+regular_kind_shape =
+    ranged 1 3 5 5 (record { children = 0; rule = outside_name }) (record { children = 2; rule = right_child })
+    (record { children = 1; rule = zero_operand }) (record { children = 0; rule = not_judged })
+
+regular-kind-shape : (o k : ℕ) → regular_shape (decode_regular k o) ≡ regular_kind_shape k
+unfolding regular_shape
+regular-kind-shape o =
+    regular_kinds o (λ k n. regular_shape n ≡ regular_kind_shape k) refl refl refl refl refl
+    (λ k h. sym (range_past 1 3 5 5 _ _ _ _ k (omega arith) (omega arith) (omega arith) h))
+
+module _ (regs : List ℕ) (v : ℕ) where
+  pub regular_at : v < size regs → regular_node regs v ≡ decode_regular (kind regs v) (operand regs v)
+  unfolding regular_node
+  regular_at h = rw (lt-ltb v (size regs) h)
+
+  module _ (h : v < size regs) where
+    pub regular_of_kind : (k : ℕ) → kind regs v ≡ k → regular_node regs v ≡ decode_regular k (operand regs v)
+    regular_of_kind k e = regular_at h ∙ ap (λ i. decode_regular i (operand regs v)) e
+
+    regular-shape : regular_shape (regular_node regs v) ≡ regular_kind_shape (kind regs v)
+    regular-shape = ap regular_shape (regular_at h) ∙ regular-kind-shape (operand regs v) (kind regs v)
+
+    pub regular_leaf : kind regs v ≡ 0 → regular_shape (regular_node regs v) ≡ record { children = 0; rule = outside_name }
+    regular_leaf e = regular-shape ∙ rw e
+
+    pub regular_two : 1 ≤ kind regs v → kind regs v ≤ 2 → regular_shape (regular_node regs v)
+        ≡ record { children = 2; rule = right_child }
+    regular_two a b = regular-shape ∙ range_2 1 3 5 5 _ _ _ _ (kind regs v) a (omega arith)
+
+    pub regular_one : 3 ≤ kind regs v → kind regs v ≤ 4 → regular_shape (regular_node regs v)
+        ≡ record { children = 1; rule = zero_operand }
+    regular_one a b = regular-shape ∙ range_3 1 3 5 5 _ _ _ _ (kind regs v) (omega arith) a (omega arith)
+
+    pub regular_unknown : 5 ≤ kind regs v → regular_shape (regular_node regs v) ≡ record { children = 0; rule = not_judged }
+    regular_unknown l =
+        regular-shape ∙ range_past 1 3 5 5 _ _ _ _ (kind regs v) (omega arith) (omega arith) (omega arith) l
+
+    -- how many children, by ranges of the kind
+    pub regular_children_two : 1 ≤ kind regs v → kind regs v ≤ 2 → regular_children regs v ≡ 2
+    regular_children_two a b = ap (λ s. s.children) (regular_two a b)
+
+    pub regular_children_one : 3 ≤ kind regs v → kind regs v ≤ 4 → regular_children regs v ≡ 1
+    regular_children_one a b = ap (λ s. s.children) (regular_one a b)
 
 -- ---- the formula
 

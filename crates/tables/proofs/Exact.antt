@@ -13,6 +13,7 @@ use Rattle.rules.specs.declared.Room.{Room}
 use Rattle.rules.specs.Words.{Input}
 use Rattle.rules.specs.Answers.{and_then, first_fault}
 use Rattle.rules.specs.Labels.{label_count}
+use Rattle.rules.specs.Table.{size, action_children}
 use Rattle.rules.specs.Refusal.{refusal1, refusal2, refusal11, refusal12, refusal13, refusal21, refusal22, refusal23, refusal24, refusal25, refusal26, refusal31, refusal32, refusal33, refusal34}
 use Rattle.rules.specs.Refusal.{refusal41, refusal42, refusal43, refusal44, refusal45, input_refusal, refusal}
 use Rattle.rules.specs.Faulty.{FaultyRoom, FaultyLabels, FaultySystem, FaultyActions, FaultyFormula}
@@ -39,7 +40,7 @@ module _ (x : Input) (r : Room) (game work : ℕ) where
   actions = action_checks x.labels x.actions
 
   abbrev formulas : List Check
-  formulas = formula_checks x.actions x.formula
+  formulas = formula_checks (action_children x.actions) (size x.actions) x.formula
 
   abbrev checks : List Check
   checks = rooms ++ (labels ++ (systems ++ (actions ++ formulas)))
@@ -61,7 +62,7 @@ module _ (x : Input) (r : Room) (game work : ℕ) where
       (each_map (Sound (FaultySystem (label_count x.labels) x.system)) (Sound F) (λ c h n p e. faulty_system (h n p e)) systems (system_sound x.labels x.system))
       (each_append (Sound F) actions formulas
       (each_map (Sound (FaultyActions (label_count x.labels) x.actions)) (Sound F) (λ c h n p e. faulty_actions (h n p e)) actions (action_sound x.labels x.actions))
-      (each_map (Sound (FaultyFormula x.actions x.formula)) (Sound F) (λ c h n p e. faulty_formula (h n p e)) formulas (formula_sound x.actions x.formula)))))
+      (each_map (Sound (FaultyFormula (action_children x.actions) (size x.actions) x.formula)) (Sound F) (λ c h n p e. faulty_formula (h n p e)) formulas (formula_sound (action_children x.actions) (size x.actions) x.formula)))))
 
   finds : (n q : ℕ) → Faulty x r game work n q → Some (Finds n q) checks
   finds n q (faulty_room h) = some_left (Finds n q) rooms (labels ++ (systems ++ (actions ++ formulas))) (room_finds r game work h)
@@ -79,7 +80,7 @@ module _ (x : Input) (r : Room) (game work : ℕ) where
   finds n q (faulty_formula h) =
       some_right (Finds n q) rooms (labels ++ (systems ++ (actions ++ formulas)))
       (some_right (Finds n q) labels (systems ++ (actions ++ formulas))
-      (some_right (Finds n q) systems (actions ++ formulas) (some_right (Finds n q) actions formulas (formula_finds x.actions x.formula h))))
+      (some_right (Finds n q) systems (actions ++ formulas) (some_right (Finds n q) actions formulas (formula_finds (action_children x.actions) (size x.actions) x.formula h))))
 
   rising : Rising (λ k. k) 0 checks
   unfolding refusal1 refusal2 refusal11 refusal12 refusal13 refusal21 refusal22 refusal23 refusal24 refusal25 refusal26 refusal31 refusal32 refusal33 refusal34 refusal41 refusal42 refusal43 refusal44 refusal45
@@ -158,7 +159,7 @@ module _ (x : Input) (r : Room) (game work : ℕ) where
                                       (
                                         44,
                                         omega arith,
-                                        lower_numbered 44 _ _ (from_numbered 44 _ _ _) (end_numbered x.actions x.formula _),
+                                        lower_numbered 44 _ _ (from_numbered 44 _ _ _) (end_numbered (action_children x.actions) (size x.actions) x.formula _),
                                         (45, omega arith, from_numbered 45 _ _ _, tt),
                                       ),
                                     ),

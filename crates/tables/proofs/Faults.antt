@@ -199,6 +199,14 @@ first_next_of [] ds e = refl
 first_next_of (Ok u ∷ cs) ds e = first_next_of cs ds e
 first_next_of (Err f ∷ cs) ds e = absurd (passed_not_fault (sym e))
 
+pub first_both : (cs ds : List Check) → first_fault (cs ++ ds) ≡ Ok tt → (first_fault cs ≡ Ok tt) × (first_fault ds ≡ Ok tt)
+unfolding first_fault
+first_both [] ds h = (refl, h)
+first_both (c ∷ cs) ds h =
+    let (a, b) = then_both c (first_fault (cs ++ ds)) h in
+    let (p, q) = first_both cs ds b in
+    (then_passed (first_fault cs) a ∙ p, q)
+
 pub first_passed : (cs : List Check) → first_fault cs ≡ Ok tt → (i : ℕ) → get_or cs i (Ok tt) ≡ Ok tt
 unfolding first_fault
 first_passed [] h i = refl

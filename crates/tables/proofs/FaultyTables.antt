@@ -18,7 +18,7 @@ use Rattle.rules.specs.Labels.{label_count}
 use Rattle.rules.specs.Table.{size, kind, operand, action_children, formula_node, formula_children, reference_of, tree_end}
 use Rattle.rules.specs.Table.{is_not_end, is_before_end, on_row}
 use Rattle.rules.specs.Formula.{is_fixpoint}
-use Rattle.rules.specs.Refusal.{outside, differ, bad_action_operand, names_no_tree, bad_formula_operand, wrong_end, encloses}
+use Rattle.rules.specs.Refusal.{outside, differ, bad_action_operand, names_no_root, bad_formula_operand, wrong_end, encloses}
 use Rattle.rules.specs.Refusal as rules
 use Rattle.rules.specs.Refusal.{refusal31, refusal32, refusal33, refusal34, refusal41, refusal42, refusal43, refusal44, refusal45}
 use Rattle.rules.specs.Rows.{Root}
@@ -36,12 +36,12 @@ use Rattle.tables.proofs.Choices.{differ_true, differ_yes, outside_true, below_o
 
 -- ---- tests against an end
 
-not_end : (r : ℕ) (o : Option ℕ) → is_not_end r o ≡ true → (e : ℕ) × (o ≡ some e) × (¬ (r ≡ e))
+pub not_end : (r : ℕ) (o : Option ℕ) → is_not_end r o ≡ true → (e : ℕ) × (o ≡ some e) × (¬ (r ≡ e))
 unfolding is_not_end
 not_end r none h = absurd (false≢true h)
 not_end r (some e) h = (e, refl, eqb-false r e (not-true (eqb r e) h))
 
-not_end_yes : (r e : ℕ) (o : Option ℕ) → o ≡ some e → (¬ (r ≡ e)) → is_not_end r o ≡ true
+pub not_end_yes : (r e : ℕ) (o : Option ℕ) → o ≡ some e → (¬ (r ≡ e)) → is_not_end r o ≡ true
 unfolding is_not_end
 not_end_yes r e o i d = rw i (ap not (ne_eqb r e d))
 
@@ -58,6 +58,31 @@ before_end_yes v e o i l = rw i (lt-ltb v e l)
 not_so : (t : Bool) → (¬ (t ≡ true)) → not t ≡ true
 not_so true d = absurd (d refl)
 not_so false d = refl
+
+-- ---- tests of what an operand names
+
+module _ (children : ℕ → ℕ) (m a : ℕ) where
+  pub no_root : names_no_root children m a ≡ true → (m ≤ a) ⊎ (¬ Root children m a)
+  unfolding names_no_root
+  no_root e = go (or-true (leb m a) (not (on_row children m a)) e)
+    where
+      go : (leb m a ≡ true) ⊎ (not (on_row children m a) ≡ true) → (m ≤ a) ⊎ (¬ Root children m a)
+      go (inl i) = inl (leb-true m a i)
+      go (inr i) = inr (λ r. true≢false (sym ((root_row children m a).1 r) ∙ not-true (on_row children m a) i))
+
+  pub past_no_root : m ≤ a → names_no_root children m a ≡ true
+  unfolding names_no_root
+  past_no_root l = or_left (not (on_row children m a)) (le-leb m a l)
+
+  pub inner_no_root : (¬ Root children m a) → names_no_root children m a ≡ true
+  unfolding names_no_root
+  inner_no_root d = or_right (leb m a) (not_so (on_row children m a) (λ t. d ((root_row children m a).0 t)))
+
+-- a kind that is one of two neighbours
+pub two_bounds : (a b k : ℕ) → b ≡ suc a → In k (a ∷ b ∷ []) → (a ≤ k) × (k ≤ b)
+two_bounds a b k s (inl e) = (omega arith, omega arith)
+two_bounds a b k s (inr (inl e)) = (omega arith, omega arith)
+two_bounds a b k s (inr (inr z)) = absurd z
 
 -- ---- action formulas
 
@@ -131,17 +156,9 @@ module _ (ls acts : List ℕ) where
 
   right_bad : (v e : ℕ) → v < size acts → In (kind acts v) (3 ∷ 4 ∷ []) → tree_end (action_children acts) (size acts) (suc v) ≡ some e → (¬ (operand acts v ≡ e))
       → bad_action_operand ls acts v ≡ true
-  right_bad v e h m i d = action_right ls acts v h (at_least m) (at_most m) ∙ not_end_yes (operand acts v) e (tree_end (action_children acts) (size acts) (suc v)) i d
-    where
-      at_least : In (kind acts v) (3 ∷ 4 ∷ []) → 3 ≤ kind acts v
-      at_least (inl k) = omega arith
-      at_least (inr (inl k)) = omega arith
-      at_least (inr (inr z)) = absurd z
-
-      at_most : In (kind acts v) (3 ∷ 4 ∷ []) → kind acts v ≤ 4
-      at_most (inl k) = omega arith
-      at_most (inr (inl k)) = omega arith
-      at_most (inr (inr z)) = absurd z
+  right_bad v e h m i d =
+      let (a, b) = two_bounds 3 4 (kind acts v) refl m in
+      action_right ls acts v h a b ∙ not_end_yes (operand acts v) e (tree_end (action_children acts) (size acts) (suc v)) i d
 
   operand_finds : (v : ℕ) → v < size acts → bad_action_operand ls acts v ≡ true → Finds 34 v (refusal34 ls acts)
   unfolding refusal34
@@ -165,12 +182,12 @@ module _ (ls acts : List ℕ) where
 
 -- ---- the formula
 
-module _ (acts f : List ℕ) where
+module _ (children : ℕ → ℕ) (named : ℕ) (f : List ℕ) where
   abbrev pub formula_checks : List Check
-  formula_checks = refusal41 f ∷ refusal42 f ∷ refusal43 f ∷ refusal44 (names_no_tree acts) f ∷ refusal45 f ∷ []
+  formula_checks = refusal41 f ∷ refusal42 f ∷ refusal43 f ∷ refusal44 (names_no_root children named) f ∷ refusal45 f ∷ []
 
   abbrev G : ℕ → ℕ → Type 0
-  G = FaultyFormula acts f
+  G = FaultyFormula children named f
 
   formula_length : (eqb (length f) 0 || differ (length f) (1 + 2 * size f)) ≡ true → G 41 0
   formula_length e = go (or-true (eqb (length f) 0) (differ (length f) (1 + 2 * size f)) e)
@@ -186,11 +203,10 @@ module _ (acts f : List ℕ) where
       go (inl l) = no_formula_nodes l
       go (inr l) = many_formula_nodes l
 
-  formula_operands : (v : ℕ) → v < size f → bad_formula_operand (names_no_tree acts) f v ≡ true → G 44 v
-  unfolding names_no_tree
+  formula_operands : (v : ℕ) → v < size f → bad_formula_operand (names_no_root children named) f v ≡ true → G 44 v
   formula_operands v h e = by_kind (kind f v) refl
     where
-      not-zero : In (kind f v) (0 ∷ 1 ∷ 6 ∷ 7 ∷ []) → bad_formula_operand (names_no_tree acts) f v ≡ differ (operand f v) 0
+      not-zero : In (kind f v) (0 ∷ 1 ∷ 6 ∷ 7 ∷ []) → bad_formula_operand (names_no_root children named) f v ≡ differ (operand f v) 0
           → G 44 v
       not-zero m i = formula_not_zero v h m (differ_true (operand f v) 0 (sym i ∙ e))
 
@@ -198,36 +214,32 @@ module _ (acts f : List ℕ) where
       right m a b =
           let (x, i, d) =
           not_end (operand f v) (tree_end (formula_children f) (size f) (suc v))
-          (sym (formula_right (names_no_tree acts) f v h a b) ∙ e)
+          (sym (formula_right (names_no_root children named) f v h a b) ∙ e)
           in
           formula_not_right v x h m i d
 
-      which : In (kind f v) (4 ∷ 5 ∷ []) → (leb (size acts) (operand f v) ≡ true) ⊎ (not (on_row (action_children acts) (size acts) (operand f v)) ≡ true) → G 44 v
-      which m (inl i) = formula_no_action v h m (leb-true (size acts) (operand f v) i)
-      which m (inr i) =
-          formula_no_root v h m
-          (λ t. true≢false (sym ((root_row (action_children acts) (size acts) (operand f v)).1 t) ∙ not-true (on_row (action_children acts) (size acts) (operand f v)) i))
+      which : In (kind f v) (4 ∷ 5 ∷ []) → (named ≤ operand f v) ⊎ (¬ Root children named (operand f v)) → G 44 v
+      which m (inl l) = formula_no_action v h m l
+      which m (inr d) = formula_no_root v h m d
 
       action : In (kind f v) (4 ∷ 5 ∷ []) → 4 ≤ kind f v → kind f v ≤ 5 → G 44 v
       action m a b =
-          which m
-          (or-true (leb (size acts) (operand f v)) (not (on_row (action_children acts) (size acts) (operand f v)))
-          (sym (formula_action (names_no_tree acts) f v h a b) ∙ e))
+          which m (no_root children named (operand f v) (sym (formula_action (names_no_root children named) f v h a b) ∙ e))
 
       by_kind : (j : ℕ) → kind f v ≡ j → G 44 v
       by_kind =
           formula_kinds 0 (λ j n. kind f v ≡ j → G 44 v)
-          (λ k. not-zero (inl k) (formula_zero (names_no_tree acts) f v h (omega arith)))
-          (λ k. not-zero (inr (inl k)) (formula_zero (names_no_tree acts) f v h (omega arith)))
+          (λ k. not-zero (inl k) (formula_zero (names_no_root children named) f v h (omega arith)))
+          (λ k. not-zero (inr (inl k)) (formula_zero (names_no_root children named) f v h (omega arith)))
           (λ k. right (inl k) (omega arith) (omega arith))
           (λ k. right (inr (inl k)) (omega arith) (omega arith))
           (λ k. action (inl k) (omega arith) (omega arith))
           (λ k. action (inr (inl k)) (omega arith) (omega arith))
-          (λ k. not-zero (inr (inr (inl k))) (formula_fixpoint (names_no_tree acts) f v h (omega arith) (omega arith)))
+          (λ k. not-zero (inr (inr (inl k))) (formula_fixpoint (names_no_root children named) f v h (omega arith) (omega arith)))
           (λ k. not-zero (inr (inr (inr (inl k))))
-          (formula_fixpoint (names_no_tree acts) f v h (omega arith) (omega arith)))
-          (λ k. absurd (false≢true (sym (formula_other (names_no_tree acts) f v h (omega arith)) ∙ e)))
-          (λ j l k. absurd (false≢true (sym (formula_other (names_no_tree acts) f v h (omega arith)) ∙ e)))
+          (formula_fixpoint (names_no_root children named) f v h (omega arith) (omega arith)))
+          (λ k. absurd (false≢true (sym (formula_other (names_no_root children named) f v h (omega arith)) ∙ e)))
+          (λ j l k. absurd (false≢true (sym (formula_other (names_no_root children named) f v h (omega arith)) ∙ e)))
 
   end_sound : (o : Option ℕ) → tree_end (formula_children f) (size f) 0 ≡ o → Sound G (wrong_end (size f) o)
   unfolding wrong_end fault_if
@@ -281,7 +293,7 @@ module _ (acts f : List ℕ) where
           (sym (enclosing_yes (operand f v) v h r)
           ∙ not-true (is_fixpoint (formula_node f (operand f v)) && encloses f (operand f v) v) (sym (reference_test f v h o) ∙ e)))
 
-  pub formula_sound : Each (Sound (FaultyFormula acts f)) formula_checks
+  pub formula_sound : Each (Sound (FaultyFormula children named f)) formula_checks
   unfolding refusal41 refusal42 refusal43 refusal44 refusal45
   formula_sound = (
     if_sound G 41 0 _ formula_length,
@@ -290,9 +302,9 @@ module _ (acts f : List ℕ) where
       (
         from_sound G 43 0 (size f) (λ v. ltb 8 (kind f v)) (λ v a b e. formula_kind_too_large v b (ltb-true 8 (kind f v) e)),
         (
-          lower_sound G 44 _ _ (from_numbered 44 0 (size f) (bad_formula_operand (names_no_tree acts) f))
+          lower_sound G 44 _ _ (from_numbered 44 0 (size f) (bad_formula_operand (names_no_root children named) f))
               (end_numbered (tree_end (formula_children f) (size f) 0))
-              (from_sound G 44 0 (size f) (bad_formula_operand (names_no_tree acts) f) (λ v a b e. formula_operands v b e))
+              (from_sound G 44 0 (size f) (bad_formula_operand (names_no_root children named) f) (λ v a b e. formula_operands v b e))
               (end_sound (tree_end (formula_children f) (size f) 0) refl),
           (
             from_sound G 45 0 (size f) (λ v. rules.wrong_reference f v (reference_of (formula_node f v)))
@@ -305,55 +317,45 @@ module _ (acts f : List ℕ) where
   )
 
   not_zero_bad : (v : ℕ) → v < size f → In (kind f v) (0 ∷ 1 ∷ 6 ∷ 7 ∷ []) → (¬ (operand f v ≡ 0))
-      → bad_formula_operand (names_no_tree acts) f v ≡ true
-  not_zero_bad v h (inl k) d = formula_zero (names_no_tree acts) f v h (omega arith) ∙ differ_yes d
-  not_zero_bad v h (inr (inl k)) d = formula_zero (names_no_tree acts) f v h (omega arith) ∙ differ_yes d
+      → bad_formula_operand (names_no_root children named) f v ≡ true
+  not_zero_bad v h (inl k) d = formula_zero (names_no_root children named) f v h (omega arith) ∙ differ_yes d
+  not_zero_bad v h (inr (inl k)) d = formula_zero (names_no_root children named) f v h (omega arith) ∙ differ_yes d
   not_zero_bad v h (inr (inr (inl k))) d =
-      formula_fixpoint (names_no_tree acts) f v h (omega arith) (omega arith) ∙ differ_yes d
+      formula_fixpoint (names_no_root children named) f v h (omega arith) (omega arith) ∙ differ_yes d
   not_zero_bad v h (inr (inr (inr (inl k)))) d =
-      formula_fixpoint (names_no_tree acts) f v h (omega arith) (omega arith) ∙ differ_yes d
+      formula_fixpoint (names_no_root children named) f v h (omega arith) (omega arith) ∙ differ_yes d
   not_zero_bad v h (inr (inr (inr (inr z)))) d = absurd z
 
-  two_bounds : (a b k : ℕ) → b ≡ suc a → In k (a ∷ b ∷ []) → (a ≤ k) × (k ≤ b)
-  two_bounds a b k s (inl e) = (omega arith, omega arith)
-  two_bounds a b k s (inr (inl e)) = (omega arith, omega arith)
-  two_bounds a b k s (inr (inr z)) = absurd z
-
   not_right_bad : (v e : ℕ) → v < size f → In (kind f v) (2 ∷ 3 ∷ []) → tree_end (formula_children f) (size f) (suc v)
-      ≡ some e → (¬ (operand f v ≡ e)) → bad_formula_operand (names_no_tree acts) f v ≡ true
+      ≡ some e → (¬ (operand f v ≡ e)) → bad_formula_operand (names_no_root children named) f v ≡ true
   not_right_bad v e h m i d =
       let (a, b) = two_bounds 2 3 (kind f v) refl m in
-      formula_right (names_no_tree acts) f v h a b
+      formula_right (names_no_root children named) f v h a b
       ∙ not_end_yes (operand f v) e (tree_end (formula_children f) (size f) (suc v)) i d
 
-  no_action_bad : (v : ℕ) → v < size f → In (kind f v) (4 ∷ 5 ∷ []) → size acts ≤ operand f v
-      → bad_formula_operand (names_no_tree acts) f v ≡ true
-  unfolding names_no_tree
+  no_action_bad : (v : ℕ) → v < size f → In (kind f v) (4 ∷ 5 ∷ []) → named ≤ operand f v
+      → bad_formula_operand (names_no_root children named) f v ≡ true
   no_action_bad v h m l =
       let (a, b) = two_bounds 4 5 (kind f v) refl m in
-      formula_action (names_no_tree acts) f v h a b
-      ∙ or_left (not (on_row (action_children acts) (size acts) (operand f v))) (le-leb (size acts) (operand f v) l)
+      formula_action (names_no_root children named) f v h a b ∙ past_no_root children named (operand f v) l
 
   no_root_bad : (v : ℕ) → v < size f → In (kind f v) (4 ∷ 5 ∷ [])
-      → (¬ Root (action_children acts) (size acts) (operand f v)) → bad_formula_operand (names_no_tree acts) f v ≡ true
-  unfolding names_no_tree
+      → (¬ Root children named (operand f v)) → bad_formula_operand (names_no_root children named) f v ≡ true
   no_root_bad v h m d =
       let (a, b) = two_bounds 4 5 (kind f v) refl m in
-      formula_action (names_no_tree acts) f v h a b
-      ∙ or_right (leb (size acts) (operand f v))
-      (not_so (on_row (action_children acts) (size acts) (operand f v)) (λ t. d ((root_row (action_children acts) (size acts) (operand f v)).0 t)))
+      formula_action (names_no_root children named) f v h a b ∙ inner_no_root children named (operand f v) d
 
-  operand_found : (v : ℕ) → v < size f → bad_formula_operand (names_no_tree acts) f v ≡ true
-      → Finds 44 v (refusal44 (names_no_tree acts) f)
+  operand_found : (v : ℕ) → v < size f → bad_formula_operand (names_no_root children named) f v ≡ true
+      → Finds 44 v (refusal44 (names_no_root children named) f)
   unfolding refusal44
   operand_found v h e =
-      lower_finds_left 44 v _ _ (from_finds 44 0 (size f) (bad_formula_operand (names_no_tree acts) f) v (omega arith) h e)
+      lower_finds_left 44 v _ _ (from_finds 44 0 (size f) (bad_formula_operand (names_no_root children named) f) v (omega arith) h e)
 
   end_finds : (q : ℕ) (o : Option ℕ) → tree_end (formula_children f) (size f) 0 ≡ o → Finds 44 q (wrong_end (size f) o)
-      → Finds 44 q (refusal44 (names_no_tree acts) f)
+      → Finds 44 q (refusal44 (names_no_root children named) f)
   unfolding refusal44
   end_finds q o i h =
-      lower_finds_right 44 q _ _ (from_numbered 44 0 (size f) (bad_formula_operand (names_no_tree acts) f)) (rw i h)
+      lower_finds_right 44 q _ _ (from_numbered 44 0 (size f) (bad_formula_operand (names_no_root children named) f)) (rw i h)
 
   unfinished_finds : Finds 44 (size f) (wrong_end (size f) none)
   unfolding wrong_end
@@ -368,7 +370,7 @@ module _ (acts f : List ℕ) where
   reference_bad v h k d =
       reference_test f v h k ∙ not_so (is_fixpoint (formula_node f (operand f v)) && encloses f (operand f v) v) (λ t. d (yes_enclosing (operand f v) v t))
 
-  pub formula_finds : {n q : ℕ} → FaultyFormula acts f n q → Some (Finds n q) formula_checks
+  pub formula_finds : {n q : ℕ} → FaultyFormula children named f n q → Some (Finds n q) formula_checks
   unfolding refusal41 refusal42 refusal43 refusal45
   formula_finds (no_formula_words i) = inl (if_finds 41 0 _ (or_left (differ (length f) (1 + 2 * size f)) (eq-eqb (length f) 0 i)))
   formula_finds (wrong_formula_words d) =

@@ -20,7 +20,8 @@ use Rattle.tables.proofs.Decode.{action_children_none, action_children_one, acti
 use Rattle.tables.proofs.Operands.{action_zero, action_label, action_right, action_negated}
 use Rattle.trees.proofs.ActionTrees.{any_tree, never_tree, multi_tree, union_tree, intersection_tree, negation_tree}
 use Rattle.writing.specs.ActionSyntax.{ActionSyntax, true_action, false_action, label_action, union_action, intersection_action, negation_action, action_size, write_action, LabelsBelow, read_action}
-use Rattle.writing.proofs.Nodes.{Holds, holds_split, leaf_nodes, one_nodes, two_nodes}
+use Rattle.writing.specs.Nodes.{Holds}
+use Rattle.writing.proofs.Nodes.{holds_split, leaf_nodes, one_nodes, two_nodes}
 use Rattle.tables.proofs.Choices.{differ_no}
 
 -- as many nodes are written

@@ -20,7 +20,8 @@ use Rattle.tables.proofs.Operands.{action_zero, action_negated}
 use Rattle.tables.proofs.Faults.{from_passed, lower_both}
 use Rattle.tables.proofs.Accepted.{actions_known, actions_finished, actions_right, good_action_node}
 use Rattle.writing.specs.ActionSyntax.{ActionSyntax, true_action, false_action, label_action, union_action, intersection_action, negation_action, action_size, write_action, row_size, write_row, LabelsBelow, RowLabelsBelow}
-use Rattle.writing.proofs.Nodes.{Holds, holds_split, holds_join}
+use Rattle.writing.specs.Nodes.{Holds}
+use Rattle.writing.proofs.Nodes.{holds_split, holds_join}
 use Rattle.writing.proofs.ActionNodes.{action_length, action_some, holds_two}
 use Rattle.tables.proofs.Choices.{differ_false}
 

@@ -12,7 +12,8 @@ use Rattle.rules.specs.Table.{size, action_children}
 use Rattle.tables.specs.Ends.{on_row_from}
 use Rattle.tables.proofs.Ends.{end_number_some, row_done, row_step}
 use Rattle.writing.specs.ActionSyntax.{ActionSyntax, true_action, action_size, write_action, row_size, write_row, first_node, RowLabelsBelow}
-use Rattle.writing.proofs.Nodes.{Holds, holds_split}
+use Rattle.writing.specs.Nodes.{Holds}
+use Rattle.writing.proofs.Nodes.{holds_split}
 use Rattle.writing.proofs.ActionNodes.{action_length, action_some, action_ends, Fine, action_fine}
 
 pub row_length : (row : List ActionSyntax) (v : ℕ) → length (write_row row v) ≡ row_size row

@@ -21,7 +21,8 @@ use Rattle.tables.proofs.Ends.{row-start}
 use Rattle.tables.proofs.Faults.{if-false, from_none, lower_passed}
 use Rattle.tables.proofs.Accepted.{good_actions, actions_row}
 use Rattle.writing.specs.ActionSyntax.{ActionSyntax, true_action, write_action, row_size, write_row, row_words, first_node, RowFits, ActionsAccepted, read_action}
-use Rattle.writing.proofs.Nodes.{Holds, table-size, table_length, table_holds, table_only}
+use Rattle.writing.specs.Nodes.{Holds}
+use Rattle.writing.proofs.Nodes.{table-size, table_length, table_holds, table_only}
 use Rattle.writing.proofs.ActionNodes.{action_reads}
 use Rattle.writing.proofs.ActionRows.{row_length, first_inside, first_below, row_tree, row_fine, row-end, row_first, row_only}
 use Rattle.writing.proofs.ActionReading.{row_from, row_same}

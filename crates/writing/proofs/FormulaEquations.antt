@@ -16,9 +16,9 @@ use Rattle.tables.proofs.Decode.{fixpoint_yes, fixpoint_low, fixpoint_high}
 use Rattle.trees.proofs.FormulaTrees.{truth_tree, falsity_tree, conjunction_tree, disjunction_tree, box_tree, diamond_tree, least_tree, greatest_tree, reference_tree}
 use Rattle.trees.proofs.Equations.{equations_same, equations_least, equations_greatest, number_same, number_more}
 use Rattle.writing.specs.ActionSyntax.{ActionSyntax, first_node}
-use Rattle.writing.specs.FormulaSyntax.{FormulaSyntax, true_formula, false_formula, and_formula, or_formula, box_formula, diamond_formula, least_formula, greatest_formula, reference_formula}
+use Rattle.writing.specs.FormulaSyntax.{FormulaSyntax, true_formula, false_formula, and_formula, or_formula, box_formula, diamond_formula, least_formula, greatest_formula, reference_formula, write_over}
 use Rattle.writing.specs.FormulaSyntax.{formula_size, write_formula, Names, fixpoints, begins_with_fixpoint, read_tree, read_formula, read_equations}
-use Rattle.writing.proofs.Nodes.{Holds}
+use Rattle.writing.specs.Nodes.{Holds}
 use Rattle.writing.proofs.FormulaNodes.{holds_both}
 
 module _ (row : List ActionSyntax) where
@@ -26,7 +26,7 @@ module _ (row : List ActionSyntax) where
     -- the first node is a fixpoint where the formula is one
     pub first_fixpoint : (t : FormulaSyntax) (around : List ℕ) (v : ℕ) → Holds (write_formula row t around v) f v → v < size f
         → is_fixpoint (formula_node f v) ≡ begins_with_fixpoint t
-    unfolding write_formula begins_with_fixpoint
+    unfolding write_over begins_with_fixpoint
     first_fixpoint true_formula around v (k, o, h) l = fixpoint_low f v l (omega arith)
     first_fixpoint false_formula around v (k, o, h) l = fixpoint_low f v l (omega arith)
     first_fixpoint (and_formula a b) around v (k, o, h) l = fixpoint_low f v l (omega arith)
@@ -73,15 +73,15 @@ module _ (row : List ActionSyntax) where
 
     pub formula_number : (t : FormulaSyntax) (around : List ℕ) (v : ℕ) → Holds (write_formula row t around v) f v → v + formula_size t ≤ size f
         → equation_number f (v + formula_size t) ≡ equation_number f v + fixpoints t
-    unfolding write_formula formula_size fixpoints
+    unfolding write_over formula_size fixpoints
     formula_number true_formula around v (k, o, h) l = leaf_number v (fixpoint_low f v (omega arith) (omega arith))
     formula_number false_formula around v (k, o, h) l = leaf_number v (fixpoint_low f v (omega arith) (omega arith))
     formula_number (and_formula a b) around v (k, o, h) l =
-        let (p, q) = holds_both row f a b around v h in
+        let (p, q) = holds_both (first_node row) f a b around v h in
         two_number v (formula_size a) (formula_size b) (fixpoints a) (fixpoints b) (omega arith) (omega arith)
         (formula_number a around (suc v) p (omega arith)) (formula_number b around (suc v + formula_size a) q (omega arith))
     formula_number (or_formula a b) around v (k, o, h) l =
-        let (p, q) = holds_both row f a b around v h in
+        let (p, q) = holds_both (first_node row) f a b around v h in
         two_number v (formula_size a) (formula_size b) (fixpoints a) (fixpoints b) (omega arith) (omega arith)
         (formula_number a around (suc v) p (omega arith)) (formula_number b around (suc v + formula_size a) q (omega arith))
     formula_number (box_formula i a) around v (k, o, h) l =
@@ -117,17 +117,17 @@ module _ (row : List ActionSyntax) where
 
     pub formula_reads : (t : FormulaSyntax) (around : List ℕ) (v : ℕ) → Holds (write_formula row t around v) x.formula v → v + formula_size t ≤ size x.formula
         → Names (length row) (length around) t → formula_tree x v ≡ read_at t around v
-    unfolding write_formula formula_size read_formula
+    unfolding write_over formula_size read_formula
     formula_reads true_formula around v (k, o, h) l ns = truth_tree m x good v (omega arith) k
     formula_reads false_formula around v (k, o, h) l ns = falsity_tree m x good v (omega arith) k
     formula_reads (and_formula a b) around v (k, o, h) l ns =
-        let (p, q) = holds_both row x.formula a b around v h in
+        let (p, q) = holds_both (first_node row) x.formula a b around v h in
         conjunction_tree m x good v (omega arith) k
         ∙ ap₂ conjunction (formula_reads a around (suc v) p (omega arith) ns.0 ∙ read_next a around v (omega arith) (omega arith))
         (ap (formula_tree x) o ∙ formula_reads b around (suc v + formula_size a) q (omega arith) ns.1
         ∙ ap (read_formula x.labels row b (map (equation_number x.formula) around)) (past_left a around v (omega arith) (omega arith) p (omega arith)))
     formula_reads (or_formula a b) around v (k, o, h) l ns =
-        let (p, q) = holds_both row x.formula a b around v h in
+        let (p, q) = holds_both (first_node row) x.formula a b around v h in
         disjunction_tree m x good v (omega arith) k
         ∙ ap₂ disjunction (formula_reads a around (suc v) p (omega arith) ns.0 ∙ read_next a around v (omega arith) (omega arith))
         (ap (formula_tree x) o ∙ formula_reads b around (suc v + formula_size a) q (omega arith) ns.1
@@ -209,15 +209,15 @@ module _ (row : List ActionSyntax) where
 
     pub formula_equations : (t : FormulaSyntax) (around : List ℕ) (v : ℕ) → Holds (write_formula row t around v) x.formula v → v + formula_size t ≤ size x.formula
         → Names (length row) (length around) t → read_before (v + formula_size t) ≡ read_before v ++ equations_at t around v
-    unfolding write_formula formula_size read_equations
+    unfolding write_over formula_size read_equations
     formula_equations true_formula around v (k, o, h) l ns = leaf_equations v (fixpoint_low x.formula v (omega arith) (omega arith))
     formula_equations false_formula around v (k, o, h) l ns = leaf_equations v (fixpoint_low x.formula v (omega arith) (omega arith))
     formula_equations (and_formula a b) around v (k, o, h) l ns =
-        let (p, q) = holds_both row x.formula a b around v h in
+        let (p, q) = holds_both (first_node row) x.formula a b around v h in
         two_equations a b around v (omega arith) (omega arith) p (omega arith)
         (formula_equations a around (suc v) p (omega arith) ns.0) (formula_equations b around (suc v + formula_size a) q (omega arith) ns.1)
     formula_equations (or_formula a b) around v (k, o, h) l ns =
-        let (p, q) = holds_both row x.formula a b around v h in
+        let (p, q) = holds_both (first_node row) x.formula a b around v h in
         two_equations a b around v (omega arith) (omega arith) p (omega arith)
         (formula_equations a around (suc v) p (omega arith) ns.0) (formula_equations b around (suc v + formula_size a) q (omega arith) ns.1)
     formula_equations (box_formula i a) around v (k, o, h) l ns =

@@ -13,100 +13,108 @@ use Rattle.std.specs.declared.result.Result.TheVariants.{Ok}
 use Rattle.rules.specs.Words.{Input, input_of, most_nodes}
 use Rattle.rules.specs.Answers.{first_fault}
 use Rattle.rules.specs.Labels.{label_count}
-use Rattle.rules.specs.Table.{size, kind, formula_node, formula_children, reference_of, tree_end}
+use Rattle.rules.specs.Table.{size, kind, action_children, on_row, formula_node, formula_children, reference_of, tree_end}
 use Rattle.rules.specs.Formula.{least, Equation, Formula, is_fixpoint, equations, equations_before, equation_number, formula_tree, body_tree}
 use Rattle.rules.specs.Refusal.{refusal31, refusal32, refusal33, refusal34}
-use Rattle.rules.specs.Refusal.{outside, names_no_tree, bad_formula_operand, wrong_end, wrong_reference, refusal41, refusal42, refusal43, refusal44, refusal45, input_refusal}
+use Rattle.rules.specs.Refusal.{outside, names_no_tree, names_no_root, bad_formula_operand, wrong_end, wrong_reference, refusal41, refusal42, refusal43, refusal44, refusal45, input_refusal}
 use Rattle.tables.specs.Good.{GoodFormula}
 use Rattle.tables.proofs.Faults.{if-false, from_none, lower_passed, first_passed, first_next, then_passed, then_both, first-none}
 use Rattle.tables.proofs.Accepted.{good_formula, formula_whole}
 use Rattle.trees.proofs.Equations.{start_fixpoint, start_placeholder, number_start, number_start_placeholder}
 use Rattle.writing.specs.ActionSyntax.{ActionSyntax, row_words, first_node, RowFits, ActionsAccepted}
-use Rattle.writing.specs.FormulaSyntax.{FormulaSyntax, formula_size, write_formula, formula_words, FormulaFits, FormulaAccepted, begins_with_fixpoint, read_formula, read_equations, read_system, equations_read, Written, label_and_system_checks}
-use Rattle.writing.proofs.Nodes.{Holds, table-size, table_length, table_holds, table_only}
-use Rattle.writing.proofs.ActionTheorems.{right_length, first-nodes, written_row_accepted, written_row_reads, accepted_words_are_a_row}
-use Rattle.writing.proofs.FormulaNodes.{formula_some, formula_length, formula_ends, formula_fine}
+use Rattle.writing.specs.FormulaSyntax.{FormulaOver, Fits, FormulaSyntax, write_over, formula_size, formula_words, FormulaFits, FormulaAccepted, begins_with_fixpoint, read_formula, read_equations, read_system, equations_read, Written, label_and_system_checks, words_over}
+use Rattle.writing.specs.Nodes.{Holds}
+use Rattle.writing.proofs.Nodes.{table-size, table_length, table_holds, table_only}
+use Rattle.writing.proofs.ActionTheorems.{right_length, only_first_nodes, first-nodes, written_row_accepted, written_row_reads, accepted_words_are_a_row}
+use Rattle.writing.proofs.FormulaNodes.{formula_some, written_length, formula_ends, formula_fine}
 use Rattle.writing.proofs.FormulaEquations.{first_fixpoint, formula_reads, read_before, formula_equations}
 use Rattle.writing.proofs.FormulaReading.{formula_from, formula_same}
 
-module _ (row : List ActionSyntax) (t : FormulaSyntax) where
-  pub formula_words_size : size (formula_words row t) ≡ formula_size t
-  unfolding formula_words
-  formula_words_size = table-size (write_formula row t [] 0) ∙ formula_length row t [] 0
+module _ {M : Type 0} (operand_of : M → ℕ) (t : FormulaOver M) where
+  pub words_size : size (words_over operand_of t) ≡ formula_size t
+  unfolding words_over
+  words_size = table-size (write_over operand_of t [] 0) ∙ written_length operand_of t [] 0
 
-  pub formula_words_length : length (formula_words row t) ≡ 1 + 2 * size (formula_words row t)
-  unfolding formula_words
-  formula_words_length = table_length (write_formula row t [] 0) ∙ ap (λ (n : ℕ). 1 + 2 * n) (sym (table-size (write_formula row t [] 0)))
+  pub words_length : length (words_over operand_of t) ≡ 1 + 2 * size (words_over operand_of t)
+  unfolding words_over
+  words_length = table_length (write_over operand_of t [] 0) ∙ ap (λ (n : ℕ). 1 + 2 * n) (sym (table-size (write_over operand_of t [] 0)))
 
-  pub formula_words_hold : Holds (write_formula row t [] 0) (formula_words row t) 0
-  unfolding formula_words
-  formula_words_hold = table_holds (write_formula row t [] 0)
+  pub words_hold : Holds (write_over operand_of t [] 0) (words_over operand_of t) 0
+  unfolding words_over
+  words_hold = table_holds (write_over operand_of t [] 0)
 
-  whole : 0 + formula_size t ≡ size (formula_words row t)
-  whole = omega (arith, formula_words_size)
+  whole : 0 + formula_size t ≡ size (words_over operand_of t)
+  whole = omega (arith, words_size)
 
-  module _ (fits : FormulaFits (length row) t) where
-    -- a modality names a tree of the row
-    names_one : (i : ℕ) → i < length row → names_no_tree (row_words row) (first_node row i) ≡ false
-    unfolding names_no_tree
-    names_one i h = let (a, b) = first-nodes row i h in rw (lt-leb (size (row_words row)) (first_node row i) a, b) refl
-
-    formula_passes : (v : ℕ) → v < size (formula_words row t)
-        → (kind (formula_words row t) v ≤ 8)
-        × (bad_formula_operand (names_no_tree (row_words row)) (formula_words row t) v ≡ false)
-        × (wrong_reference (formula_words row t) v (reference_of (formula_node (formula_words row t) v)) ≡ false)
+  -- what is fit names a tree of the row
+  module _ (fit : M → Type 0) (acts : List ℕ) (named : (m : M) → fit m → names_no_tree acts (operand_of m) ≡ false)
+      (closed : Fits fit 0 t) (few : formula_size t ≤ most_nodes) where
+    formula_passes : (v : ℕ) → v < size (words_over operand_of t)
+        → (kind (words_over operand_of t) v ≤ 8)
+        × (bad_formula_operand (names_no_tree acts) (words_over operand_of t) v ≡ false)
+        × (wrong_reference (words_over operand_of t) v (reference_of (formula_node (words_over operand_of t) v)) ≡ false)
     formula_passes v h =
-        let b = formula_words_size in
-        formula_fine row (formula_words row t) (names_no_tree (row_words row)) names_one t [] 0 formula_words_hold
-        (omega arith) fits.closed (λ i l. absurd (omega arith)) v
+        let b = words_size in
+        formula_fine operand_of (words_over operand_of t) fit (names_no_tree acts) named t [] 0 words_hold
+        (omega arith) closed (λ i l. absurd (omega arith)) v
         (omega arith) (omega arith)
 
-    passes_42 : refusal42 (formula_words row t) ≡ Ok tt
+    passes_42 : refusal42 (words_over operand_of t) ≡ Ok tt
     unfolding refusal42 outside
     passes_42 =
         let a = formula_some t in
-        let b = formula_words_size in
-        let c = fits.few in
-        if-false 42 0 (rw (le-ltb (size (formula_words row t)) 1 (omega arith), le-ltb most_nodes (size (formula_words row t)) (omega arith)) refl)
+        let b = words_size in
+        if-false 42 0 (rw (le-ltb (size (words_over operand_of t)) 1 (omega arith), le-ltb most_nodes (size (words_over operand_of t)) (omega arith)) refl)
 
-    passes_43 : refusal43 (formula_words row t) ≡ Ok tt
+    passes_43 : refusal43 (words_over operand_of t) ≡ Ok tt
     unfolding refusal43
     passes_43 =
-        from_none 43 0 (size (formula_words row t)) (λ v. ltb 8 (kind (formula_words row t) v)) (λ v a b. le-ltb 8 (kind (formula_words row t) v) (formula_passes v b).0)
+        from_none 43 0 (size (words_over operand_of t)) (λ v. ltb 8 (kind (words_over operand_of t) v)) (λ v a b. le-ltb 8 (kind (words_over operand_of t) v) (formula_passes v b).0)
 
-    passes_44 : refusal44 (names_no_tree (row_words row)) (formula_words row t) ≡ Ok tt
+    passes_44 : refusal44 (names_no_tree acts) (words_over operand_of t) ≡ Ok tt
     unfolding refusal44 wrong_end
     passes_44 =
-        let b = formula_words_size in
-        lower_passed (wrong_end (size (formula_words row t)) (tree_end (formula_children (formula_words row t)) (size (formula_words row t)) 0))
-        (from_none 44 0 (size (formula_words row t))
-        (bad_formula_operand (names_no_tree (row_words row)) (formula_words row t)) (λ v x y. (formula_passes v y).1))
-        ∙ ap (wrong_end (size (formula_words row t))) (formula_ends row (formula_words row t) t [] 0 formula_words_hold (omega arith))
-        ∙ if-false 44 (0 + formula_size t) (le-ltb (0 + formula_size t) (size (formula_words row t)) (omega arith))
+        let b = words_size in
+        lower_passed (wrong_end (size (words_over operand_of t)) (tree_end (formula_children (words_over operand_of t)) (size (words_over operand_of t)) 0))
+        (from_none 44 0 (size (words_over operand_of t))
+        (bad_formula_operand (names_no_tree acts) (words_over operand_of t)) (λ v x y. (formula_passes v y).1))
+        ∙ ap (wrong_end (size (words_over operand_of t))) (formula_ends operand_of (words_over operand_of t) t [] 0 words_hold (omega arith))
+        ∙ if-false 44 (0 + formula_size t) (le-ltb (0 + formula_size t) (size (words_over operand_of t)) (omega arith))
 
-    passes_45 : refusal45 (formula_words row t) ≡ Ok tt
+    passes_45 : refusal45 (words_over operand_of t) ≡ Ok tt
     unfolding refusal45
     passes_45 =
-        from_none 45 0 (size (formula_words row t))
-        (λ v. wrong_reference (formula_words row t) v (reference_of (formula_node (formula_words row t) v)))
+        from_none 45 0 (size (words_over operand_of t))
+        (λ v. wrong_reference (words_over operand_of t) v (reference_of (formula_node (words_over operand_of t) v)))
         (λ v a b. (formula_passes v b).2)
 
     -- the words of a closed formula within the limits are accepted
-    pub written_formula_accepted : FormulaAccepted (row_words row) (formula_words row t)
+    pub words_accepted : FormulaAccepted acts (words_over operand_of t)
     unfolding refusal41
-    written_formula_accepted =
+    words_accepted =
         record {
-          long = if-false 41 0 (right_length (length (formula_words row t)) (size (formula_words row t)) formula_words_length);
+          long = if-false 41 0 (right_length (length (words_over operand_of t)) (size (words_over operand_of t)) words_length);
           few = passes_42;
           kinds = passes_43;
           operands = passes_44;
           references = passes_45;
         }
 
+module _ (row : List ActionSyntax) (t : FormulaSyntax) where
+  module _ (fits : FormulaFits (length row) t) where
+    -- a modality names a tree of the row
+    names_one : (i : ℕ) → i < length row → names_no_tree (row_words row) (first_node row i) ≡ false
+    unfolding names_no_root
+    names_one i h = let (a, b) = first-nodes row i h in rw (lt-leb (size (row_words row)) (first_node row i) a, b) refl
+
+    pub written_formula_accepted : FormulaAccepted (row_words row) (formula_words row t)
+    written_formula_accepted =
+        words_accepted (first_node row) t (λ i. i < length row) (row_words row) names_one fits.closed fits.few
+
     pub written_formula_good : GoodFormula (size (row_words row)) (formula_words row t)
     written_formula_good =
         let a = written_formula_accepted in
-        good_formula (row_words row) (formula_words row t) a.kinds a.operands a.references a.long a.few
+        good_formula (action_children (row_words row)) (size (row_words row)) (formula_words row t) a.kinds a.operands a.references a.long a.few
 
     module _ (ls ss : List ℕ) (its_row_fits : RowFits (label_count ls) row) where
       abbrev input : Input
@@ -117,9 +125,9 @@ module _ (row : List ActionSyntax) (t : FormulaSyntax) where
           ++ read_equations ls row t [] (equation_number (formula_words row t) 0)
       unfolding equations_read equations
       from_start =
-          ap (read_before row (size (row_words row)) input written_formula_good (written_row_reads row ls its_row_fits)) (sym whole)
-          ∙ formula_equations row (size (row_words row)) input written_formula_good (written_row_reads row ls its_row_fits) t [] 0 formula_words_hold
-          (omega (arith, formula_words_size)) fits.closed
+          ap (read_before row (size (row_words row)) input written_formula_good (written_row_reads row ls its_row_fits)) (sym (whole (first_node row) t))
+          ∙ formula_equations row (size (row_words row)) input written_formula_good (written_row_reads row ls its_row_fits) t [] 0 (words_hold (first_node row) t)
+          (omega (arith, words_size (first_node row) t)) fits.closed
 
       -- and their equations are the formula's
       pub written_formula_reads : equations_read input ≡ read_system ls row t
@@ -127,12 +135,12 @@ module _ (row : List ActionSyntax) (t : FormulaSyntax) where
       written_formula_reads = from_start ∙ go (begins_with_fixpoint t) refl
         where
           first : is_fixpoint (formula_node (formula_words row t) 0) ≡ begins_with_fixpoint t
-          first = first_fixpoint row (formula_words row t) t [] 0 formula_words_hold (omega (arith, formula_some t, formula_words_size))
+          first = first_fixpoint row (formula_words row t) t [] 0 (words_hold (first_node row) t) (omega (arith, formula_some t, words_size (first_node row) t))
 
           body : formula_tree input 0 ≡ read_formula ls row t [] (equation_number (formula_words row t) 0)
           body =
-              formula_reads row (size (row_words row)) input written_formula_good (written_row_reads row ls its_row_fits) t [] 0 formula_words_hold
-              (omega (arith, formula_words_size)) fits.closed
+              formula_reads row (size (row_words row)) input written_formula_good (written_row_reads row ls its_row_fits) t [] 0 (words_hold (first_node row) t)
+              (omega (arith, words_size (first_node row) t)) fits.closed
 
           go : (b : Bool) → begins_with_fixpoint t ≡ b
               → map (λ (q : Equation). (q.operator, body_tree input q)) (equations_before (formula_words row t) 0) ++ read_equations ls row t [] (equation_number (formula_words row t) 0)
@@ -146,27 +154,37 @@ module _ (row : List ActionSyntax) (t : FormulaSyntax) where
               (start_placeholder (formula_words row t) (first ∙ e)) n
               ∙ ap (λ (b : Formula). (least, b) ∷ read_equations ls row t [] 1) (body ∙ ap (read_formula ls row t []) n)
 
+-- words that pass 41 to 45 are the words of a closed formula, where something fit is named by the first node of every
+-- tree that a modality may name
+pub accepted_words_are_written : {M : Type 0} (operand_of : M → ℕ) (fit : M → Type 0) (children : ℕ → ℕ) (m : ℕ)
+    → ((a : ℕ) → a < m → on_row children m a ≡ true → (i : M) × fit i × (a ≡ operand_of i))
+    → (f : List ℕ) → GoodFormula m f → refusal43 f ≡ Ok tt → refusal44 (names_no_root children m) f ≡ Ok tt → refusal45 f ≡ Ok tt
+    → (t : FormulaOver M) × Fits fit 0 t × (formula_size t ≤ most_nodes) × (f ≡ words_over operand_of t)
+unfolding words_over
+accepted_words_are_written operand_of fit children m names f good r43 r44 r45 =
+    let r = formula_from operand_of fit children m names f r43 r44 r45 (size f) [] 0 (size f) (omega arith)
+    (formula_whole children m f r43 r44) (λ u p l b. absurd (omega arith)) in (
+      r.tree,
+      r.names,
+      limit good.few r.ends,
+      table_only (write_over operand_of r.tree [] 0) f good.sized (omega (arith, r.ends, written_length operand_of r.tree [] 0)) r.holds,
+    )
+  where
+    limit : {n k : ℕ} → n ≤ 1_024 → 0 + k ≡ n → k ≤ most_nodes
+    limit p q = omega arith
+
 -- accepted words are the words of a closed formula within the limits
 pub accepted_words_are_a_formula : (row : List ActionSyntax) (f : List ℕ) → FormulaAccepted (row_words row) f
     → (t : FormulaSyntax) × FormulaFits (length row) t × (f ≡ formula_words row t)
-unfolding formula_words
 accepted_words_are_a_formula row f a =
-    let good = good_formula (row_words row) f a.kinds a.operands a.references a.long a.few in
-    let r = formula_from row f a.kinds a.operands a.references (size f) [] 0 (size f) (omega arith)
-    (formula_whole (row_words row) f a.kinds a.operands) (λ u p l b. absurd (omega arith)) in (
-      r.tree,
-      record { closed = r.names; few = limit good.few r.ends },
-      table_only (write_formula row r.tree [] 0) f good.sized (omega (arith, r.ends, formula_length row r.tree [] 0)) r.holds,
-    )
-  where
-    limit : {n m : ℕ} → n ≤ 1_024 → 0 + m ≡ n → m ≤ most_nodes
-    limit p q = omega arith
+    let good = good_formula (action_children (row_words row)) (size (row_words row)) f a.kinds a.operands a.references a.long a.few in
+    let (t, closed, few, e) = accepted_words_are_written (first_node row) (λ i. i < length row) (action_children (row_words row)) (size (row_words row))
+    (only_first_nodes row) f good a.kinds a.operands a.references in
+    (t, record { closed = closed; few = few }, e)
 
 -- and of no other closed formula
 pub one_formula : (row : List ActionSyntax) (t u : FormulaSyntax) → FormulaFits (length row) t → FormulaFits (length row) u → formula_words row t ≡ formula_words row u → t ≡ u
-one_formula row t u fits other e =
-    formula_same row t u (formula_words row t) (formula_words_hold row t)
-    (subst (λ (ws : List ℕ). Holds (write_formula row u [] 0) ws 0) (sym e) (formula_words_hold row u)) fits.closed other.closed
+one_formula row t u fits other e = formula_same row t u fits.closed other.closed e
 
 both_pass : (cs ds : List Check) → first_fault cs ≡ Ok tt → first_fault ds ≡ Ok tt → first_fault (cs ++ ds) ≡ Ok tt
 unfolding first_fault

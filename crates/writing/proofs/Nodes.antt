@@ -8,12 +8,7 @@ use lib.ListN.{length, get_or, length-append, length-map, get_or-append, get_or-
 use lib.Seq.{get_or-append-add, ext_get_or}
 use Rattle.rules.specs.Lists.{word}
 use Rattle.rules.specs.Table.{size, kind, operand}
-use Rattle.writing.specs.Nodes.{Node, table_words}
-
--- these nodes stand in the words from node v on
-abbrev pub Holds : List Node → List ℕ → ℕ → Type 0
-Holds [] ws v = Unit {0}
-Holds (n ∷ ns) ws v = (kind ws v ≡ n.0) × (operand ws v ≡ n.1) × Holds ns ws (suc v)
+use Rattle.writing.specs.Nodes.{Node, table_words, Holds}
 
 pub holds_split : (xs ys : List Node) (ws : List ℕ) (v n : ℕ) → length xs ≡ n → Holds (xs ++ ys) ws v → Holds xs ws v × Holds ys ws (v + n)
 holds_split [] ys ws v n e h = let i : v ≡ v + n = omega arith in (tt, subst (Holds ys ws) i h)

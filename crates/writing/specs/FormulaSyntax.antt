@@ -12,19 +12,23 @@ use Rattle.rules.specs.Refusal.{names_no_tree, refusal41, refusal42, refusal43, 
 use Rattle.writing.specs.Nodes.{Node, table_words}
 use Rattle.writing.specs.ActionSyntax.{ActionSyntax, true_action, row_words, first_node, RowFits, read_action}
 
--- A modality names one of the row's trees by its place; a reference names a fixpoint around it by how many it passes on
--- the way outward
-pub data FormulaSyntax : Type 0 where
-  true_formula false_formula : FormulaSyntax
-  and_formula or_formula : (left right : FormulaSyntax) → FormulaSyntax
-  box_formula diamond_formula : (tree : ℕ) (formula : FormulaSyntax) → FormulaSyntax
-  least_formula greatest_formula : (formula : FormulaSyntax) → FormulaSyntax
-  reference_formula : (passed : ℕ) → FormulaSyntax
+-- A formula whose modalities carry something of any type M. A reference names a fixpoint around it by how many it
+-- passes on the way outward
+pub data FormulaOver (M : Type 0) : Type 0 where
+  true_formula false_formula : FormulaOver M
+  and_formula or_formula : (left right : FormulaOver M) → FormulaOver M
+  box_formula diamond_formula : (modality : M) (formula : FormulaOver M) → FormulaOver M
+  least_formula greatest_formula : (formula : FormulaOver M) → FormulaOver M
+  reference_formula : (passed : ℕ) → FormulaOver M
+
+-- a modality names one of the row's trees by its place
+abbrev pub FormulaSyntax : Type 0
+FormulaSyntax = FormulaOver ℕ
 
 -- ---- writing
 
 -- its number of nodes
-unfoldable pub formula_size : FormulaSyntax → ℕ
+unfoldable pub formula_size : {M : Type 0} → FormulaOver M → ℕ
 formula_size true_formula = 1
 formula_size false_formula = 1
 formula_size (and_formula a b) = suc (formula_size a + formula_size b)
@@ -35,37 +39,48 @@ formula_size (least_formula a) = suc (formula_size a)
 formula_size (greatest_formula a) = suc (formula_size a)
 formula_size (reference_formula i) = 1
 
-module _ (row : List ActionSyntax) where
+module _ {M : Type 0} (operand_of : M → ℕ) where
   -- its nodes, the first of them being node v of the table; `around` are the nodes of the fixpoints around it, the
-  -- nearest first
-  unfoldable pub write_formula : FormulaSyntax → (around : List ℕ) → (v : ℕ) → List Node
-  write_formula true_formula around v = (0, 0) ∷ []
-  write_formula false_formula around v = (1, 0) ∷ []
-  write_formula (and_formula a b) around v = (2, suc v + formula_size a) ∷ (write_formula a around (suc v) ++ write_formula b around (suc v + formula_size a))
-  write_formula (or_formula a b) around v = (3, suc v + formula_size a) ∷ (write_formula a around (suc v) ++ write_formula b around (suc v + formula_size a))
-  write_formula (box_formula i a) around v = (4, first_node row i) ∷ write_formula a around (suc v)
-  write_formula (diamond_formula i a) around v = (5, first_node row i) ∷ write_formula a around (suc v)
-  write_formula (least_formula a) around v = (6, 0) ∷ write_formula a (v ∷ around) (suc v)
-  write_formula (greatest_formula a) around v = (7, 0) ∷ write_formula a (v ∷ around) (suc v)
-  write_formula (reference_formula i) around v = (8, get_or around i 0) ∷ []
+  -- nearest first. The operand of a modality is that of what it carries
+  unfoldable pub write_over : FormulaOver M → (around : List ℕ) → (v : ℕ) → List Node
+  write_over true_formula around v = (0, 0) ∷ []
+  write_over false_formula around v = (1, 0) ∷ []
+  write_over (and_formula a b) around v = (2, suc v + formula_size a) ∷ (write_over a around (suc v) ++ write_over b around (suc v + formula_size a))
+  write_over (or_formula a b) around v = (3, suc v + formula_size a) ∷ (write_over a around (suc v) ++ write_over b around (suc v + formula_size a))
+  write_over (box_formula m a) around v = (4, operand_of m) ∷ write_over a around (suc v)
+  write_over (diamond_formula m a) around v = (5, operand_of m) ∷ write_over a around (suc v)
+  write_over (least_formula a) around v = (6, 0) ∷ write_over a (v ∷ around) (suc v)
+  write_over (greatest_formula a) around v = (7, 0) ∷ write_over a (v ∷ around) (suc v)
+  write_over (reference_formula i) around v = (8, get_or around i 0) ∷ []
 
-  unfoldable pub formula_words : FormulaSyntax → List ℕ
-  formula_words f = table_words (write_formula f [] 0)
+  unfoldable pub words_over : FormulaOver M → List ℕ
+  words_over f = table_words (write_over f [] 0)
+
+-- of a formula whose modalities name trees of a row: the operand is the first node of the tree
+abbrev pub write_formula : (row : List ActionSyntax) → FormulaSyntax → (around : List ℕ) → (v : ℕ) → List Node
+write_formula row = write_over (first_node row)
+
+abbrev pub formula_words : (row : List ActionSyntax) → FormulaSyntax → List ℕ
+formula_words row = words_over (first_node row)
 
 -- ---- the limits
 
--- every modality names one of so many trees, every reference one of so many fixpoints around the formula or one inside
--- it
+-- what every modality carries is fit, and every reference names one of so many fixpoints around the formula or one
+-- inside it
+abbrev pub Fits : {M : Type 0} → (fit : M → Type 0) → (around : ℕ) → FormulaOver M → Type 0
+Fits fit around true_formula = Unit {0}
+Fits fit around false_formula = Unit {0}
+Fits fit around (and_formula a b) = Fits fit around a × Fits fit around b
+Fits fit around (or_formula a b) = Fits fit around a × Fits fit around b
+Fits fit around (box_formula m a) = fit m × Fits fit around a
+Fits fit around (diamond_formula m a) = fit m × Fits fit around a
+Fits fit around (least_formula a) = Fits fit (suc around) a
+Fits fit around (greatest_formula a) = Fits fit (suc around) a
+Fits fit around (reference_formula i) = i < around
+
+-- every modality names one of so many trees
 abbrev pub Names : (trees around : ℕ) → FormulaSyntax → Type 0
-Names trees around true_formula = Unit {0}
-Names trees around false_formula = Unit {0}
-Names trees around (and_formula a b) = Names trees around a × Names trees around b
-Names trees around (or_formula a b) = Names trees around a × Names trees around b
-Names trees around (box_formula i a) = (i < trees) × Names trees around a
-Names trees around (diamond_formula i a) = (i < trees) × Names trees around a
-Names trees around (least_formula a) = Names trees (suc around) a
-Names trees around (greatest_formula a) = Names trees (suc around) a
-Names trees around (reference_formula i) = i < around
+Names trees = Fits (λ i. i < trees)
 
 -- no fixpoint stands around the whole: it is closed
 pub record FormulaFits (trees : ℕ) (f : FormulaSyntax) : Type 0 where

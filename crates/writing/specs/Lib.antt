@@ -1,3 +1,4 @@
 pub mod Nodes
 pub mod ActionSyntax
 pub mod FormulaSyntax
+pub mod FormulaReading

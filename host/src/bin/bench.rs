@@ -1,6 +1,8 @@
 //! Times the library, the plain implementation and the oracle's Rust text on the same inputs, and prints the tables
 //! of docs/PERFORMANCE.md.
 use hingrezh::check::call::{Implementation, LIBRARY, PLAIN};
+use hingrezh::check::expansion::call as expansion;
+use hingrezh::check::expansion::large as expansions;
 use hingrezh::check::options::{self, Options};
 use hingrezh::check::oracle::program_at;
 use hingrezh::check::pgsolver::call as pgsolver;
@@ -26,7 +28,7 @@ slices. How it is measured is told in docs/PERFORMANCE.md.
 --runs N          how many runs (5)
 --seconds N       how much processor time the original may take on one input, all of its runs together (20)
 --sizes LIST      quarters of the shapes' full size, as 1,2,4; usual are 1,2,4, and 4 for the worst cases and the
-                  largest texts
+                  largest texts; expansions have one size
 SHAPE..           only these; usual are all:
                   ";
 
@@ -174,6 +176,9 @@ fn one(arguments: &[String]) -> Result<(), String> {
     let numbers: Vec<u32> = numbers.iter().filter_map(|text| text.parse().ok()).collect();
     if let (Some(shape), &[quarters]) = (find_text(shape), &numbers[..]) {
         return one_text(shape, quarters);
+    }
+    if let Some(shape) = find_expansion(shape) {
+        return one_expansion(shape);
     }
     let [quarters, vertices, edges] = numbers[..] else { return Err("--one needs three numbers".to_string()) };
     for m in measure(&(find(shape)?.make)(quarters), Room { vertices, edges }) {
@@ -343,6 +348,77 @@ fn print_asked_of_texts(rows: &[TextRow]) {
         println!("- above {ASKED_OF_PLAIN}: {above}");
     }
     println!();
+}
+
+// ---- expansions
+
+fn find_expansion(name: &str) -> Option<&'static expansions::Shape> {
+    expansions::SHAPES.iter().find(|shape| shape.name == name)
+}
+
+/// Of one run: the answer's case and first number, and the seconds of a call by library and plain.
+#[derive(Clone, Copy)]
+struct ExpansionMeasured {
+    case: f64,
+    first: f64,
+    seconds: [f64; 2],
+}
+
+fn measure_expansion(input: &expansion::Input) -> ExpansionMeasured {
+    let expansion::Input { labels, actions, regulars, formula } = input;
+    let (mut out, mut answer) = (vec![7; expansion::EXPANDED], [0; 4]);
+    let mut call =
+        |by: expansion::Implementation| (by.expand)(labels, actions, regulars, formula, &mut out, &mut answer);
+    let start = processor_time();
+    call(expansion::LIBRARY);
+    let once = processor_time() - start;
+    // A call takes microseconds: so many that all of them take a millisecond or more.
+    let calls = (1e-3 / once).clamp(1.0, 10_000.0) as u32;
+    let both = [expansion::LIBRARY, expansion::PLAIN];
+    let seconds = in_turn(both, |by| (0..calls).for_each(|_| call(by))).map(|seconds| seconds / calls as f64);
+    ExpansionMeasured { case: answer[0] as f64, first: answer[1] as f64, seconds }
+}
+
+fn one_expansion(shape: &expansions::Shape) -> Result<(), String> {
+    let ExpansionMeasured { case, first, seconds: [library, plain] } = measure_expansion(&(shape.make)());
+    println!("{case} {first} {library} {plain}");
+    Ok(())
+}
+
+const EXPANSIONS: [&str; 5] = ["input", "result", "library µs", "plain µs", "library / plain"];
+
+fn print_expansion(shape: &expansions::Shape, runs: usize) -> Result<(), String> {
+    let program = this_program()?;
+    let one = |_| match in_process(&program, shape.name, &[])?[..] {
+        [case, first, library, plain] => Ok(ExpansionMeasured { case, first, seconds: [library, plain] }),
+        _ => Err(format!("no measurement of {}", shape.name)),
+    };
+    let runs: Vec<ExpansionMeasured> = (0..runs).map(one).collect::<Result<_, String>>()?;
+    let cell = |of: fn(&ExpansionMeasured) -> f64, digits| {
+        Spread::of(runs.iter().map(of)).map_or("-".to_string(), |spread| spread.cell(digits))
+    };
+    let ExpansionMeasured { case, first, .. } = runs[0];
+    let result = if case == 0.0 { format!("{} nodes", (first - 1.0) / 2.0) } else { format!("refused {first}") };
+    let (library, plain) = (cell(|run| 1e6 * run.seconds[0], 1), cell(|run| 1e6 * run.seconds[1], 1));
+    let ratio = cell(|run| run.seconds[0] / run.seconds[1], 2);
+    println!("| {} | {result} | {library} | {plain} | {ratio} |", shape.name);
+    Ok(())
+}
+
+fn print_expansions(settings: &Settings) -> Result<(), String> {
+    let wanted =
+        |shape: &&expansions::Shape| settings.names.is_empty() || settings.names.iter().any(|name| name == shape.name);
+    let chosen: Vec<&expansions::Shape> = expansions::SHAPES.iter().filter(wanted).collect();
+    if chosen.is_empty() {
+        return Ok(());
+    }
+    println!("### Expansions\n");
+    chosen.iter().for_each(|shape| println!("- `{}`: {}", shape.name, shape.what));
+    println!();
+    print_head(&EXPANSIONS);
+    chosen.into_iter().try_for_each(|shape| print_expansion(shape, settings.runs))?;
+    println!();
+    Ok(())
 }
 
 // ---- the original
@@ -618,6 +694,9 @@ fn print_before(before: &Path, settings: &Settings) -> Result<(), String> {
     if let Some(text) = settings.names.iter().find(|name| find_text(name).is_some()) {
         return Err(format!("--before measures runs, and {text} is a text"));
     }
+    if let Some(expansion) = settings.names.iter().find(|name| find_expansion(name).is_some()) {
+        return Err(format!("--before measures runs, and {expansion} is an expansion"));
+    }
     print_machine();
     println!("Runs: {}.\n", settings.runs);
     print_head(&["shape", "size", "before ms", "now ms", "now / before"]);
@@ -656,12 +735,13 @@ fn print_all(settings: &Settings) -> Result<(), String> {
         rows.retain(|row| row.quarters == 4);
         print_table(&MEMORY_AND_RESTRICTION, &rows, Row::print_memory_and_restriction);
     }
-    print_texts(settings)
+    print_texts(settings)?;
+    print_expansions(settings)
 }
 
 fn settings(arguments: Vec<String>) -> Result<Settings, String> {
     let options = Options::read(arguments, &["--oracle", "--before", "--runs", "--seconds", "--sizes"])?;
-    for name in options.names.iter().filter(|name| find_text(name).is_none()) {
+    for name in options.names.iter().filter(|name| find_text(name).is_none() && find_expansion(name).is_none()) {
         find(name)?;
     }
     let size = |text: &str| match text.parse() {
@@ -695,6 +775,7 @@ fn main() -> ExitCode {
     let arguments: Vec<String> = std::env::args().skip(1).collect();
     if options::wants_help(&arguments) {
         let names = all_shapes().map(|shape| shape.name).chain(TEXT_SHAPES.iter().map(|shape| shape.name));
+        let names = names.chain(expansions::SHAPES.iter().map(|shape| shape.name));
         println!("{USAGE}{}", names.collect::<Vec<_>>().join(" "));
         return ExitCode::SUCCESS;
     }

@@ -1,11 +1,19 @@
 //! Compares the library with the plain implementation and the oracle: every word of game, map and work, every byte of
-//! text, and what is around all slices; and the verdicts of small games with what their formulas mean.
+//! text, and what is around all slices; the verdicts of small games with what their formulas mean; and what expanded
+//! formulas mean with what they meant over regular formulas.
 use hingrezh::check::call::{Call, LIBRARY, Outcome, PLAIN, perform, show, unlawful};
 use hingrezh::check::cases::{self, Case};
 use hingrezh::check::counts;
 use hingrezh::check::damage::damage;
+use hingrezh::check::expansion::call::{self as expansion, Input};
+use hingrezh::check::expansion::{
+    cases as expansion_cases, damage as expansion_damage, generate as expansions, original, paths,
+};
 use hingrezh::check::finished::{Expected, expected};
-use hingrezh::check::generate::{Random, Sizes, all_formulas, random_game, random_model, table};
+use hingrezh::check::generate::{
+    Random, Sizes, all_formulas, all_tables, random_game, random_model, random_system, table,
+};
+use hingrezh::check::meaning;
 use hingrezh::check::options::{self, Options};
 use hingrezh::check::oracle::{Oracle, Reply, Request};
 use hingrezh::check::pgsolver::{call as pgsolver, cases as text_cases, damage as text_damage};
@@ -23,10 +31,12 @@ usage: compare [--oracle PROGRAM] [--seed N] [--times N] [--only TEXT]
 
 Runs the library and the plain Rust implementation on the same inputs and compares every word and byte that they leave,
 those around the lent slices included. The transitions behind each edge, of which the Rust original knows nothing, are
-counted from system and formula, too. Then solves small games of the library's (Even wins if the largest priority seen
-for ever is even) and compares who wins with the formula itself, read directly on the model. The ranking of fixpoints
-is the Rust original's: it gives false alarms (the formula holds, but Even does not win), which are counted. A false
-pass (Even wins, but the formula does not hold) is a difference.
+counted from system and formula, too. Formulas over regular formulas are read by the paths of small models, too, and
+must hold where the expanded ones do; with an oracle, the original expands them, too, where it follows the document
+(docs/DIFFERENCES.md), and its games must be those of the expanded formulas. Then solves small games of the library's
+(Even wins if the largest priority seen for ever is even) and compares who wins with the formula itself, read directly
+on the model. The ranking of fixpoints is the Rust original's: it gives false alarms (the formula holds, but Even does
+not win), which are counted. A false pass (Even wins, but the formula does not hold) is a difference.
 
 --oracle PROGRAM  asks PROGRAM, which runs the Rust original, too; without it there is no third opinion
 --seed N          other random inputs (1)
@@ -50,15 +60,29 @@ struct Comparison {
     verdicts: Tally,
     /// How many edges of finished games have no transition behind them, one, and several.
     counts: [u64; 3],
+    /// In how many states formulas over regular formulas were read by paths, and in how many they hold.
+    by_paths: [u64; 2],
+    /// How many games of formulas over regular formulas were the original's.
+    as_original: u64,
     differences: u64,
     smallest: Option<(usize, String)>,
 }
 
 impl Comparison {
     fn new(oracle: Option<Oracle>, seed: u64) -> Comparison {
-        let (random, answers, verdicts) = (Random::new(seed), BTreeMap::new(), Tally::default());
-        let counts = [0; 3];
-        Comparison { oracle, random, inputs: 0, calls: 0, answers, verdicts, counts, differences: 0, smallest: None }
+        Comparison {
+            oracle,
+            random: Random::new(seed),
+            inputs: 0,
+            calls: 0,
+            answers: BTreeMap::new(),
+            verdicts: Tally::default(),
+            counts: [0; 3],
+            by_paths: [0; 2],
+            as_original: 0,
+            differences: 0,
+            smallest: None,
+        }
     }
 
     fn differs(&mut self, call: &Call, what: &str) {
@@ -175,6 +199,87 @@ impl Comparison {
                 let new = large::without_repeats(game);
                 let call = pgsolver::Call::read(&written.text[..bytes as usize], new[0], new[1]);
                 self.known_text(&call, [0, new[0], new[0], new[1]], &new);
+            }
+        }
+    }
+
+    /// Expands by both implementations and compares all that they leave; gives the plain one's outcome. A run must take
+    /// the formula that is written: in no step it is cut.
+    fn expand(&mut self, call: &expansion::Call) -> expansion::Outcome {
+        let fill = FILLS[self.calls as usize % FILLS.len()];
+        self.inputs += 1;
+        self.calls += 1;
+        let by = [expansion::LIBRARY, expansion::PLAIN];
+        let [library, plain] = by.map(|by| expansion::perform(call, by, fill));
+        for (outcome, by) in [(&library, expansion::LIBRARY), (&plain, expansion::PLAIN)] {
+            if let Some(what) = expansion::unlawful(outcome, fill) {
+                self.expansion_differs(call, &format!("{}: {what}; answer {:?}", by.name, outcome.answer));
+            }
+        }
+        if library != plain {
+            self.expansion_differs(call, &format!("library: {}\nplain:   {}", library.show(), plain.show()));
+        }
+        if let Some(formula) = library.formula() {
+            let run = self.both(&Call::build(call.input.model(SYSTEMS[0], formula), 1, 1, 0));
+            if run.answer != [1, 0, 1, 0] {
+                self.expansion_differs(call, &format!("a run answers {:?} to {}", run.answer, library.show()));
+            }
+        }
+        self.count("expand", plain.answer);
+        plain
+    }
+
+    fn expansion_differs(&mut self, call: &expansion::Call, what: &str) {
+        self.note(call.size(), || format!("{what}\n{}", call.describe()));
+    }
+
+    /// The same, and what is written means on each system what the formula means by paths; gives the models of runs.
+    fn expand_on(&mut self, input: &Input, systems: &[Vec<u32>]) -> Vec<Model> {
+        let (call, before) = (expansion::Call::expand(input.clone()), self.differences);
+        let outcome = self.expand(&call);
+        let formula = outcome.formula().filter(|_| self.differences == before);
+        let Some(formula) = formula else { return Vec::new() };
+        let models: Vec<Model> = systems.iter().map(|system| input.model(system, formula)).collect();
+        for model in &models {
+            let by_paths = paths::satisfying(input, &model.system);
+            if meaning::satisfying(model) != by_paths {
+                self.expansion_differs(&call, &format!("system {}: by paths {by_paths:?}", show(&model.system)));
+            }
+            self.by_paths[0] += by_paths.len() as u64;
+            self.by_paths[1] += by_paths.iter().filter(|&&holds| holds).count() as u64;
+        }
+        models
+    }
+
+    /// Inputs, each on a system, whose game by the Rust original must be that of the expanded formula.
+    fn as_the_original(&mut self, inputs: &[(Input, Vec<u32>)]) -> Result<(), String> {
+        let requests: Vec<Request> =
+            inputs.iter().map(|(input, system)| Request::TranslateRegular(input, system)).collect();
+        for ((input, system), reply) in inputs.iter().zip(self.replies(&requests)?) {
+            let call = expansion::Call::expand(input.clone());
+            let outcome = self.expand(&call);
+            let (Some(formula), Some(reply)) = (outcome.formula(), reply) else { continue };
+            let game = finish(&input.model(system, formula));
+            let (without_counts, _) = game.split_at(game.len() - game[1] as usize);
+            if reply != Reply::Words(without_counts.to_vec()) {
+                let what = format!("system {}: the oracle says {reply:?}\nplain {}", show(system), show(&game));
+                self.expansion_differs(&call, &what);
+            }
+            self.as_original += 1;
+        }
+        Ok(())
+    }
+
+    fn expansion_cases(&mut self, cases: Vec<expansion_cases::Case>) {
+        for expansion_cases::Case { name, call, answer, formula } in cases {
+            let before = self.differences;
+            let got = self.expand(&call);
+            if got.answer != answer || formula.as_ref().is_some_and(|formula| got.formula() != Some(formula)) {
+                let what = format!("expected answer {answer:?}, formula {formula:?}\nplain {}", got.show());
+                self.expansion_differs(&call, &what);
+            }
+            if self.differences > before {
+                println!("case {name} differs");
             }
         }
     }
@@ -433,25 +538,19 @@ fn exhaustive(nodes: usize, systems: &[&[u32]]) -> impl Iterator<Item = Model> {
 }
 
 /// Every table of up to three nodes, valid or not: as actions (kinds to 6) or as a formula (kinds to 9).
-fn all_tables(formula: bool) -> Vec<Call> {
+fn all_small_tables(formula: bool) -> Vec<Call> {
+    let base = |actions: Vec<u32>, formula: Vec<u32>| Model {
+        labels: vec![1, 1, 0, 7],
+        system: vec![1, 1, 0, 1, 0, 0],
+        actions,
+        formula,
+    };
+    let call = |words: Vec<u32>| {
+        let model = if formula { base(vec![2, 5, 2, 0, 0], words) } else { base(words, vec![2, 5, 0, 0, 0]) };
+        Call::build(model, 6, 9, 9)
+    };
     let (kinds, operands) = if formula { (10, 4) } else { (7, 5) };
-    let each = kinds * operands;
-    let mut calls = Vec::new();
-    for size in 1..=3u32 {
-        for code in 0..u32::pow(each, size) {
-            let node = |i: u32| (code / u32::pow(each, i) % each / operands, code / u32::pow(each, i) % operands);
-            let nodes = table(&(0..size).map(node).collect::<Vec<_>>());
-            let base = |actions: Vec<u32>, formula: Vec<u32>| Model {
-                labels: vec![1, 1, 0, 7],
-                system: vec![1, 1, 0, 1, 0, 0],
-                actions,
-                formula,
-            };
-            let model = if formula { base(vec![2, 5, 2, 0, 0], nodes) } else { base(nodes, vec![2, 5, 0, 0, 0]) };
-            calls.push(Call::build(model, 6, 9, 9));
-        }
-    }
-    calls
+    all_tables(3, kinds, operands).map(call).collect()
 }
 
 fn random_models(random: &mut Random, count: usize, sizes: Sizes) -> Vec<Model> {
@@ -609,16 +708,131 @@ fn large_texts(c: &mut Comparison, _: usize) -> Result<(), String> {
     Ok(())
 }
 
+/// Label 0 and not label 0, begun by nodes 0 and 1.
+fn two_actions(regulars: Vec<u32>, formula: Vec<u32>) -> Input {
+    Input { labels: vec![2, 1, 0, 7], actions: table(&[(2, 0), (5, 0), (2, 0)]), regulars, formula }
+}
+
+fn small_systems() -> Vec<Vec<u32>> {
+    SYSTEMS.map(|system| system.to_vec()).to_vec()
+}
+
+/// Every table of up to three nodes, valid or not: as regular formulas (kinds to 5) that a modality names, or as a
+/// formula (kinds to 9) whose modalities may name nodes 0 and 2.
+fn all_small_expansions(c: &mut Comparison, _: usize) -> Result<(), String> {
+    for regulars in all_tables(3, 6, 5) {
+        c.expand(&expansion::Call::expand(two_actions(regulars, vec![2, 5, 0, 0, 0])));
+    }
+    for formula in all_tables(3, 10, 4) {
+        c.expand(&expansion::Call::expand(two_actions(table(&[(3, 0), (0, 1), (0, 0)]), formula)));
+    }
+    Ok(())
+}
+
+/// Every regular formula of up to five nodes under every formula of up to three, and of six nodes alone; then formulas
+/// of up to five nodes over several regular formulas. All are read by paths on each small system.
+fn small_regular_formulas(c: &mut Comparison, _: usize) -> Result<(), String> {
+    let formulas: Vec<Vec<u32>> = (1..=3).flat_map(|size| all_formulas(size, &[0])).collect();
+    let modal: Vec<&Vec<u32>> = formulas.iter().filter(|formula| named(formula)).collect();
+    for nodes in 1..=6 {
+        let chosen = if nodes < 6 { modal.len() } else { 4 };
+        for regular in expansions::all_regulars(nodes, &[0, 1]) {
+            for &formula in &modal[..chosen] {
+                c.expand_on(&two_actions(table(&regular), formula.clone()), &small_systems());
+            }
+        }
+    }
+    // not a*; (a . not a)+; a + not a*
+    let row = table(&[(3, 0), (0, 1), (4, 0), (1, 5), (0, 0), (0, 1), (2, 8), (0, 0), (3, 0), (0, 1)]);
+    for formula in (4..=5).flat_map(|size| all_formulas(size, &[0, 2, 6])).filter(|formula| named(formula)) {
+        c.expand_on(&two_actions(row.clone(), formula), &small_systems()[2..3]);
+    }
+    Ok(())
+}
+
+/// Whether a formula has a modality.
+fn named(formula: &[u32]) -> bool {
+    formula[1..].iter().take(formula[0] as usize).any(|kind| matches!(kind, 4 | 5))
+}
+
+fn random_expansions(c: &mut Comparison, times: usize) -> Result<(), String> {
+    for (count, regular, formula) in [(40_000, 8, 12), (10_000, 30, 30), (4_000, 8, 200), (500, 1_000, 1_000)] {
+        for _ in 0..count * times {
+            let input = expansions::random_input(&mut c.random, expansions::Sizes { regular, formula });
+            c.expand(&expansion::Call::expand(input));
+        }
+    }
+    Ok(())
+}
+
+/// Random inputs that are expanded to 1,024 nodes or a few less or more.
+fn expansions_at_the_limit(c: &mut Comparison, times: usize) -> Result<(), String> {
+    for _ in 0..2_000 * times {
+        let input = expansions::random_input(&mut c.random, expansions::Sizes { regular: 12, formula: 200 });
+        let call = expansion::Call::expand(input);
+        let Some(formula) = c.expand(&call).formula().map(|formula| formula[0]) else { continue };
+        let nodes = c.random.pick(&[expansions::MOST - 1, expansions::MOST, expansions::MOST + 1]);
+        let more = nodes.saturating_sub(formula);
+        if call.input.formula[0] + more > expansions::MOST {
+            continue;
+        }
+        let input = expansions::under_fixpoints(&mut c.random, &call.input, more);
+        let answer = if nodes > expansions::MOST { [2, 62, 0, 0] } else { [0, 1 + 2 * nodes, 0, 0] };
+        c.expansion_cases(vec![expansion_cases::Case {
+            name: "at the limit",
+            call: expansion::Call::expand(input),
+            answer,
+            formula: None,
+        }]);
+    }
+    Ok(())
+}
+
+fn damaged_expansions(c: &mut Comparison, times: usize) -> Result<(), String> {
+    for _ in 0..60_000 * times {
+        let input = expansions::random_input(&mut c.random, expansions::Sizes { regular: 6, formula: 8 });
+        let mut call = expansion::Call::expand(input);
+        for _ in 0..c.random.pick(&[1, 1, 2, 2, 3]) {
+            expansion_damage::damage(&mut c.random, &mut call);
+        }
+        c.expand(&call);
+    }
+    Ok(())
+}
+
+/// Random inputs on random systems, read by paths. Of some the whole games are compared, by the original's expansion,
+/// too, and small games are solved.
+fn expansions_by_paths(c: &mut Comparison, times: usize) -> Result<(), String> {
+    let (mut run, mut solved, mut alike) = (Vec::new(), Vec::new(), Vec::new());
+    for _ in 0..40_000 * times {
+        let input = expansions::random_input(&mut c.random, expansions::Sizes { regular: 7, formula: 9 });
+        let input = original::ordered(input);
+        let system = random_system(&mut c.random, input.labels[0], 6);
+        let Some(model) = c.expand_on(&input, std::slice::from_ref(&system)).pop() else { continue };
+        if named(&input.formula) && original::expands_alike(&input) {
+            alike.push((input, system));
+        }
+        match model.formula[0] {
+            0..=30 => solved.push(model),
+            _ => run.push(model),
+        }
+    }
+    c.accepted(run, 2)?;
+    c.as_the_original(&alike)?;
+    c.verdicts(solved.into_iter());
+    Ok(())
+}
+
 type Stage = (&'static str, fn(&mut Comparison, usize) -> Result<(), String>);
 
 /// The number says how many times the usual count of random inputs is wanted.
-const STAGES: [Stage; 22] = [
+const STAGES: [Stage; 29] = [
     ("worked cases and readings", |c, _| c.cases(cases::all())),
     ("all formulas up to 5 nodes", |c, _| {
         c.accepted((1..=5).flat_map(|nodes| exhaustive(nodes, &SYSTEMS)).collect(), 4)
     }),
-    ("all action tables up to 3 nodes", |c, _| c.any(all_tables(false))),
-    ("all formula tables up to 3 nodes", |c, _| c.any(all_tables(true))),
+    ("all action tables up to 3 nodes", |c, _| c.any(all_small_tables(false))),
+    ("all formula tables up to 3 nodes", |c, _| c.any(all_small_tables(true))),
     ("random models", |c, times| {
         let small = Sizes { formula: 30, states: 8, permuted: false };
         let models = random_models(&mut c.random, 40_000 * times, small);
@@ -658,6 +872,19 @@ const STAGES: [Stage; 22] = [
     ("texts: games written and read back", written_games),
     ("texts: random ones", random_texts),
     ("texts: damaged ones", damaged_texts),
+    ("expansions: cases and readings", |c, _| {
+        c.expansion_cases(expansion_cases::all());
+        Ok(())
+    }),
+    ("expansions: all tables up to 3 nodes", all_small_expansions),
+    ("expansions: small ones by paths", small_regular_formulas),
+    ("expansions: random ones", random_expansions),
+    ("expansions: damaged ones", damaged_expansions),
+    ("expansions: random ones by paths", expansions_by_paths),
+    ("expansions: sizes at their limits", |c, times| {
+        c.expansion_cases(expansion_cases::at_limits());
+        expansions_at_the_limit(c, times)
+    }),
     ("verdicts of all formulas up to 5 nodes", |c, _| {
         c.verdicts((1..=5).flat_map(|nodes| exhaustive(nodes, &SYSTEMS)));
         Ok(())
@@ -673,7 +900,7 @@ const STAGES: [Stage; 22] = [
 ];
 
 fn report(comparison: &Comparison) {
-    for name in ["build", "restrict", "write", "read"] {
+    for name in ["build", "restrict", "write", "read", "expand"] {
         let text = |(&(_, number), count): (&(&str, i64), &u64)| match number {
             0 => format!("done {count}"),
             -1 => format!("cut {count}"),
@@ -686,6 +913,9 @@ fn report(comparison: &Comparison) {
     }
     let [none, one, several] = comparison.counts;
     println!("transitions behind edges of finished games: none {none}, one {one}, several {several}");
+    let ([states, hold], games) = (comparison.by_paths, comparison.as_original);
+    println!("formulas over regular formulas, expanded and read by paths: in {states} states, they hold in {hold}");
+    println!("games of formulas over regular formulas, expanded here and by the original: {games}");
     println!("verdicts: {}", comparison.verdicts);
     println!("{} inputs, {} calls, {} differences", comparison.inputs, comparison.calls, comparison.differences);
 }

@@ -1,14 +1,16 @@
-//! Writes stored runs into the folder of the crates: `stdin` and `stdout` of the programs `replay`, `texts` and
-//! `pgsolver_runs`, `stdout` of `restricts`. These are calls as records and the lines that they must print (the formats
-//! are in check/record.rs), inputs of the thin program and their texts (check/texts.rs), and PGSolver texts written and
-//! read (check/pgsolver/stored.rs). The answers of accepted words are the oracle's, given their counts by
-//! check/counts.rs, cut and given their room by check/finished.rs; those of refused words follow the rules' refusals as
-//! the plain implementation states them. Of PGSolver text the oracle knows nothing: there the outcomes are the plain
+//! Writes stored runs into the folder of the crates: `stdin` and `stdout` of the programs `replay`, `texts`,
+//! `pgsolver_runs` and `expansions`, `stdout` of `restricts`. These are calls as records and the lines that they must
+//! print (the formats are in check/record.rs), inputs of the thin program and their texts (check/texts.rs), PGSolver
+//! texts written and read (check/pgsolver/stored.rs), and formulas expanded (check/expansion/stored.rs). The answers of
+//! accepted words are the oracle's, given their counts by check/counts.rs, cut and given their room by
+//! check/finished.rs; those of refused words follow the rules' refusals as the plain implementation states them. Of
+//! PGSolver text the oracle knows nothing, and of expanded formulas only their games: there the outcomes are the plain
 //! implementation's, and those of the cases are written down by hand, too. The library is not asked.
 use hingrezh::check::call::{Call, LIBRARY, Outcome, PLAIN, perform, show, unlawful};
 use hingrezh::check::cases;
 use hingrezh::check::counts;
 use hingrezh::check::damage::damage;
+use hingrezh::check::expansion::{call as expansion, kinds as expansion_kinds, stored as expansions};
 use hingrezh::check::finished::expected;
 use hingrezh::check::generate::{Random, Sizes, all_formulas, random_game, random_model, table};
 use hingrezh::check::kinds::{self, KINDS, NOT_IN_RECORDS};
@@ -27,9 +29,9 @@ usage: store ORACLE CRATES [COUNT]
        store --check CRATES
        store --table CRATES
 
-CRATES is the folder of the crates. The first writes the stored runs of the programs replay, restricts, texts and
-pgsolver_runs anew: their answers come from ORACLE, the program that runs the Rust original; of pgsolver_runs, which it
-knows nothing of, from the plain Rust implementation. COUNT says how many random models there are
+CRATES is the folder of the crates. The first writes the stored runs of the programs replay, restricts, texts,
+pgsolver_runs and expansions anew: their answers come from ORACLE, the program that runs the Rust original; of the last
+two, which it knows too little of, from the plain Rust implementation. COUNT says how many random models there are
 (200). --check performs what is stored with the library and with the plain Rust implementation, and compares. --table
 prints which refusals are stored at which kinds of place, for docs/STORED-RUNS.md.
 
@@ -285,6 +287,100 @@ fn check_pgsolver(folder: &str) -> Result<usize, String> {
     Ok(calls.len())
 }
 
+/// Formulas expanded: records that fit the program, each once.
+fn store_expansions(folder: &str) -> Result<(), String> {
+    if let Some(what) = expansions::not_as_written_down() {
+        return Err(what);
+    }
+    let (mut seen, mut input, mut output, mut answers) = (HashSet::new(), Vec::new(), String::new(), BTreeMap::new());
+    for call in expansions::all() {
+        let Some(bytes) = expansions::coded(&call).filter(|bytes| seen.insert(bytes.clone())) else { continue };
+        let outcome = expansion::perform(&call, expansion::PLAIN, expansions::FILL);
+        *answers.entry(refused_expansion(&call, &outcome)).or_insert(0) += 1;
+        input.extend(bytes);
+        output += &expansions::line(&outcome);
+    }
+    let missing = |(number, kind): &(u32, &str)| {
+        !answers.contains_key(&Some((*number, kind.to_string()))) && !NOT_IN_EXPANSIONS.contains(&(*number, kind))
+    };
+    if let Some((number, kind)) = expansion_kinds::all().find(missing) {
+        return Err(format!("refusal {number} of expanding is not stored at: {kind}"));
+    }
+    write(format!("{folder}/stdin"), &input)?;
+    write(format!("{folder}/stdout"), output.as_bytes())?;
+    println!("{} records of expansions, {:?} bytes", seen.len(), (input.len(), output.len()));
+    Ok(())
+}
+
+/// Kinds that need more words than a record of `expansions` has.
+const NOT_IN_EXPANSIONS: [(u32, &str); 1] = [(12, "A too large")];
+
+/// The number and the kind of place of a refused expansion.
+fn refused_expansion(call: &expansion::Call, outcome: &expansion::Outcome) -> Option<(u32, String)> {
+    let [case, number, place, _] = outcome.answer;
+    (case == 2).then(|| (number, expansion_kinds::kind(call, number, place)))
+}
+
+fn stored_expansions(folder: &str) -> Result<Vec<expansion::Call>, String> {
+    let words = words_of(&read(format!("{folder}/stdin"))?).map_err(|fault| fault.to_string())?;
+    expansions::calls(&words).ok_or("half a record of expansions".to_string())
+}
+
+/// The table of expansions in docs/STORED-RUNS.md, of what no other call has: kinds of place, the smallest input, how
+/// many.
+fn print_expansions_table(folder: &str) -> Result<(), String> {
+    let (mut rows, mut done) = (BTreeMap::new(), 0);
+    for call in stored_expansions(folder)? {
+        let outcome = expansion::perform(&call, expansion::PLAIN, expansions::FILL);
+        let Some((number, kind)) = refused_expansion(&call, &outcome) else {
+            done += 1;
+            continue;
+        };
+        let about = expansion_kinds::about(&call, number);
+        let size = (!expansion_kinds::rest_is_base(&call, number), about.concat().len(), about);
+        let (smallest, count) = rows.entry((number, kind)).or_insert((size.clone(), 0));
+        *count += 1;
+        if size < *smallest {
+            *smallest = size;
+        }
+    }
+    println!("| done | | | {done} |");
+    let own = expansion_kinds::all().filter(|(number, _)| !(11..=45).contains(number));
+    for (number, kind) in own {
+        let row = rows.remove(&(number, kind.to_string()));
+        let (words, count) = row.map_or(("-".to_string(), 0), |((_, _, about), count)| (short(&about), count));
+        println!("| {number} | {kind} | {words} | {count} |");
+    }
+    Ok(())
+}
+
+/// Groups of words in a table, or how many words they have.
+fn short(groups: &[Vec<u32>]) -> String {
+    let group = |words: &Vec<u32>| match words.len() {
+        0..=30 => format!("`{}`", show(words)),
+        many => format!("{many} words"),
+    };
+    groups.iter().map(group).collect::<Vec<_>>().join("; ")
+}
+
+/// Expands what is stored with the library and the plain implementation; gives how many calls there are.
+fn check_expansions(folder: &str) -> Result<usize, String> {
+    let calls = stored_expansions(folder)?;
+    let output = read(format!("{folder}/stdout"))?;
+    for by in [expansion::LIBRARY, expansion::PLAIN] {
+        let line = |call: &expansion::Call| expansions::line(&expansion::perform(call, by, expansions::FILL));
+        let lines: Vec<String> = calls.iter().map(line).collect();
+        let mut stored = output.split_inclusive(|&byte| byte == b'\n');
+        if let Some(i) = lines.iter().position(|line| stored.next() != Some(line.as_bytes())) {
+            return Err(format!("{}: expansion {i} differs\n{}", by.name, calls[i].describe()));
+        }
+        if stored.next().is_some() {
+            return Err("more lines than records of expansions".to_string());
+        }
+    }
+    Ok(calls.len())
+}
+
 /// The calls of the stored records, each with its fill.
 fn stored_calls(folder: &str) -> Result<Vec<(Call, u32)>, String> {
     let words = words_of(&read(format!("{folder}/stdin"))?).map_err(|fault| fault.to_string())?;
@@ -326,8 +422,10 @@ fn check(crates: &str) -> Result<(), String> {
             return Err(format!("{}: a restriction differs", by.name));
         }
     }
-    let counts = [calls.len(), texts.len(), restrictions.len(), check_pgsolver(&format!("{crates}/pgsolver_runs"))?];
-    println!("{counts:?} records, texts, restrictions and PGSolver texts, no difference");
+    let pgsolver = check_pgsolver(&format!("{crates}/pgsolver_runs"))?;
+    let expansions = check_expansions(&format!("{crates}/expansions"))?;
+    let counts = [calls.len(), texts.len(), restrictions.len(), pgsolver, expansions];
+    println!("{counts:?} records, texts, restrictions, PGSolver texts and expansions, no difference");
     Ok(())
 }
 
@@ -344,12 +442,12 @@ fn stored_restrictions(folder: &str) -> Result<Vec<Call>, String> {
     Ok(calls)
 }
 
-/// What is stored of a kind of place: the smallest input, and how many in `replay`, `restricts` and `texts`. Inputs
-/// that differ from the base elsewhere, too, come after those that don't.
+/// What is stored of a kind of place: the smallest input, and how many in `replay`, `restricts`, `texts` and
+/// `expansions`. Inputs that differ from the base elsewhere, too, come after those that don't.
 #[derive(Default)]
 struct Row {
     smallest: Option<(bool, usize, Vec<u32>)>,
-    counts: [usize; 3],
+    counts: [usize; 4],
 }
 
 /// The table of kinds of place in docs/STORED-RUNS.md.
@@ -369,19 +467,26 @@ fn print_table(crates: &str) -> Result<(), String> {
             row.smallest = Some(size);
         }
     }
+    for call in stored_expansions(&format!("{crates}/expansions"))? {
+        let refused = refused_expansion(&call, &expansion::perform(&call, expansion::PLAIN, expansions::FILL));
+        if let Some(kind) = refused.filter(|(number, _)| (11..=45).contains(number)) {
+            rows.entry(kind).or_default().counts[3] += 1;
+        }
+    }
     for (number, kind) in all_kinds() {
-        let Row { smallest, counts: [replay, restricts, texts] } =
+        let Row { smallest, counts: [replay, restricts, texts, expansions] } =
             rows.remove(&(number, kind.to_string())).unwrap_or_default();
         let words = smallest.map_or("-".to_string(), |(_, _, words)| format!("`{}`", show(&words)));
-        println!("| {number} | {kind} | {words} | {replay} | {restricts} | {texts} |");
+        println!("| {number} | {kind} | {words} | {replay} | {restricts} | {texts} | {expansions} |");
     }
     rows.keys().for_each(|row| println!("of no listed kind: {row:?}"));
     for way in texts::REFUSED {
         let inputs = texts.iter().map(|(input, _)| input).filter(|input| texts::refused_bytes(input) == Some(way));
         let (count, bytes) = (inputs.clone().count(), inputs.map(Vec::len).min().unwrap_or(0));
-        println!("| 2 | the thin program: {way} | {bytes} bytes | 0 | 0 | {count} |");
+        println!("| 2 | the thin program: {way} | {bytes} bytes | 0 | 0 | {count} | 0 |");
     }
-    print_pgsolver_table(&format!("{crates}/pgsolver_runs"))
+    print_pgsolver_table(&format!("{crates}/pgsolver_runs"))?;
+    print_expansions_table(&format!("{crates}/expansions"))
 }
 
 fn make(program: &str, crates: &str, count: Option<&String>) -> Result<(), String> {
@@ -390,7 +495,8 @@ fn make(program: &str, crates: &str, count: Option<&String>) -> Result<(), Strin
     store_calls(&format!("{crates}/replay"), &oracle, count)?;
     store_restrictions(&format!("{crates}/restricts"), &oracle)?;
     store_texts(&format!("{crates}/texts"), &oracle)?;
-    store_pgsolver(&format!("{crates}/pgsolver_runs"))
+    store_pgsolver(&format!("{crates}/pgsolver_runs"))?;
+    store_expansions(&format!("{crates}/expansions"))
 }
 
 fn main() -> ExitCode {

@@ -43,7 +43,7 @@ fn number(random: &mut Random, old: u32, sizes: &[u32]) -> u32 {
 }
 
 /// Changes one word, or the length, of a slice.
-fn damage_words(random: &mut Random, words: &mut Vec<u32>, sizes: &[u32]) {
+pub(super) fn damage_words(random: &mut Random, words: &mut Vec<u32>, sizes: &[u32]) {
     if words.is_empty() || random.chance(20) {
         return damage_length(random, words);
     }
@@ -68,7 +68,7 @@ fn damage_length(random: &mut Random, words: &mut Vec<u32>) {
 }
 
 /// Gives a table another number of nodes and the length for it, so that only the number is wrong.
-fn damage_size(random: &mut Random, words: &mut Vec<u32>) {
+pub(super) fn damage_size(random: &mut Random, words: &mut Vec<u32>) {
     let size = random.pick(&[0, 0, 1_024, 1_025, 1_026, 2_000]);
     words.resize(1 + 2 * size, 0);
     words[0] = size as u32;

@@ -42,6 +42,16 @@ pub fn table(nodes: &[(u32, u32)]) -> Vec<u32> {
     words
 }
 
+/// Every table of up to so many nodes, valid or not, with kinds and operands below these numbers.
+pub fn all_tables(most: u32, kinds: u32, operands: u32) -> impl Iterator<Item = Vec<u32>> {
+    let each = kinds * operands;
+    let of = move |size: u32, code: u32| {
+        let node = |i: u32| (code / u32::pow(each, i) % each / operands, code / u32::pow(each, i) % operands);
+        table(&(0..size).map(node).collect::<Vec<_>>())
+    };
+    (1..=most).flat_map(move |size| (0..u32::pow(each, size)).map(move |code| of(size, code)))
+}
+
 /// Every formula table of this many nodes whose modalities name one of the roots.
 pub fn all_formulas(size: usize, roots: &[u32]) -> Vec<Vec<u32>> {
     all_trees(size, 0, &[], roots).iter().map(|nodes| table(nodes)).collect()
@@ -112,7 +122,7 @@ pub fn alternating_model(random: &mut Random) -> Model {
     Model { labels: vec![2, 2, 0, 1, 7, 8], system, actions, formula: table(&nodes) }
 }
 
-fn random_labels(random: &mut Random) -> Vec<u32> {
+pub(super) fn random_labels(random: &mut Random) -> Vec<u32> {
     let l = random.pick(&[0, 1, 1, 2, 2, 3, 4, 6, 9]);
     let a = if l == 0 { 0 } else { random.within(0, 3 * l) };
     let mut numbers: Vec<u32> = (0..a).map(|_| random.below(l) as u32).collect();
@@ -137,7 +147,7 @@ fn permuted_labels(random: &mut Random) -> Vec<u32> {
     words
 }
 
-fn random_system(random: &mut Random, labels: u32, most: usize) -> Vec<u32> {
+pub fn random_system(random: &mut Random, labels: u32, most: usize) -> Vec<u32> {
     let many = most >= 100;
     let some = random.within(1, most);
     let s = if many { random.within(most / 4, most) } else { random.pick(&[1, 1, 2, 3, some]) };
@@ -174,7 +184,7 @@ fn action_tree(random: &mut Random, nodes: &mut Vec<(u32, u32)>, labels: u32, si
 }
 
 /// The row and the first nodes of its trees; some trees stand there twice.
-fn action_row(random: &mut Random, labels: u32, trees: usize) -> (Vec<u32>, Vec<u32>) {
+pub(super) fn action_row(random: &mut Random, labels: u32, trees: usize) -> (Vec<u32>, Vec<u32>) {
     let (mut nodes, mut roots): (Vec<(u32, u32)>, Vec<usize>) = (Vec::new(), Vec::new());
     for _ in 0..trees {
         let first = nodes.len();
@@ -229,7 +239,7 @@ struct Formulas<'a> {
 }
 
 /// About as many nodes as `most` at most, and never more than 1,024.
-fn random_formula(random: &mut Random, roots: &[u32], most: usize) -> Vec<u32> {
+pub(super) fn random_formula(random: &mut Random, roots: &[u32], most: usize) -> Vec<u32> {
     loop {
         let size = random.within(1, most);
         let weights = random.pick(&WEIGHTS);

@@ -273,15 +273,15 @@ fn total(words: &[u32], head: u64, sizes: &[(usize, u64)]) -> u64 {
     head + sizes.iter().map(|&(at, factor)| factor * words[at] as u64).sum::<u64>()
 }
 
-fn length(words: &[u32], least: usize, head: u64, sizes: &[(usize, u64)], of: &str) -> String {
+pub(super) fn length(words: &[u32], least: usize, head: u64, sizes: &[(usize, u64)], of: &str) -> String {
     let found = words.len();
     if found < least {
         return ["no word", "one word", "two words"][found].to_string();
     }
     let right = total(words, head, sizes);
     if right as u32 as usize == found {
-        let sum = ["2 + 2A", "3 + S + 2T", "1 + 2m", "1 + 2n", "4 + 3n + 2m"];
-        let at = ["A", "S and T", "m", "n", "n and m"].iter().position(|name| *name == of).unwrap_or(0);
+        let sum = ["2 + 2A", "3 + S + 2T", "1 + 2m", "1 + 2n", "1 + 2r", "4 + 3n + 2m"];
+        let at = ["A", "S and T", "m", "n", "r", "n and m"].iter().position(|name| *name == of).unwrap_or(0);
         return format!("{} wraps to the length", sum[at]);
     }
     format!("too {} for {of}", if (found as u64) < right { "few" } else { "many" })
@@ -305,7 +305,7 @@ fn degrees(words: &[u32]) -> String {
 
 /// Goes through a table of trees with so many children by kind: for each node the depth at which it stands, and which
 /// node waits for which child (counted from 0) at the end, if one does.
-fn open_nodes(kinds: &[u32], children: &[u32]) -> (Vec<usize>, Option<(usize, u32)>) {
+pub(super) fn open_nodes(kinds: &[u32], children: &[u32]) -> (Vec<usize>, Option<(usize, u32)>) {
     let (mut depths, mut open): (Vec<usize>, Vec<(usize, u32)>) = (Vec::new(), Vec::new());
     for node in 0..kinds.len() {
         depths.push(open.len());
@@ -323,7 +323,7 @@ fn open_nodes(kinds: &[u32], children: &[u32]) -> (Vec<usize>, Option<(usize, u3
     (depths, open.last().copied())
 }
 
-fn missing(names: &[&str], kinds: &[u32], children: &[u32]) -> String {
+pub(super) fn missing(names: &[&str], kinds: &[u32], children: &[u32]) -> String {
     let Some((node, had)) = open_nodes(kinds, children).1 else { return "nothing is missing".to_string() };
     let name = names[kinds[node] as usize];
     match (children[kinds[node] as usize], had) {

@@ -12,10 +12,14 @@ pub fn holds(model: &Model) -> bool {
 
 /// For each state whether it satisfies the formula. The model must be one that is accepted.
 pub fn satisfying(model: &Model) -> Vec<bool> {
-    let nodes = model.formula[0] as usize;
-    let (kinds, operands) = model.formula[1..].split_at(nodes);
-    let moves = (0..nodes).map(|node| moves(model, node)).collect();
-    let states = model.system[0] as usize;
+    let moves = (0..model.formula[0] as usize).map(|node| moves(model, node)).collect();
+    satisfying_by(&model.formula, model.system[0] as usize, moves)
+}
+
+/// The same by source and target of all that each modality of a formula speaks of.
+pub(super) fn satisfying_by(formula: &[u32], states: usize, moves: Vec<Vec<(usize, usize)>>) -> Vec<bool> {
+    let nodes = formula[0] as usize;
+    let (kinds, operands) = formula[1..].split_at(nodes);
     Meaning { kinds, operands, states, moves, sets: vec![Vec::new(); nodes] }.of(0)
 }
 
@@ -79,14 +83,16 @@ impl Meaning<'_> {
 /// Source and target of the transitions that match a modality of the formula; none for another node.
 pub(super) fn moves(model: &Model, node: usize) -> Vec<(usize, usize)> {
     let (kinds, operands) = model.formula[1..].split_at(model.formula[0] as usize);
-    if !matches!(kinds[node], 4 | 5) {
-        return Vec::new();
-    }
+    if matches!(kinds[node], 4 | 5) { steps(model, operands[node] as usize) } else { Vec::new() }
+}
+
+/// Source and target of the transitions that an action tree matches.
+pub(super) fn steps(model: &Model, tree: usize) -> Vec<(usize, usize)> {
     let (s, t) = (model.system[0] as usize, model.system[1] as usize);
     let (degrees, transitions) = model.system[3..].split_at(s);
     let (labels, targets) = transitions.split_at(t);
     let sources = degrees.iter().enumerate().flat_map(|(state, &degree)| std::iter::repeat_n(state, degree as usize));
-    let matched = matched(model, operands[node] as usize);
+    let matched = matched(model, tree);
     sources
         .zip(labels.iter().zip(targets))
         .filter(|(_, (label, _))| matched[**label as usize])

@@ -1,5 +1,6 @@
 //! Talks to the oracle, the Rust original behind the same words: many requests to a process. It knows no counts: they
 //! are taken off a game that it is asked about, and its games end with their targets.
+use super::expansion::call::Input;
 use crate::{Model, bytes_of, words_of};
 use std::io::{self, Error, Read, Write};
 use std::path::PathBuf;
@@ -8,6 +9,8 @@ use std::process::{Command, Stdio};
 pub enum Request<'a> {
     Translate(&'a Model),
     Restrict(&'a [u32]),
+    /// A formula over regular formulas, on a system.
+    TranslateRegular(&'a Input, &'a [u32]),
 }
 
 #[derive(Clone, Debug, PartialEq, Eq)]
@@ -67,6 +70,12 @@ fn encode(request: &Request) -> Vec<u8> {
         Request::Restrict(game) => {
             let game = without_counts(game);
             [bytes_of(&[2, game.len() as u32]), bytes_of(game)].concat()
+        }
+        // Request 5: the original's wrapper, which expands regular formulas; multi-actions stay as they are listed.
+        Request::TranslateRegular(Input { labels, actions, regulars, formula }, system) => {
+            let parts: [&[u32]; 5] = [labels, system, actions, regulars, formula];
+            let lengths = parts.map(|part| part.len() as u32);
+            bytes_of(&[&[5], &lengths[..], &parts.concat()].concat())
         }
     }
 }

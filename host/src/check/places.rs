@@ -14,7 +14,7 @@ pub fn all() -> Vec<Case> {
 }
 
 /// Label words, the number of the refusal, its place.
-const LABELS: [(&str, u32, u32); 14] = [
+pub(super) const LABELS: [(&str, u32, u32); 14] = [
     ("", 11, 0),
     ("1", 11, 0),
     ("1 2 0 7", 11, 0),
@@ -57,7 +57,7 @@ const SYSTEMS: [(&str, u32, u32); 23] = [
     ("2 2 0 1 1 0 0 2 0", 26, 7),
 ];
 
-const ACTIONS: [(&str, u32, u32); 29] = [
+pub(super) const ACTIONS: [(&str, u32, u32); 29] = [
     ("", 31, 0),
     ("1", 31, 0),
     ("1 2", 31, 0),
@@ -89,7 +89,7 @@ const ACTIONS: [(&str, u32, u32); 29] = [
     ("2 4 2 2 0", 34, 2),
 ];
 
-const FORMULAS: [(&str, u32, u32); 47] = [
+pub(super) const FORMULAS: [(&str, u32, u32); 47] = [
     ("", 41, 0),
     ("1", 41, 0),
     ("1 0", 41, 0),
@@ -166,7 +166,7 @@ const GAMES: [(&str, u32, u32); 23] = [
 ];
 
 /// Two faults of one group of words: the smaller number, or the smaller place, answers.
-const TWO_IN_LABELS: [(&str, u32, u32); 3] =
+pub(super) const TWO_IN_LABELS: [(&str, u32, u32); 3] =
     [("4097 1 4097 7", 12, 0), ("2 3 2 1 0 7 7 7", 13, 2), ("2 3 1 0 2 7 7 7", 13, 3)];
 const TWO_IN_SYSTEMS: [(&str, u32, u32); 9] = [
     ("0 1 9 9 9", 22, 0),
@@ -179,7 +179,7 @@ const TWO_IN_SYSTEMS: [(&str, u32, u32); 9] = [
     ("1 2 0 2 0 1 1 0", 25, 5),
     ("1 2 0 2 0 0 1 1", 26, 6),
 ];
-const TWO_IN_ACTIONS: [(&str, u32, u32); 6] = [
+pub(super) const TWO_IN_ACTIONS: [(&str, u32, u32); 6] = [
     ("2 0 6 1 0", 33, 1),
     ("2 6 5 0 0", 33, 0),
     ("2 6 6 0 0", 33, 0),
@@ -187,7 +187,7 @@ const TWO_IN_ACTIONS: [(&str, u32, u32); 6] = [
     ("2 0 5 1 0", 34, 0),
     ("2 3 5 0 0", 34, 2),
 ];
-const TWO_IN_FORMULAS: [(&str, u32, u32); 12] = [
+pub(super) const TWO_IN_FORMULAS: [(&str, u32, u32); 12] = [
     ("2 0 9 1 0", 43, 1),
     ("2 9 9 0 0", 43, 0),
     ("2 9 8 0 5", 43, 0),
@@ -320,6 +320,6 @@ pub fn pairs() -> Vec<Case> {
 }
 
 /// The last fault of each number.
-fn last_of_each<'a>(faults: &'a [(&'a str, u32, u32)]) -> impl Iterator<Item = &'a (&'a str, u32, u32)> {
+pub(super) fn last_of_each<'a>(faults: &'a [(&'a str, u32, u32)]) -> impl Iterator<Item = &'a (&'a str, u32, u32)> {
     faults.iter().enumerate().filter(|(i, fault)| faults.get(i + 1).is_none_or(|next| next.1 != fault.1)).map(|at| at.1)
 }

@@ -3,7 +3,8 @@ use super::input::{Input, STREAM, name, open};
 use super::options::Given;
 use super::{CUT, DONE, Failure, NO_WORDS, REFUSED, no_room, output, status_of, told};
 use crate::explain::lacks_counts;
-use crate::{Answer, Game, Model, Player, Room};
+use crate::regular::model_and_formulas;
+use crate::{Answer, Game, Player, Room};
 use std::io::{self, BufWriter, Write};
 
 /// A graph that can still be looked at.
@@ -40,7 +41,7 @@ pub fn run(given: &Given) -> Result<u8, Failure> {
 fn game_of(given: &Given, room: Room) -> Result<(Vec<u32>, u8), Failure> {
     let [file] = &given.files[..] else { return built(Input::read(&given.files)?, given, room) };
     let words = open(file)?.game().map_err(|error| Failure::reading(&name(file), error))?;
-    match (Game::of_words(&words), Model::from_words(&words)) {
+    match (Game::of_words(&words), model_and_formulas(&words)) {
         (Ok(game), _) if game.vertices() > room.vertices || game.edges() > room.edges => {
             let (found, most) = ((game.vertices(), game.edges()), (room.vertices, room.edges));
             let message = format!(
@@ -57,9 +58,9 @@ fn game_of(given: &Given, room: Room) -> Result<(Vec<u32>, u8), Failure> {
             let status = if game.is_cut() { CUT } else { DONE };
             Ok((words, status))
         }
-        (_, Ok(model)) => built(Input::new(model, file), given, room),
+        (_, Ok((model, formulas))) => built(Input::new(model, formulas, &given.files)?, given, room),
         (Err(fault), _) if fault.number == 51 && !lacks_counts(&words) => {
-            let message = "neither the words of a game nor four lengths and their words";
+            let message = "neither the words of a game nor four lengths (five with regular formulas) and their words";
             Err(Failure::new(NO_WORDS, format!("{}: {message}", name(file))))
         }
         (Err(fault), _) => Err(Failure::refused(told(&name(file), &fault, &fault.in_game(&words)))),

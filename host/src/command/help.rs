@@ -7,6 +7,7 @@ usage: hingrezh build INPUT [--vertices N] [--edges N] [--limit N] [--format F] 
        hingrezh night MODEL FORMULA.. -o DIR [--vertices N] [--edges N] [--limit N] [--format F] [--counts]
        hingrezh read TEXT [--vertices N] [--edges N] [--format F] [-o OUT]
        hingrezh restrict GAME [--map] [--format F] [--counts] [-o OUT]
+       hingrezh expand INPUT [-o OUT]
        hingrezh show INPUT [--all]
        hingrezh dot GAME|INPUT [--vertices N] [--edges N] [--limit N] [-o OUT]
        hingrezh COMMAND --help, hingrezh --version
@@ -15,12 +16,15 @@ build     one game, as lines, as words or as PGSolver text
 night     for each formula its game in a folder, as PGSolver text, words or lines, with a table and a manifest
 read      a game from PGSolver text, as words, lines or the text that build writes
 restrict  the part of a game that its initial vertex reaches
+expand    a formula without regular formulas in the place of one with them
 show      labels, system, formula and items as text
 dot       a small game as a Graphviz graph
 
 INPUT is one file of little-endian 32-bit words: four lengths, then labels, system, action formulas and formula; or
-two files, MODEL (two lengths, labels, system) and FORMULA (two lengths, action formulas, formula). GAME holds a game's
-words, TEXT is PGSolver text, F is pgsolver, words or lines. A file may be - for standard input; -- ends the options.
+two files, MODEL (two lengths, labels, system) and FORMULA (two lengths, action formulas, formula). With regular
+formulas, sequences, choices and repetitions in modalities, there is a length more and their words stand before the
+formula (see `hingrezh expand --help`). GAME holds a game's words, TEXT is PGSolver text, F is pgsolver, words or lines.
+A file may be - for standard input; -- ends the options.
 
 What a game says: the largest priority that a play sees for ever decides it, an even one for Even. If Even wins vertex 0
 the formula holds in the model's initial state. docs/VERDICTS.md says how far a verdict can be relied on.
@@ -32,7 +36,8 @@ pub const BUILD: &str = "\
 usage: hingrezh build INPUT [--vertices N] [--edges N] [--limit N] [--format F] [--counts] [-o OUT]
 
 Builds the game of a formula on a system. INPUT is one file (four lengths, then labels, system, action formulas and
-formula) or two, MODEL and FORMULA (see `hingrezh night --help`).
+formula) or two, MODEL and FORMULA (see `hingrezh night --help`). A formula over regular formulas is expanded first (see
+`hingrezh expand --help`).
 
 --vertices N, --edges N  room for the game, at most and by default 1048576 and 4194304
 --limit N                at most N steps; by default 4294967295
@@ -101,6 +106,9 @@ DIR/NAME.pg.
 MODEL    two lengths, then labels and system      } little-endian 32-bit words;
 FORMULA  two lengths, then actions and formula    } the lengths count words
 
+A FORMULA may have regular formulas: three lengths, then actions, regular formulas and formula. It is expanded first
+(see `hingrezh expand --help`).
+
 --vertices N, --edges N  room for each game, at most and by default 1048576 and 4194304
 --limit N                at most N steps for each game; by default 4294967295
 --format F               pgsolver: DIR/NAME.pg, the default; words: DIR/NAME.game; lines: DIR/NAME.lines
@@ -122,12 +130,47 @@ formula holds in the model's initial state.
 exit status: 0 if every formula is done, else the gravest: 74 output failed, 71 no memory, 66 no such file, 65 no such
 words, 2 refused, 3 cut.";
 
+pub const EXPAND: &str = "\
+usage: hingrezh expand INPUT [-o OUT]
+
+Expands the regular formulas in the boxes and diamonds of a formula, and writes the formula without them, which means
+the same and is what `build` and `night` build the game of; they expand by themselves, so nobody has to do it before.
+
+INPUT    one file: five lengths, then labels, system, actions, regular formulas and formula. What is written has four
+         lengths and no regular formulas. Or two files, MODEL and FORMULA: then a FORMULA is written
+MODEL    two lengths, then labels and system
+FORMULA  three lengths, then actions, regular formulas and formula. What is written has two, actions and formula
+
+Which file has regular formulas is told by its number of words: there is a length more, and the words that it counts.
+An INPUT or a FORMULA without regular formulas is its own expansion and is written as it is. Either way it is judged as
+`build` does, the system too, and what is written is never refused for its words.
+
+A regular formula R names action formulas: a (kind 0), R . S (1), R + S (2), R* (3), R+ (4). In boxes
+
+  [R . S]f  is  [R][S]f             [R*]f  is  nu X. [R]X && f
+  [R + S]f  is  [R]f && [S]f        [R+]f  is  [R][R*]f
+
+and in diamonds likewise, with || in the place of && and mu in that of nu. The f behind a choice is written once for
+each of its parts, so the formula grows; one of more than 1024 nodes is refused.
+
+-o OUT, --output OUT, --words OUT
+         the words go to OUT (- is standard output) instead of standard output
+
+The answer is `done` with the number of words of the expanded formula and two zeros. It goes to standard output where -o
+names a file, otherwise to standard error. A refusal writes nothing and leaves an old OUT as it is.
+
+exit status: 0 done, 2 refused.";
+
 pub const SHOW: &str = "\
 usage: hingrezh show INPUT [--all]
 
 Labels, system, formula and items as text. Action 7 is a7, a label's actions are joined by bars, tau has none; the
 variable of equation 1 is X1; mu is a least fixpoint, nu a greatest, [a] a box, <a> a diamond. Items are what a vertex
 pairs with a state: equations first, then the subformulas of their bodies, alike ones once.
+
+A formula over regular formulas is shown as it was written, where a point is a sequence, + between two a choice, * or +
+behind something its repetition; then the regular formulas, each by its first node; then the expanded formula, whose
+variables are numbered anew, and its items.
 
 --all  lists every label, transition and item, up to 4000 characters of each; otherwise the first 20, up to 100
        characters. The formula is shown whole, in it a label of more than 8 actions by its number, as in label3.";

@@ -1,6 +1,7 @@
-//! What build, show and dot take: one file with all four groups of words, or a model's and a formula's.
+//! What build, expand, show and dot take: one file with all groups of words, or a model's and a formula's. Where there
+//! are regular formulas, the formula is expanded.
 use super::{Failure, USAGE, told};
-use crate::{Model, Party, ReadError, Refusal, Room, Source};
+use crate::{Formulas, Model, Party, ReadError, Refusal, Room, Source};
 use std::collections::HashMap;
 use std::fs;
 use std::io::{self, Read};
@@ -10,12 +11,16 @@ use std::path::{Path, PathBuf};
 pub const STREAM: &str = "-";
 
 /// What files hold, for messages.
-const INPUT: &str = "four lengths, labels, system, action formulas, formula";
+const INPUT: &str = "four lengths, labels, system, action formulas, formula; or five, with regular formulas before the \
+                     formula";
 const MODEL: &str = "two lengths, labels, system";
-const FORMULA: &str = "two lengths, action formulas, formula";
+const FORMULA: &str = "two lengths, action formulas, formula; or three, with regular formulas before the formula";
 
 pub struct Input {
+    /// What a run takes: its formula is the expanded one.
     pub model: Model,
+    /// As they were read.
+    pub formulas: Formulas,
     files: Vec<String>,
 }
 
@@ -32,9 +37,8 @@ pub fn read_model<R: Read>(file: &str, source: &mut Source<R>) -> Result<Model, 
     source.model().map_err(|error| Failure::reading(&name(file), error).expecting(MODEL))
 }
 
-/// Puts the formula into the model.
-pub fn read_formula<R: Read>(file: &str, source: &mut Source<R>, model: &mut Model) -> Result<(), Failure> {
-    source.formula(model).map_err(|error| Failure::reading(&name(file), error).expecting(FORMULA))
+pub fn read_formulas<R: Read>(file: &str, source: &mut Source<R>) -> Result<Formulas, Failure> {
+    source.formulas().map_err(|error| Failure::reading(&name(file), error).expecting(FORMULA))
 }
 
 /// A file's name in a message or a manifest: on one line, whatever it is.
@@ -44,24 +48,31 @@ pub fn name(file: &str) -> String {
 }
 
 impl Input {
-    pub fn new(model: Model, file: &str) -> Input {
-        Input { model, files: vec![file.to_string()] }
+    /// Expands the formula; the model has none yet.
+    pub fn new(model: Model, formulas: Formulas, files: &[String]) -> Result<Input, Failure> {
+        let mut input = Input { model, formulas, files: files.to_vec() };
+        match input.model.take(&input.formulas) {
+            Err(refusal) => {
+                let thing = refusal.in_formulas(&input.model.labels, &input.formulas);
+                Err(Failure::refused(input.told_as(&refusal, &thing)))
+            }
+            Ok(()) => Ok(input),
+        }
     }
 
     pub fn read(files: &[String]) -> Result<Input, Failure> {
-        let model = match files {
+        let (model, formulas) = match files {
             [file] => {
-                let input = open(file)?.model_and_formula().map_err(|error| Failure::reading(&name(file), error));
+                let input = open(file)?.model_and_formulas().map_err(|error| Failure::reading(&name(file), error));
                 input.map_err(|failure| failure.expecting(INPUT))?
             }
             [of_model, of_formula] => {
-                let mut model = read_model(of_model, &mut open(of_model)?)?;
-                read_formula(of_formula, &mut open(of_formula)?, &mut model)?;
-                model
+                let model = read_model(of_model, &mut open(of_model)?)?;
+                (model, read_formulas(of_formula, &mut open(of_formula)?)?)
             }
             _ => return Err(Failure::new(USAGE, "one file is wanted, or a model's and a formula's")),
         };
-        Ok(Input { model, files: files.to_vec() })
+        Input::new(model, formulas, files)
     }
 
     /// The files that were read.
@@ -69,14 +80,18 @@ impl Input {
         self.files.iter().map(|file| name(file)).collect::<Vec<_>>().join(", ")
     }
 
-    /// A refusal of these words, with the file in which the fault is.
+    /// A run's refusal of these words, with the file in which the fault is.
     pub fn told(&self, refusal: &Refusal, room: Room) -> String {
+        self.told_as(refusal, &refusal.in_model(&self.model, room))
+    }
+
+    fn told_as(&self, refusal: &Refusal, thing: &str) -> String {
         let file = match (refusal.who(), &self.files[..]) {
             (Party::Modeller, [first, ..]) => name(first),
             (Party::FormulaWriter, [.., last]) => name(last),
             _ => self.name(),
         };
-        told(&file, refusal, &refusal.in_model(&self.model, room))
+        told(&file, refusal, thing)
     }
 }
 

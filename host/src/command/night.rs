@@ -1,6 +1,6 @@
 //! One model and many formulas: for each its game in a folder, so that the folder holds this night's games alone.
 use super::format::{Form, Format};
-use super::input::{STREAM, apart, name, open, read_formula, read_model};
+use super::input::{STREAM, apart, name, open, read_formulas, read_model};
 use super::manifest::{Entry, Manifest};
 use super::options::Given;
 use super::sha256::{Digest, Summed};
@@ -181,13 +181,21 @@ impl Night {
 
     fn game_of(&mut self, task: &Task, entry: &mut Entry) -> Result<(), Failure> {
         let mut source = open(&task.formula)?.through(Summed::new);
-        read_formula(&task.formula, &mut source, &mut self.model)?;
+        let formulas = read_formulas(&task.formula, &mut source)?;
         entry.formula_sum = Some(source.into_inner().digest());
+        if let Err(refusal) = self.model.take(&formulas) {
+            entry.answer = Some(Answer::Refused(refusal));
+            let thing = refusal.in_formulas(&self.model.labels, &formulas);
+            return Err(Failure::refused(self.told(&refusal, &entry.formula, &thing)));
+        }
         let (answer, _) = self.slices.build(&self.model, self.limit);
         entry.answer = Some(answer);
         entry.status = status_of(&answer);
         match answer {
-            Answer::Refused(refusal) => Err(Failure::refused(self.told(&refusal, &entry.formula))),
+            Answer::Refused(refusal) => {
+                let thing = refusal.in_model(&self.model, self.room);
+                Err(Failure::refused(self.told(&refusal, &entry.formula, &thing)))
+            }
             Answer::Cut { steps, .. } => {
                 Err(Failure::new(CUT, format!("{}: cut after {steps} steps, no game is written", entry.formula)))
             }
@@ -218,9 +226,9 @@ impl Night {
         written.map_err(|error| Failure::writing(&place, error))
     }
 
-    fn told(&self, refusal: &Refusal, formula: &str) -> String {
+    fn told(&self, refusal: &Refusal, formula: &str, thing: &str) -> String {
         let file = if refusal.who() == Party::Modeller { &self.model_file } else { formula };
-        told(file, refusal, &refusal.in_model(&self.model, self.room))
+        told(file, refusal, thing)
     }
 }
 

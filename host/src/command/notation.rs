@@ -1,7 +1,8 @@
 //! Formulas in the usual notation: `nu X0. [true]X0 && <a2>true`. An equation's variable is X with its number, an
-//! action is `a` with its number, the actions of a label are joined by bars.
-use crate::Model;
+//! action is `a` with its number, the actions of a label are joined by bars. In a regular formula, `(a1 + a2)* . a3+`,
+//! a point is a sequence, `+` between two a choice, a star or a `+` behind something its repetition.
 use crate::nodes::Nodes;
+use crate::{Formulas, Model};
 use std::collections::HashMap;
 use std::fmt::{self, Write};
 
@@ -9,15 +10,22 @@ use std::fmt::{self, Write};
 const MOST_ACTIONS: usize = 8;
 
 /// How tightly something binds: an operand that binds less than its place asks for stands in brackets.
-const LOOSE: u8 = 0;
+pub const LOOSE: u8 = 0;
 const OR: u8 = 1;
 const AND: u8 = 2;
 const PREFIX: u8 = 3;
 
+/// The same in regular formulas. What is repeated binds more: an action formula, in brackets if it has an operator.
+const CHOICE: u8 = 1;
+const SEQUENCE: u8 = 2;
+const REPETITION: u8 = 3;
+
 /// Accepted words, to be written as text.
 pub struct Notation<'a> {
-    model: &'a Model,
+    labels: &'a [u32],
     actions: Nodes<'a>,
+    /// What boxes and diamonds name, where it is not action formulas.
+    regulars: Option<Nodes<'a>>,
     formula: Nodes<'a>,
     /// The number of the equation of each node that has one.
     equations: Vec<Option<usize>>,
@@ -32,7 +40,17 @@ pub enum Item {
 
 impl<'a> Notation<'a> {
     pub fn new(model: &'a Model) -> Notation<'a> {
-        let (actions, formula) = (Nodes::of_actions(&model.actions), Nodes::of_formula(&model.formula));
+        Notation::of(&model.labels, &model.actions, None, &model.formula)
+    }
+
+    /// Of formulas before their expansion; the variables are numbered in their formula alone.
+    pub fn before(labels: &'a [u32], formulas: &'a Formulas) -> Notation<'a> {
+        let Formulas { actions, regulars, formula } = formulas;
+        Notation::of(labels, actions, regulars.as_ref().map(|words| Nodes::of_regulars(words)), formula)
+    }
+
+    fn of(labels: &'a [u32], actions: &'a [u32], regulars: Option<Nodes<'a>>, formula: &'a [u32]) -> Notation<'a> {
+        let (actions, formula) = (Nodes::of_actions(actions), Nodes::of_formula(formula));
         let mut next = usize::from(!is_fixpoint(formula.kind(0)));
         let mut number = |node: usize| {
             let found = is_fixpoint(formula.kind(node)).then_some(next);
@@ -40,7 +58,12 @@ impl<'a> Notation<'a> {
             found
         };
         let equations = (0..formula.count()).map(&mut number).collect();
-        Notation { model, actions, formula, equations }
+        Notation { labels, actions, regulars, formula, equations }
+    }
+
+    /// How many nodes the formula has.
+    pub fn nodes(&self) -> usize {
+        self.formula.count()
     }
 
     /// The whole formula.
@@ -91,7 +114,10 @@ impl<'a> Notation<'a> {
             4 | 5 => {
                 let [open, close] = if kind == 4 { ["[", "]"] } else { ["<", ">"] };
                 out.write_str(open)?;
-                self.action(out, operand, LOOSE)?;
+                match self.regulars {
+                    Some(_) => self.regular(out, operand, LOOSE)?,
+                    None => self.action(out, operand, LOOSE)?,
+                }
                 out.write_str(close)?;
                 self.state(out, node + 1, PREFIX, in_body)
             }
@@ -102,6 +128,38 @@ impl<'a> Notation<'a> {
             6 | 7 => out.write_str(&self.variable(node)),
             _ => out.write_str(&self.variable(operand)),
         }
+    }
+
+    /// Where the trees of the row of regular formulas begin.
+    pub fn regulars(&self) -> Vec<usize> {
+        self.regulars.map_or(Vec::new(), |regulars| regulars.first_nodes())
+    }
+
+    /// A regular formula; without any nothing is written.
+    pub fn regular(&self, out: &mut dyn Write, node: usize, place: u8) -> fmt::Result {
+        let Some(regulars) = self.regulars else { return Ok(()) };
+        let (kind, operand) = (regulars.kind(node), regulars.operand(node));
+        let (sign, binds) = match kind {
+            0 => return self.action_in_regular(out, operand, place),
+            1 => (" . ", SEQUENCE),
+            2 => (" + ", CHOICE),
+            3 => ("*", REPETITION),
+            _ => ("+", REPETITION),
+        };
+        bracketed(out, binds < place, |out| {
+            self.regular(out, node + 1, binds + 1)?;
+            out.write_str(sign)?;
+            if binds < REPETITION { self.regular(out, operand, binds + 1) } else { Ok(()) }
+        })
+    }
+
+    /// Alone it stands as in a formula without regular formulas.
+    fn action_in_regular(&self, out: &mut dyn Write, node: usize, place: u8) -> fmt::Result {
+        let joined = match self.actions.kind(node) {
+            2 => (2..=MOST_ACTIONS).contains(&self.multiset(self.actions.operand(node)).len()),
+            kind => kind > 2,
+        };
+        bracketed(out, joined && place > LOOSE, |out| self.action(out, node, LOOSE))
     }
 
     fn action(&self, out: &mut dyn Write, node: usize, place: u8) -> fmt::Result {
@@ -126,7 +184,7 @@ impl<'a> Notation<'a> {
 
     /// The actions of a label in rising order.
     fn multiset(&self, label: usize) -> Vec<u32> {
-        let (numbers, actions) = self.model.labels[2..].split_at((self.model.labels.len() - 2) / 2);
+        let (numbers, actions) = self.labels[2..].split_at((self.labels.len() - 2) / 2);
         let from = numbers.partition_point(|&number| (number as usize) < label);
         let to = numbers.partition_point(|&number| number as usize <= label);
         let mut multiset = actions[from..to].to_vec();

@@ -1,6 +1,6 @@
 //! An input as people read it.
 use super::input::Input;
-use super::notation::{Item, Notation};
+use super::notation::{Item, LOOSE, Notation};
 use super::options::{ALL, Given};
 use super::{DONE, Failure};
 use crate::{Model, Room};
@@ -18,7 +18,9 @@ pub fn run(given: &Given) -> Result<u8, Failure> {
     }
     let (most, width) = if given.has(&ALL) { ALL_OF_THEM } else { FEW };
     let out = &mut BufWriter::new(io::stdout().lock());
-    let shown = Shown { model: &input.model, notation: Notation::new(&input.model), most, width };
+    let notation = Notation::new(&input.model);
+    let before = input.formulas.regulars.is_some().then(|| Notation::before(&input.model.labels, &input.formulas));
+    let shown = Shown { model: &input.model, notation, before, most, width };
     shown.write(out).and_then(|()| out.flush()).map_err(|error| Failure::writing("standard output", error))?;
     Ok(DONE)
 }
@@ -26,6 +28,8 @@ pub fn run(given: &Given) -> Result<u8, Failure> {
 struct Shown<'a> {
     model: &'a Model,
     notation: Notation<'a>,
+    /// The formula over regular formulas, if there are any.
+    before: Option<Notation<'a>>,
     most: usize,
     width: usize,
 }
@@ -34,13 +38,20 @@ impl Shown<'_> {
     fn write(&self, out: &mut impl Write) -> io::Result<()> {
         let labels = self.model.labels[0] as usize;
         writeln!(out, "labels: {labels}")?;
-        self.list(out, labels, |text, label| self.notation.label_in_full(text, label))?;
+        self.list(out, 0..labels, |text, label| self.notation.label_in_full(text, label))?;
         self.system(out)?;
-        writeln!(out, "formula: {} nodes", self.model.formula[0])?;
-        self.formula(out)?;
+        let expanded = match &self.before {
+            Some(before) => {
+                self.regulars(out, before)?;
+                "expanded "
+            }
+            None => "",
+        };
+        writeln!(out, "{expanded}formula: {} nodes", self.model.formula[0])?;
+        formula(out, &self.notation)?;
         let items = self.notation.items();
         writeln!(out, "items: {}", items.len())?;
-        self.list(out, items.len(), |text, item| self.item(text, &items[item]))
+        self.list(out, 0..items.len(), |text, item| self.item(text, &items[item]))
     }
 
     fn system(&self, out: &mut impl Write) -> io::Result<()> {
@@ -49,21 +60,20 @@ impl Shown<'_> {
         let (degrees, rest) = self.model.system[3..].split_at(states);
         let (labels, targets) = rest.split_at(transitions);
         let mut sources = degrees.iter().enumerate().flat_map(|(state, &degree)| (0..degree).map(move |_| state));
-        self.list(out, transitions, |text, transition| {
+        self.list(out, 0..transitions, |text, transition| {
             write!(text, "{} -", sources.next().unwrap_or(0))?;
             self.notation.label(text, labels[transition] as usize)?;
             write!(text, "-> {}", targets[transition])
         })
     }
 
-    /// The whole formula, which may be long, as it is made.
-    fn formula(&self, out: &mut impl Write) -> io::Result<()> {
-        write!(out, "  ")?;
-        let mut through = Through { out, failed: None };
-        let written = self.notation.formula(&mut through);
-        through.failed.map_or(Ok(()), Err)?;
-        written.map_err(io::Error::other)?;
-        writeln!(out)
+    /// The formula over regular formulas, and these, each by its first node.
+    fn regulars(&self, out: &mut impl Write, before: &Notation) -> io::Result<()> {
+        writeln!(out, "formula over regular formulas: {} nodes", before.nodes())?;
+        formula(out, before)?;
+        let first = before.regulars();
+        writeln!(out, "regular formulas: {}", first.len())?;
+        self.list(out, first.into_iter(), |text, node| before.regular(text, node, LOOSE))
     }
 
     fn item(&self, text: &mut dyn fmt::Write, item: &Item) -> fmt::Result {
@@ -78,19 +88,30 @@ impl Shown<'_> {
     fn list(
         &self,
         out: &mut impl Write,
-        count: usize,
+        numbers: impl ExactSizeIterator<Item = usize>,
         mut line: impl FnMut(&mut Short, usize) -> fmt::Result,
     ) -> io::Result<()> {
-        for at in 0..count.min(self.most) {
+        let more = numbers.len().saturating_sub(self.most);
+        for at in numbers.take(self.most) {
             let mut text = Short { text: String::new(), width: self.width };
             let end = if line(&mut text, at).is_ok() { "" } else { " ..." };
             writeln!(out, "  {at}  {}{end}", text.text)?;
         }
-        match count.saturating_sub(self.most) {
+        match more {
             0 => Ok(()),
-            more => writeln!(out, "  and {more} more (--all lists them)"),
+            _ => writeln!(out, "  and {more} more (--all lists them)"),
         }
     }
+}
+
+/// The whole formula, which may be long, as it is made.
+fn formula(out: &mut impl Write, notation: &Notation) -> io::Result<()> {
+    write!(out, "  ")?;
+    let mut through = Through { out, failed: None };
+    let written = notation.formula(&mut through);
+    through.failed.map_or(Ok(()), Err)?;
+    written.map_err(io::Error::other)?;
+    writeln!(out)
 }
 
 /// Text that ends at a width: an item may be as long as the formula, and there are many.
@@ -128,7 +149,9 @@ impl<W: Write> fmt::Write for Through<'_, W> {
 mod tests {
     use super::{FEW, Shown};
     use crate::command::notation::Notation;
-    use crate::{Game, Model, Room, try_restrict};
+    use crate::nodes::Nodes;
+    use crate::sizes::expanded_nodes;
+    use crate::{Formulas, Game, Model, Refusal, Room, try_restrict};
 
     /// Numbers without a pattern.
     struct Mixed(u64);
@@ -160,6 +183,13 @@ mod tests {
         }
     }
 
+    fn show(model: &Model, before: Option<Notation>) -> String {
+        let mut text = Vec::new();
+        let shown = Shown { model, notation: Notation::new(model), before, most: FEW.0, width: FEW.1 };
+        shown.write(&mut text).unwrap();
+        String::from_utf8(text).unwrap()
+    }
+
     /// Whatever the words are, they are shown or told, and nothing panics.
     #[test]
     fn any_words() {
@@ -177,11 +207,63 @@ mod tests {
                 continue;
             }
             shown += 1;
-            let shown = Shown { model: &model, notation: Notation::new(&model), most: FEW.0, width: FEW.1 };
-            shown.write(&mut Vec::new()).unwrap();
+            show(&model, None);
         }
         assert!(shown > 1_000, "{shown} are shown");
         assert!(told.len() > 14, "{told:?} are told");
+    }
+
+    /// Whether the last tree of the row is unfinished.
+    fn is_unfinished(regulars: &[u32]) -> bool {
+        let nodes = Nodes::of_regulars(regulars);
+        nodes.first_nodes().last().is_some_and(|&first| nodes.end(first).is_err())
+    }
+
+    /// A refused expansion is told by a thing that is there: of 61 by one that is wrong, of 62 by the right number.
+    fn tell(refusal: &Refusal, labels: &[u32], formulas: &Formulas) {
+        let told = refusal.in_formulas(labels, formulas);
+        assert!(told.len() > 20 && told != refusal.what(), "{told}");
+        let regulars = formulas.regulars.as_deref().unwrap();
+        assert!(!told.starts_with("the regular tree") || is_unfinished(regulars), "{told}: {regulars:?}");
+        assert!(refusal.number != 62 || expanded_nodes(formulas).is_none_or(|nodes| nodes > 1024), "{formulas:?}");
+    }
+
+    /// The same of formulas over regular formulas.
+    #[test]
+    fn any_regular_formulas() {
+        let words = |text: &str| -> Vec<u32> { text.split(' ').map(|word| word.parse().unwrap()).collect() };
+        // The choice at node 8 stands under some boxes, of which six are too many.
+        let whole = [3, 4, 5, 6].map(|boxes| Formulas {
+            actions: base().actions,
+            regulars: Some(words("11 1 3 2 0 0 4 0 0 2 0 0 5 0 4 0 4 0 0 4 10 4 0")),
+            formula: {
+                let (kinds, operands) = (vec![4; boxes], vec![8; boxes]);
+                let (y, n) = (boxes as u32 + 4, boxes as u32 + 9);
+                let kinds = [&[7, 2][..], &kinds, &[5, 8, 6, 3, 8, 5, 8]].concat();
+                [&[n], &kinds[..], &[0, y], &operands, &[0, 0, 0, y + 3, 0, 7, y]].concat()
+            },
+        });
+        let (mut mixed, mut shown, mut told) = (Mixed(3), 0, std::collections::HashMap::new());
+        for _ in 0..60_000 {
+            let (mut model, mut formulas) = (base(), whole[mixed.below(4)].clone());
+            for _ in 0..=mixed.below(2) {
+                let Formulas { actions, regulars, formula } = &mut formulas;
+                let group = [actions, regulars.as_mut().unwrap(), formula].into_iter().nth(mixed.below(3)).unwrap();
+                mixed.change(group);
+            }
+            if let Err(refusal) = model.take(&formulas) {
+                tell(&refusal, &model.labels, &formulas);
+                *told.entry(refusal.number).or_insert(0) += 1;
+                continue;
+            }
+            assert_eq!(model.fault(), None, "what is written is accepted: {formulas:?}");
+            assert_eq!(expanded_nodes(&formulas), Some(model.formula[0] as u64), "{formulas:?}");
+            shown += 1;
+            let text = show(&model, Some(Notation::before(&model.labels, &formulas)));
+            assert!(text.contains("formula over regular formulas: "), "{text}");
+        }
+        assert!(shown > 1_000 && told.len() > 6, "{shown} are shown, {told:?} are told");
+        assert!(told[&61] > 1_000 && told[&62] > 100, "{told:?}");
     }
 
     /// The restriction and the view by vertex agree on what a game is, cut games aside.

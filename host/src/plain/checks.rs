@@ -1,5 +1,5 @@
 //! The refusals: a function for each group of words, its faults in the order of their numbers.
-use super::{MOST_EDGES, MOST_VERTICES, NONE};
+use super::{MOST_EDGES, MOST_NODES, MOST_VERTICES, NONE};
 
 /// A refusal's number and place.
 pub type Fault = (u32, u32);
@@ -35,6 +35,15 @@ pub fn model(labels: &[u32], system: &[u32], actions: &[u32], formula: &[u32]) -
     check_formula(formula, &action_ends)
 }
 
+/// A formula over regular formulas, whose modalities name trees of `regulars`.
+pub fn expansion(labels: &[u32], actions: &[u32], regulars: &[u32], formula: &[u32]) -> Result<(), Fault> {
+    check_labels(labels)?;
+    let action_ends = check_actions(actions, labels[0])?;
+    // A table that is wrong in any way is one fault, without a place.
+    let regular_ends = check_regulars(regulars, &action_ends).map_err(|_| (61, 0))?;
+    check_formula(formula, &regular_ends).map(|_| ())
+}
+
 fn check_labels(words: &[u32]) -> Result<(), Fault> {
     // Sizes are compared as 64-bit numbers, so that no sum wraps.
     unless(words.len() >= 2 && words.len() as u64 == 2 + 2 * words[1] as u64, 11, 0)?;
@@ -55,7 +64,7 @@ fn check_system(words: &[u32], labels: u32) -> Result<(), Fault> {
 }
 
 /// For each node the one past its tree; `NONE` if the table ends first.
-fn tree_ends(kinds: &[u32], children: fn(u32) -> u32) -> Vec<u32> {
+fn tree_ends(kinds: &[u32], children: impl Fn(u32) -> u32) -> Vec<u32> {
     let n = kinds.len();
     // One entry more: a tree that would begin at the table's end is unfinished.
     let mut ends = vec![NONE; n + 1];
@@ -79,7 +88,7 @@ fn wrong_right_child(ends: &[u32], node: usize, operand: u32) -> bool {
 fn check_actions(words: &[u32], labels: u32) -> Result<Vec<u32>, Fault> {
     unless(!words.is_empty() && words.len() as u64 == 1 + 2 * words[0] as u64, 31, 0)?;
     let m = words[0] as usize;
-    unless(m <= 1_024, 32, 0)?;
+    unless(m <= MOST_NODES, 32, 0)?;
     let (kinds, operands) = words[1..].split_at(m);
     none_of(0..m, 33, |node| kinds[node] > 5)?;
     let ends = tree_ends(kinds, |kind| [0, 0, 0, 2, 2, 1][kind as usize]);
@@ -88,28 +97,42 @@ fn check_actions(words: &[u32], labels: u32) -> Result<Vec<u32>, Fault> {
         3 | 4 => wrong_right_child(&ends, node, operands[node]),
         _ => operands[node] != 0,
     })?;
-    let mut node = 0;
-    while node < m {
-        unless(ends[node] != NONE, 34, m)?;
-        node = ends[node] as usize;
-    }
+    unless(finished(&ends), 34, m)?;
     Ok(ends)
 }
 
-fn check_formula(words: &[u32], action_ends: &[u32]) -> Result<Vec<u32>, Fault> {
+fn check_regulars(words: &[u32], action_ends: &[u32]) -> Result<Vec<u32>, Fault> {
+    unless(!words.is_empty() && words.len() as u64 == 1 + 2 * words[0] as u64, 61, 0)?;
+    let r = words[0] as usize;
+    unless(r <= MOST_NODES, 61, 0)?;
+    let (kinds, operands) = words[1..].split_at(r);
+    none_of(0..r, 61, |node| kinds[node] > 4)?;
+    let ends = tree_ends(kinds, |kind| [0, 2, 2, 1, 1][kind as usize]);
+    let root = roots(action_ends);
+    none_of(0..r, 61, |node| match kinds[node] {
+        0 => !is_root(&root, operands[node]),
+        1 | 2 => wrong_right_child(&ends, node, operands[node]),
+        _ => operands[node] != 0,
+    })?;
+    unless(finished(&ends), 61, 0)?;
+    Ok(ends)
+}
+
+/// `row_ends` are the ends of the trees that modalities name.
+fn check_formula(words: &[u32], row_ends: &[u32]) -> Result<Vec<u32>, Fault> {
     unless(!words.is_empty() && words.len() as u64 == 1 + 2 * words[0] as u64, 41, 0)?;
     let n = words[0] as usize;
-    unless((1..=1_024).contains(&n), 42, 0)?;
+    unless((1..=MOST_NODES).contains(&n), 42, 0)?;
     let (kinds, operands) = words[1..].split_at(n);
     none_of(0..n, 43, |node| kinds[node] > 8)?;
     let ends = tree_ends(kinds, |kind| [0, 0, 2, 2, 1, 1, 1, 1, 0][kind as usize]);
-    let root = roots(action_ends);
+    let root = roots(row_ends);
     // Left-over nodes begin where the tree ends, so one search finds the smallest place of all.
     none_of(0..n, 44, |node| {
         node as u32 == ends[0]
             || match kinds[node] {
                 2 | 3 => wrong_right_child(&ends, node, operands[node]),
-                4 | 5 => !root.get(operands[node] as usize).copied().unwrap_or(false),
+                4 | 5 => !is_root(&root, operands[node]),
                 8 => false,
                 _ => operands[node] != 0,
             }
@@ -131,6 +154,19 @@ fn roots(ends: &[u32]) -> Vec<bool> {
         node = ends[node] as usize;
     }
     root
+}
+
+fn is_root(root: &[bool], node: u32) -> bool {
+    root.get(node as usize).copied().unwrap_or(false)
+}
+
+/// Whether the last tree of a row ends with it.
+fn finished(ends: &[u32]) -> bool {
+    let mut node = 0;
+    while node < ends.len() - 1 && ends[node] != NONE {
+        node = ends[node] as usize;
+    }
+    node == ends.len() - 1
 }
 
 pub fn game(words: &[u32]) -> Result<(), Fault> {

@@ -1,0 +1,2 @@
+pub mod Paths
+pub mod Claims

@@ -1,0 +1,11 @@
+pub mod Moves
+pub mod Regulars
+pub mod Expanded
+pub mod Formulas
+pub mod Counting
+pub mod SizesAt
+pub mod Theorems
+pub mod Exact
+pub mod Demand
+pub mod Unfold
+pub mod Cases

@@ -1,0 +1,9 @@
+pub mod Regular
+pub mod Expand
+pub mod Refusals
+pub mod Faulty
+pub mod Expansion
+pub mod Accepts
+pub mod Sizes
+pub mod Good
+pub mod Moving
