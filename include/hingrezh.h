@@ -42,11 +42,18 @@
  *            expanded is the first node of one of these trees.
  *   Operands that are not named are 0.
  *
- * A game: vertices n, edges m, initial vertex; n owners (0 Even, 1 Odd); n priorities; n + 1 offsets; m targets; m
- * counts: 4 + 3n + 2m words. So vertex v has its owner in word 3 + v, its priority in word 3 + n + v, and the targets
- * of its edges in the words from 4 + 3n + a to before 4 + 3n + b, where a and b are the words 3 + 2n + v and the next;
- * the count of an edge stands m words behind its target. A cut game shows a waiting vertex with owner 2, priority 0 and
- * no edges.
+ * A game: vertices n, edges m, initial vertex; n owners (0 Even, 1 Odd); n priorities; n states; n items; n + 1
+ * offsets; m targets; m counts: 4 + 5n + 2m words. So vertex v has its owner in word 3 + v, its priority in word
+ * 3 + n + v, its state in word 3 + 2n + v, its item in word 3 + 3n + v, and the targets of its edges in the words from
+ * 4 + 5n + a to before 4 + 5n + b, where a and b are the words 3 + 4n + v and the next; the count of an edge stands m
+ * words behind its target. A cut game shows a waiting vertex with owner 2, priority 0 and no edges.
+ *
+ * In the game of a run a vertex, a waiting one too, stands for its state of the system and its item of the formula, and
+ * no two vertices have the same two; vertex 0 has the initial state and item 0. Items are numbered from 0: first the
+ * equations, one for each fixpoint by its node, before them one for the whole formula where that is no fixpoint; then
+ * the subformulas of their right sides, where an inner fixpoint is a reference, by the lowest node that carries them,
+ * alike ones once. `hingrezh show` lists them. A restricted game keeps both numbers of each vertex, whatever they are;
+ * in a game that was read from a text both are 0.
  *
  * A box or diamond has one edge to a state however many transitions lead there. The edge's count says how many: the
  * transitions that leave the vertex's state with a label that its action formula matches and lead to the target's
@@ -54,8 +61,9 @@
  * vertex without targets, and in a game that was read from a text. Who wins does not depend on counts.
  *
  * Example: one state with two loops on label 0, and greatest X, diamond label 0, X. The words of its game:
- *   3 3 0   0 0 1   0 0 0   0 1 2 3   1 2 0   0 2 0
- * Vertex 1 is the diamond, and its edge to vertex 2 stands for both loops.
+ *   3 3 0   0 0 1   0 0 0   0 0 0   0 1 2   0 1 2 3   1 2 0   0 2 0
+ * All vertices are of state 0. Vertex 0 is the equation of X, item 0. Vertex 1 is the diamond, item 1, and its edge to
+ * vertex 2, the reference to X, stands for both loops.
  *
  * ---------------------------------------------------------------------------------------------------------------
  * A game as PGSolver text
@@ -67,8 +75,8 @@
  *
  * So a game of three vertices is written. Single spaces part the four, a newline ends each line, the last one too;
  * numbers are decimal without leading zeros. The vertices are written in order and, of equal edges of a vertex, the
- * first alone. Where the game begins and the edges' counts are not in the text: a game that is read begins at vertex 0,
- * and all of its counts are 0.
+ * first alone. Where the game begins, the vertices' states and items and the edges' counts are not in the text: a game
+ * that is read begins at vertex 0, and all of its states, items and counts are 0.
  *
  * When it is read, the vertices' lines may stand in any order; a successor may be repeated, and counts once, where it
  * stands first; and between the successors and the semicolon there may be a space and a name in double quotes, which
@@ -123,11 +131,11 @@
  *           a wrong operand; an unfinished last tree
  *   62      the expanded formula has more than 1,024 nodes
  *   Whoever hands a game to the restriction or to the writing of texts:
- *   51      words fewer than 3 or not 4 + 3n + 2m, no vertex, n above 1,048,576
+ *   51      words fewer than 3 or not 4 + 5n + 2m, no vertex, n above 1,048,576
  *           or m above 4,194,304
  *   52      the offsets don't begin at 0, fall, or don't end at m                      word of the game; the later one
  *   53      the initial vertex is n or more; an owner above 1; a target n or more      word of the game
- *           (no count is wrong)
+ *           (no state, item or count is wrong)
  *   98      a vertex without successors, in writing a text
  *   Whoever hands over a text, or too little room for it:
  *   91      the text is not of the form above
@@ -162,9 +170,9 @@ extern "C" {
 
 /* The version of header, library and command. */
 #define HINGREZH_VERSION_MAJOR 0
-#define HINGREZH_VERSION_MINOR 4
+#define HINGREZH_VERSION_MINOR 5
 #define HINGREZH_VERSION_PATCH 0
-#define HINGREZH_VERSION "0.4.0"
+#define HINGREZH_VERSION "0.5.0"
 
 enum { HINGREZH_DONE = 0, HINGREZH_CUT = 1, HINGREZH_REFUSED = 2 };
 
@@ -186,7 +194,7 @@ enum { HINGREZH_DONE = 0, HINGREZH_CUT = 1, HINGREZH_REFUSED = 2 };
 #define HINGREZH_SYSTEM_WORDS(states, transitions) ((size_t)3 + (size_t)(states) + (size_t)2 * (size_t)(transitions))
 #define HINGREZH_NODE_WORDS(nodes) ((size_t)1 + (size_t)2 * (size_t)(nodes))
 #define HINGREZH_GAME_WORDS(vertices, edges) \
-    ((size_t)4 + (size_t)3 * (size_t)(vertices) + (size_t)2 * (size_t)(edges))
+    ((size_t)4 + (size_t)5 * (size_t)(vertices) + (size_t)2 * (size_t)(edges))
 #define HINGREZH_WORK_WORDS(vertices, edges) ((size_t)8 * (size_t)(vertices) + (size_t)2 * (size_t)(edges))
 #define HINGREZH_ANSWER_WORDS 4
 
@@ -221,7 +229,8 @@ void hingrezh_translate(const uint32_t *labels, size_t labels_len,
                         uint32_t answer[4]);
 
 /* Restricts a game to the vertices that its initial vertex reaches, numbered breadth first with targets in order, so
- * that the new game begins at 0. Owners, priorities, the order of edges and their counts, whatever they are, stay.
+ * that the new game begins at 0. Owners, priorities, states, items, the order of edges and their counts stay, whatever
+ * states, items and counts are.
  *
  * `game` is only read, and must be a game without words past its end: of a finished run's slice the first
  * HINGREZH_GAME_WORDS(vertices, edges) words, by its answer. For n vertices `out` must have as many words as `game`,
@@ -242,9 +251,9 @@ void hingrezh_compute_reachable(const uint32_t *game, size_t game_len,
 /* Writes a game as PGSolver text: for a solver that reads nothing else.
  *
  * `game` is only read, and must be a game without words past its end, as for the restriction; it may begin anywhere,
- * and its counts don't matter. Each vertex needs a successor; every vertex of a finished run has one. `text` must not
- * be shorter than the text; HINGREZH_TEXT_BYTES(n, m) bytes are always enough, and a longer slice is fine. What it
- * holds before doesn't matter.
+ * and its states, items and counts don't matter. Each vertex needs a successor; every vertex of a finished run has one.
+ * `text` must not be shorter than the text; HINGREZH_TEXT_BYTES(n, m) bytes are always enough, and a longer slice is
+ * fine. What it holds before doesn't matter.
  *
  * Afterwards, by the case of `answer`:
  *   done     answer[1] is the number of bytes of the text; `text` begins with it, and every byte past its end is 0.
@@ -263,13 +272,14 @@ void hingrezh_write_pgsolver(const uint32_t *game, size_t game_len,
  *
  * Afterwards, by the case of `answer`:
  *   done     steps and vertices are the number of vertices n, edges the number of edges m, equal ones of a vertex
- *            counted once; `game` begins with the game, which begins at vertex 0, has the successors of each vertex in
- *            the order of the text and the count 0 for each, and every word past its end is 0
+ *            counted once; `game` begins with the game, which begins at vertex 0, has state 0 and item 0 for each
+ *            vertex, its successors in the order of the text and the count 0 for each, and every word past its end is 0
  *   refused  `game` is as it was
  * This call is never cut. `answer` is written in every case.
  *
  * Proved: a game that begins at vertex 0, written and then read into room that holds it, is that game without the
- * repeated edges and with all counts 0; and what was read from any text, written and read again, is the same game. */
+ * repeated edges and with all states, items and counts 0; and what was read from any text, written and read again, is
+ * the same game. */
 void hingrezh_read_pgsolver(const uint8_t *text, size_t text_len,
                             uint32_t vertices, uint32_t edges,
                             uint32_t *game, size_t game_len,
@@ -318,7 +328,7 @@ static inline const char *hingrezh_refusal_text(uint32_t number)
     case 43: return "the kind of a formula node is above 8";
     case 44: return "the operand of a formula node is wrong, the tree is unfinished, or nodes are left over";
     case 45: return "a reference doesn't name an enclosing fixpoint";
-    case 51: return "the words are no game: fewer than 3, not 4 + 3n + 2m, no vertex, or a size above the room limits";
+    case 51: return "the words are no game: fewer than 3, not 4 + 5n + 2m, no vertex, or a size above the room limits";
     case 52: return "the offsets don't begin at 0, fall, or don't end at the number of edges";
     case 53: return "an owner is above 1, or a target or the initial vertex is not below n";
     case 60: return "the game needs more vertices or edges than there is room for";

@@ -103,7 +103,7 @@ impl Refusal {
             43 => "the kind of a formula node is above 8",
             44 => "the operand of a formula node is wrong, the tree is unfinished, or nodes are left over",
             45 => "a reference doesn't name an enclosing fixpoint",
-            51 => "the words are no game: fewer than 3, not 4 + 3n + 2m, no vertex, or a size above the room limits",
+            51 => "the words are no game: fewer than 3, not 4 + 5n + 2m, no vertex, or a size above the room limits",
             52 => "the offsets don't begin at 0, fall, or don't end at the number of edges",
             53 => "an owner is above 1, or a target or the initial vertex is not below n",
             60 => "the game needs more vertices or edges than there is room for",

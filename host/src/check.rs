@@ -2,11 +2,12 @@
 //! outside, and verdicts of games against what their formulas mean.
 pub mod call;
 pub mod cases;
-pub mod counts;
+pub mod columns;
 pub mod damage;
 pub mod expansion;
 pub mod finished;
 pub mod generate;
+pub mod item_numbers;
 pub mod kinds;
 pub mod lent;
 pub mod meaning;

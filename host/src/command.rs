@@ -14,9 +14,10 @@ mod read;
 mod restrict;
 mod sha256;
 mod show;
+mod vertex;
 
 use crate::{Answer, NoMemory, ReadError, Refusal};
-use options::{ALL, COUNTS, Choice, EDGES, FORMAT, Given, LIMIT, MAP, OUTPUT, VERTICES};
+use options::{ALL, COUNTS, Choice, EDGES, FORMAT, FORMULA, Given, LIMIT, MAP, MODEL, OUTPUT, VERTICES};
 use std::ffi::OsString;
 use std::io::{self, Write};
 
@@ -104,13 +105,14 @@ struct Command {
 /// The options of what builds games and writes them.
 const BUILDING: &[Choice] = &[VERTICES, EDGES, LIMIT, FORMAT, COUNTS, OUTPUT];
 
-const COMMANDS: [Command; 7] = [
+const COMMANDS: [Command; 8] = [
     Command { name: "build", options: BUILDING, help: help::BUILD, run: build::run },
     Command { name: "night", options: BUILDING, help: help::NIGHT, run: night::run },
     Command { name: "read", options: &[VERTICES, EDGES, FORMAT, OUTPUT], help: help::READ, run: read::run },
     Command { name: "restrict", options: &[MAP, FORMAT, COUNTS, OUTPUT], help: help::RESTRICT, run: restrict::run },
     Command { name: "expand", options: &[OUTPUT], help: help::EXPAND, run: expand::run },
     Command { name: "show", options: &[ALL], help: help::SHOW, run: show::run },
+    Command { name: "where", options: &[MODEL, FORMULA], help: help::WHERE, run: vertex::run },
     Command { name: "dot", options: &[VERTICES, EDGES, LIMIT, OUTPUT], help: help::DOT, run: dot::run },
 ];
 

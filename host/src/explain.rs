@@ -2,7 +2,7 @@
 //! the number of a word helps nobody who writes models or formulas. Things are counted from 0, as in the words.
 use crate::nodes::{Nodes, at};
 use crate::sizes::expanded_nodes;
-use crate::{Formulas, Game, Model, Refusal, Room, game_words};
+use crate::{Formulas, Game, Layout, Model, Refusal, Room};
 
 impl Refusal {
     /// What is wrong with the model, the formula or the room of a run that was refused so.
@@ -167,7 +167,7 @@ impl Refusal {
     fn of_offset(&self, game: &[u32]) -> String {
         let n = at(game, 0) as usize;
         let place = self.place as usize;
-        let (vertex, offset) = (place.saturating_sub(3 + 2 * n), at(game, place));
+        let (vertex, offset) = (place.saturating_sub(layout_of(game).offsets().start), at(game, place));
         let before = at(game, place.saturating_sub(1));
         match vertex {
             0 => format!("the edges of vertex 0 begin at {offset} and not at 0"),
@@ -179,10 +179,9 @@ impl Refusal {
     }
 
     fn of_vertex(&self, game: &[u32]) -> String {
-        let n = at(game, 0) as usize;
-        let place = self.place as usize;
+        let (layout, place) = (layout_of(game), self.place as usize);
         let found = at(game, place);
-        let vertices = counted(n as u32, "vertex");
+        let vertices = counted(at(game, 0), "vertex");
         if let Ok(Some(waiting)) = Game::of_words(game).map(|game| game.first_waiting()) {
             return format!(
                 "the game is cut: vertex {waiting} is still waiting (owner 2), and only whole games are restricted or \
@@ -191,10 +190,13 @@ impl Refusal {
         }
         match place {
             2 => format!("the initial vertex is {found}, and {vertices}"),
-            _ if place < 3 + n => format!("vertex {} has owner {found}; 0 is Even, 1 is Odd", place - 3),
+            _ if layout.owners().contains(&place) => {
+                format!("vertex {} has owner {found}; 0 is Even, 1 is Odd", place - layout.owners().start)
+            }
             _ => {
-                let edge = place.saturating_sub(4 + 3 * n);
-                let source = (0..n).find(|v| at(game, 4 + 2 * n + v) as usize > edge).unwrap_or(0);
+                let edge = place.saturating_sub(layout.targets().start);
+                let ends = layout.offsets().start + 1;
+                let source = (0..layout.vertices).find(|v| at(game, ends + v) as usize > edge).unwrap_or(0);
                 format!("edge {edge}, from vertex {source}, leads to vertex {found}, and {vertices}")
             }
         }
@@ -212,7 +214,7 @@ fn source_of(system: &[u32], transition: usize) -> usize {
 }
 
 /// How many things there are, with their numbers.
-fn counted(count: u32, thing: &str) -> String {
+pub(crate) fn counted(count: u32, thing: &str) -> String {
     let many = if thing == "vertex" { "vertices".to_string() } else { format!("{thing}s") };
     match count {
         0 => format!("there are no {many}"),
@@ -324,29 +326,41 @@ fn many_nodes(what: &str, words: &[u32]) -> String {
 
 fn no_game(game: &[u32]) -> String {
     let (n, m, found) = (at(game, 0), at(game, 1), game.len());
-    let wanted = game_words(n as usize, m as usize);
+    let wanted = layout_of(game).words();
     let most = Room::MOST;
     match found {
         0..3 => format!("a game begins with three words, vertices, edges and initial vertex, and there are {found}"),
         _ if n == 0 => "the game has no vertex".to_string(),
         _ if wanted != found => {
-            let counts = if lacks_counts(game) { ": the edges' counts are missing" } else { "" };
-            format!("{n} vertices and {m} edges make {wanted} words, and there are {found}{counts}")
+            let lacking = lacking(game).map_or(String::new(), |what| format!(": {what} are missing"));
+            format!("{n} vertices and {m} edges make {wanted} words, and there are {found}{lacking}")
         }
         _ if n > most.vertices => format!("the game has {n} vertices, and at most {} are legal", most.vertices),
         _ => format!("the game has {m} edges, and at most {} are legal", most.edges),
     }
 }
 
-/// Whether words have the length of a game as games were before their edges had counts.
-pub(crate) fn lacks_counts(game: &[u32]) -> bool {
-    let (n, m) = (at(game, 0) as usize, at(game, 1) as usize);
-    n > 0 && m > 0 && game.len() == 4 + 3 * n + m
+/// Where the words of a game stand that may be none.
+fn layout_of(game: &[u32]) -> Layout {
+    Layout { vertices: at(game, 0) as usize, edges: at(game, 1) as usize }
+}
+
+/// What is missing in words that have the length of a game as games were: before their vertices had states and items,
+/// and before their edges had counts.
+pub(crate) fn lacking(game: &[u32]) -> Option<&'static str> {
+    let layout = layout_of(game);
+    let without_states = layout.words() - 2 * layout.vertices;
+    match game.len() {
+        _ if layout.vertices == 0 => None,
+        found if found == without_states => Some("the vertices' states and items"),
+        found if found == without_states - layout.edges => Some("the vertices' states and items and the edges' counts"),
+        _ => None,
+    }
 }
 
 fn stuck(game: &[u32]) -> String {
-    let n = at(game, 0) as usize;
-    let begins = |vertex: usize| at(game, 3 + 2 * n + vertex);
-    let vertex = (0..n).find(|&vertex| begins(vertex) == begins(vertex + 1)).unwrap_or(0);
+    let layout = layout_of(game);
+    let begins = |vertex: usize| at(game, layout.offsets().start + vertex);
+    let vertex = (0..layout.vertices).find(|&vertex| begins(vertex) == begins(vertex + 1)).unwrap_or(0);
     format!("vertex {vertex} has no successors, and in PGSolver text every vertex has one")
 }

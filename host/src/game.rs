@@ -1,4 +1,4 @@
-//! A game's words by vertex: owner, priority, successors and their counts.
+//! Where a game's words stand, and a game by vertex: owner, priority, state and item, successors and their counts.
 use crate::{Refusal, Room};
 use std::ops::Range;
 
@@ -10,18 +10,90 @@ pub enum Player {
 
 /// How many words a game of so many vertices and edges has.
 pub const fn game_words(vertices: usize, edges: usize) -> usize {
-    4 + 3 * vertices + 2 * edges
+    Layout { vertices, edges }.words()
 }
 
-/// A game over its words: vertices n, edges m, initial vertex; n owners, n priorities, n + 1 offsets, m targets, m
-/// counts: how many transitions of the model stand behind each edge.
+/// Where the words of a game of so many vertices and edges stand: vertices, edges and initial vertex; then owners,
+/// priorities, states and items, a word of each for each vertex; then the offsets, one more than there are vertices;
+/// then targets and counts, a word of each for each edge.
+#[derive(Clone, Copy, Debug, PartialEq, Eq)]
+pub struct Layout {
+    pub vertices: usize,
+    pub edges: usize,
+}
+
+impl Layout {
+    /// The sizes that a game's words begin with; there must be two words.
+    pub const fn of(game: &[u32]) -> Layout {
+        Layout { vertices: game[0] as usize, edges: game[1] as usize }
+    }
+
+    /// Owners, priorities, states and items, one column after the other.
+    pub const fn vertex_columns(self) -> Range<usize> {
+        3..3 + 4 * self.vertices
+    }
+
+    const fn vertex_column(self, column: usize) -> Range<usize> {
+        let start = 3 + column * self.vertices;
+        start..start + self.vertices
+    }
+
+    pub const fn owners(self) -> Range<usize> {
+        self.vertex_column(0)
+    }
+
+    pub const fn priorities(self) -> Range<usize> {
+        self.vertex_column(1)
+    }
+
+    pub const fn states(self) -> Range<usize> {
+        self.vertex_column(2)
+    }
+
+    pub const fn items(self) -> Range<usize> {
+        self.vertex_column(3)
+    }
+
+    pub const fn offsets(self) -> Range<usize> {
+        let start = self.vertex_columns().end;
+        start..start + self.vertices + 1
+    }
+
+    const fn edge_column(self, column: usize) -> Range<usize> {
+        let start = self.offsets().end + column * self.edges;
+        start..start + self.edges
+    }
+
+    pub const fn targets(self) -> Range<usize> {
+        self.edge_column(0)
+    }
+
+    pub const fn counts(self) -> Range<usize> {
+        self.edge_column(1)
+    }
+
+    pub const fn words(self) -> usize {
+        self.counts().end
+    }
+
+    /// The numbers of a vertex's edges, by the offsets among a game's words.
+    pub fn edges_of(self, game: &[u32], vertex: usize) -> Range<usize> {
+        let at = self.offsets().start + vertex;
+        game[at] as usize..game[at + 1] as usize
+    }
+}
+
+/// A game over its words, which stand as [`Layout`] says.
+///
+/// In a game that a run built a vertex stands for a state of the model and an item of the formula, and no two vertices
+/// have the same two; the count of an edge says how many transitions of the model are behind it.
 ///
 /// The largest priority that a play sees for ever decides it, an even one for Even. A formula holds in its model
 /// where Even wins vertex 0 of their game.
 #[derive(Clone, Copy, Debug, PartialEq, Eq)]
 pub struct Game<'a> {
     words: &'a [u32],
-    n: usize,
+    layout: Layout,
 }
 
 impl<'a> Game<'a> {
@@ -29,12 +101,12 @@ impl<'a> Game<'a> {
     pub fn of_words(words: &'a [u32]) -> Result<Game<'a>, Refusal> {
         let fault = |number: u32, place: usize| Err(Refusal { number, place: place as u32 });
         let Some((&[vertices, edges, initial], _)) = words.split_first_chunk::<3>() else { return fault(51, 0) };
-        let (n, m) = (vertices as usize, edges as usize);
+        let layout = Layout::of(words);
         let in_range = (1..=Room::MOST.vertices).contains(&vertices) && edges <= Room::MOST.edges;
-        if !in_range || words.len() != game_words(n, m) {
+        if !in_range || words.len() != layout.words() {
             return fault(51, 0);
         }
-        let game = Game { words, n };
+        let game = Game { words, layout };
         if let Some(place) = game.wrong_offset() {
             return fault(52, place);
         }
@@ -48,21 +120,20 @@ impl<'a> Game<'a> {
     }
 
     fn wrong_offset(&self) -> Option<usize> {
-        let first = 3 + 2 * self.n;
-        let offsets = &self.words[first..=first + self.n];
-        let falls = || offsets.windows(2).position(|pair| pair[1] < pair[0]).map(|at| first + at + 1);
-        match offsets[0] {
-            0 => falls().or((offsets[self.n] != self.words[1]).then_some(first + self.n)),
+        let Range { start: first, end } = self.layout.offsets();
+        let falls = || (first + 1..end).find(|&at| self.words[at] < self.words[at - 1]);
+        match self.words[first] {
+            0 => falls().or((self.words[end - 1] != self.edges()).then_some(end - 1)),
             _ => Some(first),
         }
     }
 
     fn wrong_vertex(&self) -> Option<usize> {
-        let (owners, targets) = (&self.words[3..3 + self.n], self.column(0));
+        let owners = &self.words[self.layout.owners()];
         let waits = |v: usize| self.priority(v as u32) == 0 && self.successors(v as u32).is_empty();
         let wrong = |v: &usize| owners[*v] > 2 || owners[*v] == 2 && !waits(*v);
-        let owner = (0..self.n).find(wrong).map(|v| 3 + v);
-        owner.or_else(|| targets.iter().position(|&to| to as usize >= self.n).map(|at| 4 + 3 * self.n + at))
+        let owner = (0..owners.len()).find(wrong).map(|v| self.layout.owners().start + v);
+        owner.or_else(|| self.layout.targets().find(|&at| self.words[at] >= self.vertices()))
     }
 
     /// The words, as files and calls have them.
@@ -84,10 +155,10 @@ impl<'a> Game<'a> {
         self.words[2]
     }
 
-    /// Whose vertex it is; nobody's yet if it still waits in a cut game. Panics past the last vertex, as the three
-    /// functions below do.
+    /// Whose vertex it is; nobody's yet if it still waits in a cut game. Panics past the last vertex, as the functions
+    /// below do.
     pub fn owner(&self, vertex: u32) -> Option<Player> {
-        match self.words[3..3 + self.n][vertex as usize] {
+        match self.of_vertex(self.layout.owners(), vertex) {
             0 => Some(Player::Even),
             1 => Some(Player::Odd),
             _ => None,
@@ -95,30 +166,46 @@ impl<'a> Game<'a> {
     }
 
     pub fn priority(&self, vertex: u32) -> u32 {
-        self.words[3 + self.n..3 + 2 * self.n][vertex as usize]
+        self.of_vertex(self.layout.priorities(), vertex)
     }
 
-    /// A column of the edges: 0 the targets, 1 the counts.
-    fn column(&self, column: usize) -> &'a [u32] {
-        let edges = self.edges() as usize;
-        &self.words[4 + 3 * self.n + column * edges..][..edges]
+    /// The state of the model that the vertex stands for, whether it still waits or not; 0 in games read from text. A
+    /// game that is handed over may say any number here, and of the item, too.
+    pub fn state(&self, vertex: u32) -> u32 {
+        self.of_vertex(self.layout.states(), vertex)
+    }
+
+    /// The item of the formula that it stands for: equations are numbered first, from 0, then the subformulas of their
+    /// bodies, alike ones once. Vertex 0 of a run's game stands for the initial state and item 0.
+    pub fn item(&self, vertex: u32) -> u32 {
+        self.of_vertex(self.layout.items(), vertex)
+    }
+
+    fn of_vertex(&self, column: Range<usize>, vertex: u32) -> u32 {
+        self.words[column][vertex as usize]
     }
 
     fn edges_of(&self, vertex: u32) -> Range<usize> {
-        let offsets = &self.words[3 + 2 * self.n..4 + 3 * self.n];
-        offsets[vertex as usize] as usize..offsets[vertex as usize + 1] as usize
+        self.layout.edges_of(self.words, vertex as usize)
     }
 
     /// The targets of its edges in order; two edges may be equal.
     pub fn successors(&self, vertex: u32) -> &'a [u32] {
-        &self.column(0)[self.edges_of(vertex)]
+        &self.words[self.layout.targets()][self.edges_of(vertex)]
     }
 
     /// For each of its edges, how many transitions stand behind it: those of the vertex's state that its modality
     /// matches and that lead to the target's state. 0 where the vertex is no modality, for a loop added to a vertex
     /// without targets, and in games read from text; a game that is handed over may say any number.
     pub fn counts(&self, vertex: u32) -> &'a [u32] {
-        &self.column(1)[self.edges_of(vertex)]
+        &self.words[self.layout.counts()][self.edges_of(vertex)]
+    }
+
+    /// Whether there are several vertices, and all have state 0 and item 0: those of a run differ, and a game that was
+    /// read from text has nothing else.
+    pub fn lacks_states(&self) -> bool {
+        let both = self.layout.states().start..self.layout.items().end;
+        self.vertices() > 1 && self.words[both].iter().all(|&word| word == 0)
     }
 
     /// The first vertex that a cut game has not settled.

@@ -1,5 +1,5 @@
 //! Games as the thin program's lines.
-use crate::Answer;
+use crate::{Answer, Layout};
 use std::io::{Result, Write};
 
 /// The answer's line, then for each vertex its number, owner, priority and targets. A waiting vertex of a cut game
@@ -24,12 +24,16 @@ fn lines<W: Write>(
     edge: impl Fn(&mut W, u32, u32) -> Result<()>,
 ) -> Result<()> {
     writeln!(out, "{answer}")?;
-    let (n, m) = answer.game_words().map_or((0, 0), |_| (game[0] as usize, game[1] as usize));
-    for vertex in 0..n {
-        write!(out, "{vertex} {} {}", game[3 + vertex], game[3 + n + vertex])?;
-        let (from, to) = (game[3 + 2 * n + vertex] as usize, game[4 + 2 * n + vertex] as usize);
-        for at in 4 + 3 * n + from..4 + 3 * n + to {
-            edge(out, game[at], game[at + m])?;
+    if answer.game_words().is_none() {
+        return Ok(());
+    }
+    let layout = Layout::of(game);
+    let [owners, priorities] = [layout.owners(), layout.priorities()].map(|column| &game[column]);
+    let [targets, counts] = [layout.targets(), layout.counts()].map(|column| &game[column]);
+    for vertex in 0..layout.vertices {
+        write!(out, "{vertex} {} {}", owners[vertex], priorities[vertex])?;
+        for at in layout.edges_of(game, vertex) {
+            edge(out, targets[at], counts[at])?;
         }
         writeln!(out)?;
     }

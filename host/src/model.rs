@@ -175,8 +175,8 @@ impl Model {
     }
 }
 
-/// Restricts a game to what its initial vertex reaches, with the proved library; edges keep their counts. It panics
-/// where there is no memory for the result.
+/// Restricts a game to what its initial vertex reaches, with the proved library; vertices keep their states and items,
+/// edges their counts. It panics where there is no memory for the result.
 pub fn restrict(game: &[u32]) -> Restricted {
     try_restrict(game).unwrap_or_else(|error| panic!("{error}"))
 }

@@ -1,7 +1,6 @@
 //! Games as PGSolver text, by the proved library: slices of the right lengths for both calls.
-use crate::game::game_words;
 use crate::model::zeroed;
-use crate::{Answer, Built, Game, NoMemory, Refusal, Room, library};
+use crate::{Answer, Built, Game, Layout, NoMemory, Refusal, Room, library};
 
 /// A game's text, without bytes past its end; empty after a refusal.
 #[derive(Clone, Debug, PartialEq, Eq)]
@@ -11,7 +10,8 @@ pub struct Written {
 }
 
 /// Writes a game as PGSolver text with the proved library: of equal edges the first stands there; where the game begins
-/// and how many transitions are behind an edge is not said. It panics where there is no memory for the text.
+/// what its vertices stand for and how many transitions are behind an edge is not said. It panics where there is no
+/// memory for the text.
 pub fn write_pgsolver(game: &[u32]) -> Written {
     try_write_pgsolver(game).unwrap_or_else(|error| panic!("{error}"))
 }
@@ -26,8 +26,8 @@ pub fn try_write_pgsolver(game: &[u32]) -> Result<Written, NoMemory> {
     Ok(Written { answer, text })
 }
 
-/// Reads a game from PGSolver text with the proved library; it begins at vertex 0, and its counts are 0. It panics
-/// where there is no memory for the room.
+/// Reads a game from PGSolver text with the proved library; it begins at vertex 0, and its states, items and counts are
+/// 0. It panics where there is no memory for the room.
 pub fn read_pgsolver(text: &[u8], room: Room) -> Built {
     try_read_pgsolver(text, room).unwrap_or_else(|error| panic!("{error}"))
 }
@@ -73,13 +73,13 @@ pub fn bytes_written(answer: &Answer) -> usize {
 /// No fewer bytes than the text of a game has; 0 for words whose number is wrong, which are refused anyway. Every
 /// vertex number is taken to be as long as the highest, and every priority as the largest.
 pub fn most_bytes(game: &[u32]) -> usize {
-    let Some((&[vertices, edges, _], rest)) = game.split_first_chunk::<3>() else { return 0 };
-    let (n, m) = (vertices as usize, edges as usize);
-    if game.len() != game_words(n, m) {
+    if game.len() < 3 || game.len() != Layout::of(game).words() {
         return 0;
     }
-    let vertex = digits(vertices.saturating_sub(1));
-    let priority = digits(rest[n..2 * n].iter().copied().max().unwrap_or(0));
+    let layout = Layout::of(game);
+    let Layout { vertices: n, edges: m } = layout;
+    let vertex = digits(game[0].saturating_sub(1));
+    let priority = digits(game[layout.priorities()].iter().copied().max().unwrap_or(0));
     // The header has nine bytes beside its number; a line three spaces, the owner, the semicolon and the newline, and
     // a comma less than successors.
     9 + vertex + n * (vertex + priority + 5) + m * (vertex + 1)
@@ -99,7 +99,7 @@ mod tests {
         let each = |vertex: u32| m / n + (vertex < m % n) as u32;
         let ends = (0..n).scan(0, |end, vertex| Some(std::mem::replace(end, *end + each(vertex))));
         let targets = (0..n).flat_map(|vertex| (0..each(vertex)).map(|at| n - 1 - at));
-        let head = [n, m, 0].into_iter().chain((0..n).map(|_| 1)).chain((0..n).map(|_| u32::MAX));
+        let head = [n, m, 0].into_iter().chain((0..n).map(|_| 1)).chain((0..3 * n).map(|_| u32::MAX));
         head.chain(ends).chain([m]).chain(targets).chain((0..m).map(|_| 0)).collect()
     }
 

@@ -11,6 +11,7 @@ mod pgsolver;
 mod pgsolver_lent;
 mod walk;
 
+use crate::Layout;
 use checks::Fault;
 
 /// A size that no slice reaches stands for "none" in tables of node numbers.
@@ -108,9 +109,8 @@ pub fn read_pgsolver_lent(text: &[u8], vertices: u32, edges: u32, game: &mut [u3
 
 /// The edges of a vertex.
 fn targets(game: &[u32], vertex: usize) -> &[u32] {
-    let n = game[0] as usize;
-    let (from, to) = (game[3 + 2 * n + vertex] as usize, game[4 + 2 * n + vertex] as usize);
-    &game[4 + 3 * n + from..4 + 3 * n + to]
+    let layout = Layout::of(game);
+    &game[layout.targets()][layout.edges_of(game, vertex)]
 }
 
 /// Numbers breadth first into `map`; `queue` then begins with the vertices reached, in order.
@@ -134,27 +134,28 @@ fn number_reachable(game: &[u32], map: &mut [u32], queue: &mut [u32]) -> usize {
 
 /// The transitions behind each edge of a vertex.
 fn counts(game: &[u32], vertex: usize) -> &[u32] {
-    let (n, m) = (game[0] as usize, game[1] as usize);
-    let (from, to) = (game[3 + 2 * n + vertex] as usize, game[4 + 2 * n + vertex] as usize);
-    &game[4 + 3 * n + m + from..4 + 3 * n + m + to]
+    let layout = Layout::of(game);
+    &game[layout.counts()][layout.edges_of(game, vertex)]
 }
 
 /// Writes the game on the vertices of `order`, and gives its number of edges.
 fn write_restricted(game: &[u32], out: &mut [u32], map: &[u32], order: &[u32]) -> usize {
-    let (n, kept) = (game[0] as usize, order.len());
-    let mut edges = 0;
-    for (new, &old) in order.iter().enumerate() {
-        out[3 + new] = game[3 + old as usize];
-        out[3 + kept + new] = game[3 + n + old as usize];
-        out[3 + 2 * kept + new] = edges as u32;
-        let targets = targets(game, old as usize);
-        let to = &mut out[4 + 3 * kept + edges..][..targets.len()];
-        to.iter_mut().zip(targets).for_each(|(word, &target)| *word = map[target as usize]);
-        edges += targets.len();
+    let edges = order.iter().map(|&old| targets(game, old as usize).len()).sum();
+    let (from, to) = (Layout::of(game), Layout { vertices: order.len(), edges });
+    out[..3].copy_from_slice(&[order.len() as u32, edges as u32, 0]);
+    let new_columns = out[to.vertex_columns()].chunks_exact_mut(order.len());
+    for (new, old) in new_columns.zip(game[from.vertex_columns()].chunks_exact(from.vertices)) {
+        new.iter_mut().zip(order).for_each(|(word, &vertex)| *word = old[vertex as usize]);
     }
-    out[3 + 3 * kept] = edges as u32;
-    out[..3].copy_from_slice(&[kept as u32, edges as u32, 0]);
-    let mut end = 4 + 3 * kept + edges;
+    let (offsets, mut first, mut end) = (to.offsets(), 0, to.targets().start);
+    for (at, &old) in offsets.clone().zip(order) {
+        out[at] = first;
+        let targets = targets(game, old as usize);
+        out[end..][..targets.len()].iter_mut().zip(targets).for_each(|(word, &target)| *word = map[target as usize]);
+        first += targets.len() as u32;
+        end += targets.len();
+    }
+    out[offsets.end - 1] = first;
     for &old in order {
         let counts = counts(game, old as usize);
         out[end..end + counts.len()].copy_from_slice(counts);

@@ -2,8 +2,8 @@
 //! command.
 use hingrezh::check::call::{LIBRARY, PLAIN, perform, unlawful};
 use hingrezh::check::cases;
-use hingrezh::{Answer, FileFault, Model, Party, Refusal, Room};
-use hingrezh::{counted_lines, game_lines, game_words, read_pgsolver, restrict, write_pgsolver};
+use hingrezh::{Answer, FileFault, Layout, Model, Party, Refusal, Room};
+use hingrezh::{counted_lines, game_lines, read_pgsolver, restrict, write_pgsolver};
 
 #[test]
 fn worked_cases_and_readings() {
@@ -49,10 +49,13 @@ fn text_of_case_1() {
     let written = write_pgsolver(&built.game);
     assert_eq!(written.answer, Answer::Done { steps: 37, vertices: 0, edges: 0 });
     assert_eq!(String::from_utf8(written.text.clone()).unwrap(), "parity 2;\n0 0 0 1;\n1 0 0 2;\n2 0 1 0;\n");
-    // The text has no counts.
-    let mut uncounted = built.clone();
-    uncounted.game[game_words(3, 3) - 3..].fill(0);
-    assert_eq!(read_pgsolver(&written.text, Room { vertices: 3, edges: 3 }), uncounted);
+    // The text has no states, items and counts.
+    let mut read = built.clone();
+    let layout = Layout { vertices: 3, edges: 3 };
+    for column in [layout.states(), layout.items(), layout.counts()] {
+        read.game[column].fill(0);
+    }
+    assert_eq!(read_pgsolver(&written.text, Room { vertices: 3, edges: 3 }), read);
 }
 
 #[test]

@@ -1,5 +1,5 @@
 //! The command as people use it: options, exit statuses, messages, bounds, a night's folder.
-use hingrezh::{Answer, Formulas, Game, Model, Player, Refusal, Room, Slices};
+use hingrezh::{Answer, Formulas, Game, Layout, Model, Player, Refusal, Room, Slices};
 use hingrezh::{bytes_of, game_words, read_pgsolver, restrict, words_of, write_pgsolver};
 use std::fs;
 use std::io::Write;
@@ -143,7 +143,7 @@ fn help_and_version() {
     let at = &folder("help");
     let manual = fs::read_to_string(concat!(env!("CARGO_MANIFEST_DIR"), "/man/hingrezh.1")).unwrap();
     let manual = manual.replace("\\-", "-");
-    for command in ["build", "night", "read", "restrict", "expand", "show", "dot"] {
+    for command in ["build", "night", "read", "restrict", "expand", "show", "where", "dot"] {
         let asked = [format!("{command} --help"), format!("{command} -h x y"), format!("help {command}")];
         let texts = asked.map(|line| {
             let got = hingrezh(at, &line);
@@ -275,6 +275,37 @@ fn refused<const N: usize>(at: &Path, groups: [String; N], told: &str, who: &str
     }
 }
 
+/// Words that are no game, or none that is restricted.
+const NO_GAMES: [(&str, &str); 13] = [
+    ("1 1", "refused 51 0: a game begins with three words"),
+    ("0 0 0 0", "refused 51 0: the game has no vertex"),
+    ("1 1 0 0 0 0 1", "refused 51 0: 1 vertices and 1 edges make 11 words, and there are 7; to be"),
+    (
+        "1 1 0  0  0  0 1  0",
+        "refused 51 0: 1 vertices and 1 edges make 11 words, and there are 8: the vertices' states and items and \
+         the edges' counts are missing; to be",
+    ),
+    (
+        "1 1 0  0  0  0 1  0  0",
+        "refused 51 0: 1 vertices and 1 edges make 11 words, and there are 9: the vertices' states and items are \
+         missing; to be",
+    ),
+    ("1 1 0  0  0  0  0  1 1  0  0", "refused 52 7: the edges of vertex 0 begin at 1 and not at 0"),
+    (
+        "2 2 0  0 0  0 0  0 0  0 0  0 2 1  0 0  0 0",
+        "refused 52 13: the edges of vertex 1 begin at 2 and end before it, at 1",
+    ),
+    ("1 1 0  0  0  0  0  0 0  0  0", "refused 52 8: the edges of the last vertex, 0, end at 0, and there are 1"),
+    ("1 1 3  0  0  0  0  0 1  0  0", "refused 53 2: the initial vertex is 3, and there is one vertex, number 0"),
+    ("1 1 0  5  0  0  0  0 1  0  0", "refused 53 3: vertex 0 has owner 5; 0 is Even, 1 is Odd"),
+    ("1 1 0  2  0  0  0  0 1  0  0", "refused 53 3: vertex 0 has owner 2; 0 is Even, 1 is Odd"),
+    (
+        "2 2 0  0 0  0 0  0 0  0 0  0 1 2  0 7  9 9",
+        "refused 53 15: edge 1, from vertex 1, leads to vertex 7, and there are 2 vertices",
+    ),
+    ("1 0 0  2  0  0  0  0 0", "refused 53 3: the game is cut: vertex 0 is still waiting"),
+];
+
 #[test]
 fn refusals_of_rooms_and_games() {
     let at = &folder("games");
@@ -291,26 +322,7 @@ fn refusals_of_rooms_and_games() {
         assert_eq!(status(&got), 2, "{line}");
         assert!(err(&got).contains(told), "{line}: {}", err(&got));
     }
-    for (game, told) in [
-        ("1 1", "refused 51 0: a game begins with three words"),
-        ("0 0 0 0", "refused 51 0: the game has no vertex"),
-        ("1 1 0 0 0 0 1", "refused 51 0: 1 vertices and 1 edges make 9 words, and there are 7; to be"),
-        (
-            "1 1 0 0 0 0 1 0",
-            "refused 51 0: 1 vertices and 1 edges make 9 words, and there are 8: the edges' counts are missing",
-        ),
-        ("1 1 0 0 0 1 1 0 0", "refused 52 5: the edges of vertex 0 begin at 1 and not at 0"),
-        ("2 2 0 0 0 0 0 0 2 1 0 0 0 0", "refused 52 9: the edges of vertex 1 begin at 2 and end before it, at 1"),
-        ("1 1 0 0 0 0 0 0 0", "refused 52 6: the edges of the last vertex, 0, end at 0, and there are 1"),
-        ("1 1 3 0 0 0 1 0 0", "refused 53 2: the initial vertex is 3, and there is one vertex, number 0"),
-        ("1 1 0 5 0 0 1 0 0", "refused 53 3: vertex 0 has owner 5; 0 is Even, 1 is Odd"),
-        ("1 1 0 2 0 0 1 0 0", "refused 53 3: vertex 0 has owner 2; 0 is Even, 1 is Odd"),
-        (
-            "2 2 0 0 0 0 0 0 1 2 0 7 9 9",
-            "refused 53 11: edge 1, from vertex 1, leads to vertex 7, and there are 2 vertices",
-        ),
-        ("1 0 0 2 0 0 0", "refused 53 3: the game is cut: vertex 0 is still waiting"),
-    ] {
+    for (game, told) in NO_GAMES {
         fs::write(at.join("wrong.game"), bytes_of(&words(game))).unwrap();
         let got = hingrezh(at, "restrict wrong.game");
         assert_eq!((status(&got), out(&got)), (2, String::new()), "{told}");
@@ -337,19 +349,19 @@ fn bounds() {
     }
     let endless = limited(20_000, "build /dev/zero");
     assert_eq!((status(&endless), err(&endless).contains("promise 0 words, and more follow")), (65, true));
-    assert!(err(&limited(64_000, "restrict /dev/zero")).contains("more bytes than the 46137360"));
+    assert!(err(&limited(64_000, "restrict /dev/zero")).contains("more bytes than the 54525968"));
     assert_eq!(status(&limited(64_000, "read /dev/zero")), 71);
     input(at, "in.words");
     let no_memory = limited(20_000, "build in.words");
-    assert_eq!((status(&no_memory), err(&no_memory).contains("no memory for slices of 113246224 bytes")), (71, true));
+    assert_eq!((status(&no_memory), err(&no_memory).contains("no memory for slices of 121634832 bytes")), (71, true));
     assert_eq!(status(&limited(20_000, "build in.words --vertices 100 --edges 100")), 0);
     largest(at);
-    let got = limited(125_000, "night largest.model largest.formula -o out");
+    let got = limited(135_000, "night largest.model largest.formula -o out");
     assert_eq!((status(&got), err(&got)), (0, String::new()));
     assert!(out(&got).contains(" 1048560 "), "{}", out(&got));
-    let got = limited(125_000, "read out/largest.pg -o largest.game");
+    let got = limited(135_000, "read out/largest.pg -o largest.game");
     assert_eq!((status(&got), out(&got)), (0, "done 1048560 1048560 3801086\n".to_string()), "{}", err(&got));
-    let got = limited(125_000, "restrict largest.game -o restricted.game");
+    let got = limited(135_000, "restrict largest.game -o restricted.game");
     assert_eq!((status(&got), out(&got)), (0, "done 1048560 1048560 3801086\n".to_string()), "{}", err(&got));
     // Large files, which nobody looks at afterwards.
     fs::remove_dir_all(at).unwrap();
@@ -749,18 +761,166 @@ fn graphs() {
     file(at, "in.words", &["1 1 0 7", "1 0 0 0", "1 2 0", "2 5 0 0 0"]);
     let got = hingrezh(at, "dot in.words");
     assert_eq!(status(&got), 0);
-    for line in
-        ["  0 [shape=box, label=1, xlabel=0];", "  0 -> 1;", "  1 [shape=diamond, label=1, xlabel=1];", "  1 -> 1;"]
-    {
+    for line in [
+        "  0 [shape=box, label=1, xlabel=\"0: s0 i0\"];",
+        "  0 -> 1;",
+        "  1 [shape=diamond, label=1, xlabel=\"1: s0 i1\"];",
+        "  1 -> 1;",
+    ] {
         assert!(out(&got).lines().any(|found| found == line), "{line:?} in\n{}", out(&got));
     }
     assert_eq!(status(&hingrezh(at, "build in.words -o in.game")), 0);
     assert_eq!(out(&hingrezh(at, "dot in.game")), out(&got));
     let cut = hingrezh(at, "dot in.words --limit=0 -o cut.dot");
     assert_eq!((status(&cut), out(&cut)), (3, String::new()));
-    assert!(fs::read_to_string(at.join("cut.dot")).unwrap().contains("  0 [shape=ellipse, style=dashed, label=\"?\""));
+    let waiting = "  0 [shape=ellipse, style=dashed, label=\"?\", xlabel=\"0: s0 i0\"];\n";
+    assert!(fs::read_to_string(at.join("cut.dot")).unwrap().contains(waiting));
+    // A game that was read from text has nothing to say beside a vertex's number.
+    assert_eq!(status(&hingrezh(at, "build in.words --format pgsolver -o in.pg")), 0);
+    assert_eq!(status(&hingrezh(at, "read in.pg -o read.game")), 0);
+    let read = out(&hingrezh(at, "dot read.game"));
+    assert!(read.contains("  0 [shape=box, label=1, xlabel=0];\n") && read.contains("xlabel=1];\n"), "{read}");
     let large = hingrezh(at, "dot in.game --vertices 1");
     assert_eq!((status(&large), err(&large).contains("in.game: the game has 2 vertices")), (2, true));
+}
+
+/// Each vertex by its numbers and, with model and formula, in their words.
+#[test]
+fn what_a_vertex_stands_for() {
+    let at = &folder("where");
+    input(at, "in.words");
+    night_files(at);
+    assert_eq!(status(&hingrezh(at, "build in.words -o game")), 0);
+    let told = |line: &str, text: &str| {
+        let got = hingrezh(at, line);
+        assert_eq!((status(&got), out(&got), err(&got)), (0, text.to_string(), String::new()), "{line}");
+    };
+    let both = "--model plan.model --formula long.words";
+    told("where game 0", "vertex 0: state 0, item 0\nowner 0 (Even), priority 0, 1 edge\n");
+    told("where game 3", "vertex 3: state 1, item 2\nowner 1 (Odd), priority 0, 1 edge\n");
+    for (vertex, numbers, text) in [
+        (0, "state 0, item 0\nowner 0 (Even), priority 0, 1 edge", "item 0, an equation: nu X0 = [a7 || a9]X0"),
+        (1, "state 0, item 1\nowner 1 (Odd), priority 0, 2 edges", "item 1, a subformula: [a7 || a9]X0"),
+        (2, "state 0, item 2\nowner 1 (Odd), priority 0, 1 edge", "item 2, a subformula: X0"),
+    ] {
+        let state = "state 0: 2 transitions\n  0 -a7-> 0\n  0 -a9-> 1";
+        let text = format!("vertex {vertex}: {numbers}\n{text}\n{state}\n");
+        told(&format!("where game {vertex} {both}"), &text);
+        told(&format!("where --formula=long.words --model=plan.model -- game {vertex}"), &text);
+        // The restriction numbers these vertices alike.
+        assert_eq!(status(&hingrezh(at, "restrict game -o part")), 0);
+        told(&format!("where part {vertex} {both}"), &text);
+    }
+    let state = "state 1: 1 transition\n  1 -a7-> 1\n";
+    let text = "vertex 5: state 1, item 1\nowner 1 (Odd), priority 0, 1 edge\nitem 1, a subformula: [a7 || a9]X0\n";
+    told(&format!("where game 5 {both}"), &format!("{text}{state}"));
+}
+
+/// Every item of a formula over regular formulas stands as show lists it; the numbers are those of the game.
+#[test]
+fn vertices_over_regular_formulas() {
+    let at = &folder("where-regular");
+    regular_files(at);
+    assert_eq!(status(&hingrezh(at, "build in.words -o game")), 0);
+    let shown = out(&hingrezh(at, "show in.words"));
+    let words = words_of(&fs::read(at.join("game")).unwrap()).unwrap();
+    let game = Game::of_words(&words).unwrap();
+    for vertex in 0..game.vertices() {
+        let text = out(&hingrezh(at, &format!("where game {vertex} --model plan.model --formula over.words")));
+        let (state, item) = (game.state(vertex), game.item(vertex));
+        assert!(text.starts_with(&format!("vertex {vertex}: state {state}, item {item}\n")), "{text}");
+        let line = text.lines().nth(2).unwrap().split_once(": ").unwrap().1;
+        assert!(shown.contains(&format!("\n  {item}  {line}\n")), "{line}: {shown}");
+    }
+}
+
+/// The placeholder, a state without transitions and one with many; a waiting vertex of a cut game.
+#[test]
+fn vertices_of_other_kinds() {
+    let at = &folder("where-kinds");
+    let degrees = format!("22 0{}{}", " 0".repeat(22), " 1".repeat(22));
+    file(at, "plan.model", &["1 1 0 7", &format!("2 22 0 {degrees}")]);
+    file(at, "formula", &["1 2 0", "2 5 0 0 0"]);
+    let both = "--model plan.model --formula formula";
+    assert_eq!(status(&hingrezh(at, "build plan.model formula -o game")), 0);
+    let got = out(&hingrezh(at, &format!("where game 0 {both}")));
+    let placeholder = "item 0, an equation: mu X0 = <a7>true  (placeholder: the formula is no fixpoint)\n";
+    assert!(got.contains(placeholder) && got.contains("\nstate 0: 22 transitions\n  0 -a7-> 1\n"), "{got}");
+    assert_eq!((got.lines().count(), got.ends_with("\n  and 2 more\n")), (25, true), "{got}");
+    let got = out(&hingrezh(at, &format!("where game 2 {both}")));
+    assert_eq!(got.lines().skip(2).collect::<Vec<_>>(), ["item 2, a subformula: true", "state 1: no transitions"]);
+    assert_eq!(status(&hingrezh(at, "build plan.model formula --limit 2 -o cut")), 3);
+    let got = hingrezh(at, &format!("where cut 2 {both}"));
+    let waiting = "vertex 2: state 1, item 2\nowner 2 (it still waits: the game is cut), priority 0, no edges\n";
+    assert_eq!((status(&got), out(&got).starts_with(waiting)), (3, true), "{}", out(&got));
+    let settled = hingrezh(at, "where cut 1");
+    assert_eq!((status(&settled), out(&settled).contains("owner 0 (Even), priority 0, 1 edge")), (3, true));
+}
+
+/// What is asked for, the exit status, and what is said.
+const NOT_TOLD: [(&str, i32, &str); 18] = [
+    ("game", 64, "a game and the number of a vertex are wanted"),
+    ("game 1 2", 64, "a game and the number of a vertex are wanted"),
+    ("game -1", 64, "no option -1"),
+    ("game x", 64, "the vertex is a 32-bit number, not \"x\""),
+    ("game 4294967296", 64, "the vertex is a 32-bit number"),
+    ("game 1 --model plan.model", 64, "--model and --formula are wanted both, or neither"),
+    ("game 1 --formula long.words", 64, "--model and --formula are wanted both, or neither"),
+    ("game 6", 2, "game: there is no vertex 6: there are 6 vertices, 0 to 5"),
+    ("missing 0", 66, "missing: No such file"),
+    ("text 0", 65, "text: this is PGSolver text; `hingrezh read` makes a game's words of it"),
+    ("none 0", 2, "none: refused 51 0: 1 vertices and 1 edges make 11 words, and there are 9: the"),
+    ("game 0 --model missing --formula long.words", 66, "missing: No such file"),
+    ("game 0 --model plan.model --formula wrong.words", 2, "wrong.words: refused 43 0: node 0 of"),
+    (
+        "read 0 --model plan.model --formula long.words",
+        2,
+        "read: no game of plan.model, long.words: every vertex has state 0 and item 0: read from text, no states",
+    ),
+    (
+        "game 0 --model one.model --formula long.words",
+        2,
+        "game: no game of one.model, long.words: vertex 3 has state 1, and there is one state, number 0",
+    ),
+    (
+        "game 0 --model second.model --formula long.words",
+        2,
+        "vertex 0 has state 0 and item 0, and not 1, the initial state, and 0",
+    ),
+    ("game 0 --model plan.model --formula short.words", 2, "vertex 0 has owner 0 (Even), and its item 0 has 1 (Odd)"),
+    ("game 0 --model plan.model --formula other.words", 2, "vertex 0 has owner 0 (Even), and its item 0 has 1 (Odd)"),
+];
+
+/// A vertex that is not there, a file that is no game, a game that has no states or does not fit.
+#[test]
+fn vertices_that_are_not_told() {
+    let at = &folder("where-not");
+    input(at, "in.words");
+    night_files(at);
+    file(at, "other.words", &[ACTIONS, "3 6 4 8 0 0 0"]);
+    file(at, "one.model", &[LABELS, "1 1 0 1 0 0"]);
+    file(at, "second.model", &[LABELS, "2 3 1 2 1 0 1 0 0 1 1"]);
+    assert_eq!(status(&hingrezh(at, "build in.words -o game")), 0);
+    assert_eq!(status(&hingrezh(at, "build in.words --format pgsolver -o text")), 0);
+    assert_eq!(status(&hingrezh(at, "read text -o read")), 0);
+    fs::write(at.join("none"), bytes_of(&words("1 1 0  0  0  0 1  0  0"))).unwrap();
+    let both = "--model plan.model --formula long.words";
+    for (line, wanted, told) in NOT_TOLD {
+        let got = hingrezh(at, &format!("where {line}"));
+        assert_eq!((status(&got), out(&got)), (wanted, String::new()), "{line}: {}", err(&got));
+        assert!(err(&got).contains(told), "{line}: {}", err(&got));
+    }
+    let got = hingrezh(at, "where read 3");
+    let text =
+        "vertex 3: state 0, item 0, as every vertex here: read from text, no states\nowner 1 (Odd), priority 0, ";
+    assert_eq!((status(&got), out(&got)), (0, format!("{text}1 edge\n")));
+    // Too few items, too.
+    let mut game = words_of(&fs::read(at.join("game")).unwrap()).unwrap();
+    let items = Layout::of(&game).items();
+    game[items.end - 1] = 3;
+    fs::write(at.join("game"), bytes_of(&game)).unwrap();
+    let got = hingrezh(at, &format!("where game 0 {both}"));
+    assert!(err(&got).contains("vertex 5 has item 3, and there are 3 items, 0 to 2"), "{}", err(&got));
 }
 
 /// From state 0 by label 0 to 1, 1, 0 and 1, by label 1 to 0; state 1 is stuck. Greatest X, the diamond of label 0, X.
@@ -798,7 +958,8 @@ fn counts() {
     told("read text -o again", "done 6 6 7\n");
     told("restrict again --counts", plain);
     // Any number is a count: it is copied and shown.
-    fs::write(at.join("any"), bytes_of(&words("2 3 1 0 1 0 0 0 1 3 0 1 1 5 4294967295 0"))).unwrap();
+    let any = "2 3 1  0 1  0 0  7 8  9 4294967295  0 1 3  0 1 1  5 4294967295 0";
+    fs::write(at.join("any"), bytes_of(&words(any))).unwrap();
     told("restrict any --counts", "done 1 1 2\n0 1 0 0*4294967295 0\n");
 }
 
@@ -813,20 +974,26 @@ fn counts_in_graphs() {
     assert_eq!((edges[0].as_str(), &edges[1..]), ("  start -> 0;", &other.map(str::to_string)[..]));
     assert_eq!(status(&hingrezh(at, "build in.words -o game")), 0);
     assert_eq!(out(&hingrezh(at, "dot game")), out(&got));
-    // A game as it was before edges had counts.
-    let game = fs::read(at.join("game")).unwrap();
-    fs::write(at.join("old"), &game[..game.len() - 4 * 7]).unwrap();
-    let old = hingrezh(at, "dot old");
-    let told =
-        "old: refused 51 0: 6 vertices and 7 edges make 36 words, and there are 29: the edges' counts are missing";
-    assert_eq!((status(&old), err(&old).contains(told)), (2, true), "{}", err(&old));
+    // A game as it was before vertices had states and items, and before edges had counts, too.
+    let mut game = words_of(&fs::read(at.join("game")).unwrap()).unwrap();
+    let layout = Layout::of(&game);
+    game.drain(layout.states().start..layout.items().end);
+    for (words, missing) in [(36, "states and items"), (29, "states and items and the edges' counts")] {
+        fs::write(at.join("old"), bytes_of(&game[..words])).unwrap();
+        let old = hingrezh(at, "dot old");
+        let told = "old: refused 51 0: 6 vertices and 7 edges make 48 words, and there are";
+        let told = format!("{told} {words}: the vertices' {missing} are missing;");
+        assert_eq!((status(&old), err(&old).contains(&told)), (2, true), "{}", err(&old));
+    }
 }
 
-/// A game's words with all counts 0, as they are read from its text.
-fn uncounted(game: &[u8]) -> Vec<u8> {
+/// A game's words with all states, items and counts 0, as they are read from its text.
+fn as_read(game: &[u8]) -> Vec<u8> {
     let mut words = words_of(game).unwrap();
-    let counts = words.len() - words[1] as usize;
-    words[counts..].fill(0);
+    let layout = Layout::of(&words);
+    for column in [layout.states(), layout.items(), layout.counts()] {
+        words[column].fill(0);
+    }
     bytes_of(&words)
 }
 
@@ -855,9 +1022,9 @@ fn formats() {
         fs::write(at.join("text"), TEXT).unwrap();
         assert_eq!(hingrezh(at, &format!("restrict game --format {format}")).stdout, whole, "{format}");
         let read = hingrezh(at, &format!("read text --format {format}")).stdout;
-        assert_eq!(read, if format == "words" { uncounted(whole) } else { whole.to_vec() }, "{format}");
+        assert_eq!(read, if format == "words" { as_read(whole) } else { whole.to_vec() }, "{format}");
     }
-    assert_eq!(hingrezh(at, "read text").stdout, uncounted(&words));
+    assert_eq!(hingrezh(at, "read text").stdout, as_read(&words));
     let mapped = hingrezh(at, "restrict game --map --format pgsolver -o out");
     assert_eq!(out(&mapped), "done 6 6 7\nmap 0 1 2 3 4 5\n", "{}", err(&mapped));
     assert_eq!(fs::read_to_string(at.join("out")).unwrap(), TEXT);
@@ -893,7 +1060,10 @@ fn texts_that_are_read() {
     assert_eq!(out(&hingrezh(at, "read a.pg --format pgsolver")), "parity 1;\n0 2 0 1;\n1 4294967295 1 0,1;\n");
     let got = hingrezh(at, "read a.pg --vertices 2 --edges 3 -o a.game");
     assert_eq!((status(&got), out(&got)), (0, "done 2 2 3\n".to_string()), "{}", err(&got));
-    assert_eq!(fs::read(at.join("a.game")).unwrap(), bytes_of(&words("2 3 0 0 1 2 4294967295 0 1 3 1 0 1 0 0 0")));
+    assert_eq!(
+        fs::read(at.join("a.game")).unwrap(),
+        bytes_of(&words("2 3 0  0 1  2 4294967295  0 0  0 0  0 1 3  1 0 1  0 0 0"))
+    );
     for command in ["restrict", "dot"] {
         let got = hingrezh(at, &format!("{command} a.pg"));
         let told = "a.pg: this is PGSolver text; `hingrezh read` makes a game's words of it";
@@ -957,7 +1127,7 @@ fn refusals_of_rooms_of_texts_and_of_stuck_games() {
         assert!(err(&got).contains(told), "{options}: {}", err(&got));
     }
     assert_eq!(status(&hingrezh(at, "read a.pg --vertices 2 --edges 3 -o a.game")), 0);
-    fs::write(at.join("stuck.game"), bytes_of(&words("3 1 2 0 0 0 0 0 0 0 0 0 1 1 1"))).unwrap();
+    fs::write(at.join("stuck.game"), bytes_of(&words("3 1 2  0 0 0  0 0 0  0 0 0  0 0 0  0 0 0 1  1  1"))).unwrap();
     let got = hingrezh(at, "restrict stuck.game --format pgsolver -o out");
     assert_eq!((status(&got), out(&got), at.join("out").exists()), (2, String::new(), false));
     let told = "stuck.game: refused 98 0: in the restricted game vertex 1 has no successors, and in PGSolver text";
@@ -1015,18 +1185,20 @@ fn files_in(folder: &Path) -> Vec<String> {
     names
 }
 
-/// A game's words with the first of equal edges alone and all counts 0.
+/// A game's words with the first of equal edges alone and all states, items and counts 0.
 fn without_repeats(words: &[u32]) -> Vec<u32> {
     let game = Game::of_words(words).unwrap();
-    let n = game.vertices() as usize;
     let (mut offsets, mut targets) = (vec![0], Vec::new());
     for vertex in 0..game.vertices() {
         let successors = game.successors(vertex).iter().enumerate();
         targets.extend(successors.filter(|(at, to)| !game.successors(vertex)[..*at].contains(to)).map(|(_, &to)| to));
         offsets.push(targets.len() as u32);
     }
-    let counts = vec![0; targets.len()];
-    [&[words[0], targets.len() as u32, 0], &words[3..3 + 2 * n], &offsets[..], &targets[..], &counts[..]].concat()
+    let layout = Layout::of(words);
+    let vertices = &words[layout.owners().start..layout.priorities().end];
+    let (states_and_items, counts) = (vec![0; 2 * layout.vertices], vec![0; targets.len()]);
+    let head = [words[0], targets.len() as u32, 0];
+    [&head, vertices, &states_and_items[..], &offsets[..], &targets[..], &counts[..]].concat()
 }
 
 /// Each format has its ending, and old games in another one are gone; what was written is read back.
@@ -1182,9 +1354,11 @@ fn standard_input() {
     let text = hingrezh(at, "build in.words --format pgsolver -o -");
     let words = fed(at, "read -", &text.stdout);
     assert_eq!((status(&words), err(&words)), (0, "hingrezh: done 6 6 7\n".to_string()));
-    assert_eq!(words.stdout, uncounted(&hingrezh(at, "build in.words -o -").stdout));
+    assert_eq!(words.stdout, as_read(&hingrezh(at, "build in.words -o -").stdout));
     assert_eq!(fed(at, "restrict -", &words.stdout).stdout, hingrezh(at, "build in.words").stdout);
-    assert_eq!(fed(at, "dot -", &words.stdout).stdout, hingrezh(at, "dot in.words").stdout);
+    let built = hingrezh(at, "build in.words -o -").stdout;
+    assert_eq!(fed(at, "dot -", &built).stdout, hingrezh(at, "dot in.words").stdout);
+    assert_eq!(status(&fed(at, "where - 3", &built)), 0);
     let got = fed(at, "read -", b"parity");
     assert_eq!((status(&got), out(&got)), (2, String::new()));
     assert!(err(&got).starts_with("hingrezh: standard input: refused 91 0: line 1, column 1: "), "{}", err(&got));
@@ -1207,8 +1381,14 @@ fn examples() {
     let drawn = out(&hingrezh(at, &format!("dot {picture}/unit.words")));
     assert_eq!(drawn, fs::read_to_string(format!("{picture}/unit.dot")).unwrap());
     let text = fs::read_to_string(at.join("out/served.pg")).unwrap();
-    let example = concat!(env!("CARGO_MANIFEST_DIR"), "/../examples/rollout.pg");
-    assert_eq!(text, fs::read_to_string(example).unwrap());
+    let examples = concat!(env!("CARGO_MANIFEST_DIR"), "/../examples");
+    assert_eq!(text, fs::read_to_string(format!("{examples}/rollout.pg")).unwrap());
+    assert_eq!(status(&hingrezh(at, &format!("build {examples}/rollout.words -o game"))), 0);
+    let both = format!("--model {night}/rollout.model --formula {night}/served.words");
+    let got = out(&hingrezh(at, &format!("where game 9 {both}")));
+    let lines = got.lines().map(|line| format!("    {line}\n")).collect::<String>();
+    let text = fs::read_to_string(format!("{examples}/README.md")).unwrap();
+    assert!(got.lines().count() == 7 && text.contains(&lines), "{got}");
 }
 
 /// The wrapper's functions, with slices by need.
@@ -1223,13 +1403,13 @@ fn texts_by_the_library() {
     assert_eq!(Room::of_text(&text), Room { vertices: 6, edges: 7 });
     for room in [room, Room::of_text(&text), Room::MOST] {
         let read = read_pgsolver(&text, room);
-        assert_eq!((read.answer, bytes_of(&read.game)), (built.answer, uncounted(&bytes_of(&built.game))));
+        assert_eq!((read.answer, bytes_of(&read.game)), (built.answer, as_read(&bytes_of(&built.game))));
     }
     let refused = |number: u32, place: u32| Answer::Refused(Refusal { number, place });
     assert_eq!(read_pgsolver(&text, Room { vertices: 6, edges: 6 }).answer, refused(93, 0));
     assert_eq!(read_pgsolver(&text, Room { vertices: u32::MAX, edges: u32::MAX }).answer, refused(1, 0));
     assert_eq!(read_pgsolver(b"", Room::of_text(b"")).answer, refused(91, 0));
-    assert_eq!(write_pgsolver(&words("1 0 0 0 0 0 0")).answer, refused(98, 0));
+    assert_eq!(write_pgsolver(&words("1 0 0 0 0 0 0 0 0")).answer, refused(98, 0));
     assert_eq!(write_pgsolver(&words("1 4294967295 0")).answer, refused(51, 0));
     let cut = model.build(room, 1);
     assert_eq!(cut.view().unwrap().to_pgsolver(), Err(Refusal { number: 53, place: 4 }));
@@ -1258,18 +1438,25 @@ fn games_by_vertex() {
     let cut = model.build(Room { vertices: 10, edges: 10 }, 1);
     assert_eq!((cut.view().unwrap().first_waiting(), cut.view().unwrap().owner(1)), (Some(1), None));
     let wrong = |text: &str| Game::of_words(&words(text)).map(|_| ());
-    assert_eq!(wrong("1 1 0 2 0 0 1 0 0"), Err(Refusal { number: 53, place: 3 }));
-    assert_eq!(wrong("1 1 0 0 0 0 1 1 0"), Err(Refusal { number: 53, place: 7 }));
-    assert_eq!(wrong("1 1 0 0 0 0 2 0 0"), Err(Refusal { number: 52, place: 6 }));
-    assert_eq!(wrong("1 1 0 0 0 0 1 0"), Err(Refusal { number: 51, place: 0 }));
-    assert_eq!(wrong("1 1 0 0 0 0 1 0 4294967295"), Ok(()));
-    // Three transitions from vertex 0 to 1 and one to 0; vertex 1 has an added loop. The restriction keeps the counts.
+    assert_eq!(wrong("1 1 0  2  0  0  0  0 1  0  0"), Err(Refusal { number: 53, place: 3 }));
+    assert_eq!(wrong("1 1 0  0  0  0  0  0 1  1  0"), Err(Refusal { number: 53, place: 9 }));
+    assert_eq!(wrong("1 1 0  0  0  0  0  0 2  0  0"), Err(Refusal { number: 52, place: 8 }));
+    assert_eq!(wrong("1 1 0  0  0  0 1  0  0"), Err(Refusal { number: 51, place: 0 }));
+    assert_eq!(wrong("1 1 0  0  0  4294967295  4294967295  0 1  0  4294967295"), Ok(()));
+    // Three transitions from state 0 to 1 and one to 0; vertex 2 has an added loop. The restriction keeps states, items
+    // and counts.
     let model = Model { system: words("2 4 0 4 0 0 0 1 0 1 1 0 1"), formula: words("2 5 0 0 0"), ..model };
     let built = model.build(Room { vertices: 10, edges: 10 }, u32::MAX);
     for game in [built.view().unwrap(), restrict(&built.game).view().unwrap()] {
         assert_eq!((game.successors(1), game.counts(1)), (&[2, 3][..], &[3, 1][..]));
         assert_eq!((game.successors(2), game.counts(2)), (&[2][..], &[0][..]));
+        let pairs: Vec<(u32, u32)> = (0..4).map(|vertex| (game.state(vertex), game.item(vertex))).collect();
+        assert_eq!((pairs, game.lacks_states()), (vec![(0, 0), (0, 1), (1, 2), (0, 2)], false));
     }
+    // So do vertices that wait.
+    let cut = model.build(Room { vertices: 10, edges: 10 }, 2);
+    let game = cut.view().unwrap();
+    assert_eq!((game.owner(2), game.state(2), game.item(2)), (None, 1, 2));
     let error: Box<dyn std::error::Error> = Box::new(Refusal { number: 23, place: 2 });
     assert!(error.to_string().contains("initial state"));
 }

@@ -31,12 +31,14 @@ static const uint32_t LABELS[HINGREZH_LABEL_WORDS(1)] = {1, 1, 0, 7};
 static const uint32_t SYSTEM[HINGREZH_SYSTEM_WORDS(1, 2)] = {1, 2, 0, 2, 0, 0, 0, 0};
 static const uint32_t ACTIONS[HINGREZH_NODE_WORDS(1)] = {1, 2, 0};
 static const uint32_t FORMULA[HINGREZH_NODE_WORDS(3)] = {3, 7, 5, 8, 0, 0, 0};
-static const uint32_t GAME[HINGREZH_GAME_WORDS(3, 3)] = {3, 3, 0, 0, 0, 1, 0, 0, 0, 0, 1, 2, 3, 1, 2, 0, 0, 2, 0};
+static const uint32_t GAME[HINGREZH_GAME_WORDS(3, 3)] = {3, 3, 0, 0, 0, 1, 0, 0, 0, 0, 0, 0, 0,
+                                                         1, 2, 0, 1, 2, 3, 1, 2, 0, 0, 2, 0};
 
-/* The same as PGSolver text, and what is read from it: the counts are not in the text. */
+/* The same as PGSolver text, and what is read from it: states, items and counts are not in the text. */
 static const char TEXT[] = "parity 2;\n0 0 0 1;\n1 0 0 2;\n2 0 1 0;\n";
 #define TEXT_LEN (sizeof TEXT - 1)
-static const uint32_t UNCOUNTED[HINGREZH_GAME_WORDS(3, 3)] = {3, 3, 0, 0, 0, 1, 0, 0, 0, 0, 1, 2, 3, 1, 2, 0, 0, 0, 0};
+static const uint32_t READ[HINGREZH_GAME_WORDS(3, 3)] = {3, 3, 0, 0, 0, 1, 0, 0, 0, 0, 0, 0, 0,
+                                                         0, 0, 0, 1, 2, 3, 1, 2, 0, 0, 0, 0};
 
 /* The box of any number of actions to true, and its expansion: greatest I, (box I) and true. */
 static const uint32_t REGULARS[HINGREZH_NODE_WORDS(2)] = {2, 3, 0, 0, 0};
@@ -87,6 +89,27 @@ static void a_run(void)
     translate(0, game, work, answer);
     CHECK(answered(answer, HINGREZH_CUT, 0, 1, 0));
     CHECK(game[3] == 2);
+    free(game);
+    free(work);
+}
+
+/* Two states with a transition from each to both, the second one initial: the words of a vertex by the places that the
+ * header names, of a waiting one too. */
+static void states_and_items(void)
+{
+    static const uint32_t system[HINGREZH_SYSTEM_WORDS(2, 4)] = {2, 4, 1, 2, 2, 0, 0, 0, 0, 0, 1, 1, 0};
+    uint32_t *game = lent(HINGREZH_GAME_WORDS(V, E)), *work = lent(HINGREZH_WORK_WORDS(V, E));
+    uint32_t answer[HINGREZH_ANSWER_WORDS], n;
+    hingrezh_translate(LABELS, sizeof LABELS / 4, system, sizeof system / 4, ACTIONS, sizeof ACTIONS / 4, FORMULA,
+                       sizeof FORMULA / 4, V, E, 2, game, HINGREZH_GAME_WORDS(V, E), work, HINGREZH_WORK_WORDS(V, E),
+                       answer);
+    CHECK(answered(answer, HINGREZH_CUT, 2, 4, 3));
+    n = game[0];
+    /* The equation and the diamond in state 1, and the reference in 1 and 0, which waits. */
+    CHECK(game[3 + 2 * n] == 1 && game[3 + 3 * n] == 0);
+    CHECK(game[3 + 2 * n + 1] == 1 && game[3 + 3 * n + 1] == 1);
+    CHECK(game[3 + 2] == 2 && game[3 + 2 * n + 2] == 1 && game[3 + 3 * n + 2] == 2);
+    CHECK(game[3 + 3] == 2 && game[3 + 2 * n + 3] == 0 && game[3 + 3 * n + 3] == 2);
     free(game);
     free(work);
 }
@@ -146,11 +169,13 @@ static void the_longest_text(void)
     for (v = 0; v < n; v++) {
         game[3 + v] = v % 2;
         game[3 + n + v] = UINT32_MAX - v;
-        game[3 + 2 * n + v] = v;
-        game[4 + 3 * n + v] = n - 1 - v;
-        game[4 + 4 * n + v] = 0;
+        game[3 + 2 * n + v] = 0;
+        game[3 + 3 * n + v] = 0;
+        game[3 + 4 * n + v] = v;
+        game[4 + 5 * n + v] = n - 1 - v;
+        game[4 + 6 * n + v] = 0;
     }
-    game[3 + 3 * n] = n;
+    game[3 + 5 * n] = n;
     hingrezh_write_pgsolver(game, words, text, most, answer);
     CHECK(answer[0] == HINGREZH_DONE && answer[1] <= most && answer[2] == 0 && answer[3] == 0);
     CHECK(memcmp(text, "parity 1048575;\n0 4294967295 0 1048575;\n", 40) == 0);
@@ -173,20 +198,22 @@ static void a_text_read(void)
     uint32_t answer[HINGREZH_ANSWER_WORDS];
     read_text(TEXT, game, answer);
     CHECK(answered(answer, HINGREZH_DONE, 3, 3, 3));
-    CHECK(memcmp(game, UNCOUNTED, sizeof UNCOUNTED) == 0);
+    CHECK(memcmp(game, READ, sizeof READ) == 0);
     CHECK(all_zero(game, HINGREZH_GAME_WORDS(3, 3), HINGREZH_GAME_WORDS(V, E)));
     memset(game, 7, HINGREZH_GAME_WORDS(V, E) * sizeof(uint32_t));
     read_text("parity 2;\n2 0 1 0,0 \"third; and last\";\n0 0 0 1 \"\";\n1 0 0 2;\n", game, answer);
     CHECK(answered(answer, HINGREZH_DONE, 3, 3, 3));
-    CHECK(memcmp(game, UNCOUNTED, sizeof UNCOUNTED) == 0);
+    CHECK(memcmp(game, READ, sizeof READ) == 0);
     free(game);
 }
 
 /* Each number of refusals, with the slices as they were. */
 static void refused_texts(void)
 {
-    static const uint32_t stuck[] = {2, 1, 0, 1, 1, 0, 0, 0, 1, 1, 1, 1};
-    static const uint32_t cut[] = {1, 0, 0, 2, 0, 0, 0};
+    static const uint32_t stuck[] = {2, 1, 0, 1, 1, 0, 0, 0, 0, 0, 0, 0, 1, 1, 1, 1};
+    static const uint32_t cut[] = {1, 0, 0, 2, 0, 0, 0, 0, 0};
+    /* GAME as games were before their vertices had states and items. */
+    static const uint32_t old[] = {3, 3, 0, 0, 0, 1, 0, 0, 0, 0, 1, 2, 3, 1, 2, 0, 0, 2, 0};
     uint32_t *game = lent(HINGREZH_GAME_WORDS(V, E));
     uint8_t text[64];
     uint32_t answer[HINGREZH_ANSWER_WORDS];
@@ -197,6 +224,8 @@ static void refused_texts(void)
     CHECK(answered(answer, HINGREZH_REFUSED, 53, 3, 0));
     /* A game without its counts. */
     hingrezh_write_pgsolver(GAME, HINGREZH_GAME_WORDS(3, 3) - 3, text, sizeof text, answer);
+    CHECK(answered(answer, HINGREZH_REFUSED, 51, 0, 0));
+    hingrezh_write_pgsolver(old, sizeof old / 4, text, sizeof text, answer);
     CHECK(answered(answer, HINGREZH_REFUSED, 51, 0, 0));
     CHECK(text[0] == 7 && text[63] == 7);
     memset(game, 7, HINGREZH_GAME_WORDS(V, E) * sizeof(uint32_t));
@@ -349,7 +378,7 @@ static void *many_runs(void *same)
         hingrezh_write_pgsolver(GAME, HINGREZH_GAME_WORDS(3, 3), text, TEXT_LEN, answer);
         *good = *good && answered(answer, HINGREZH_DONE, TEXT_LEN, 0, 0) && memcmp(text, TEXT, TEXT_LEN) == 0;
         read_text(TEXT, game, answer);
-        *good = *good && answered(answer, HINGREZH_DONE, 3, 3, 3) && memcmp(game, UNCOUNTED, sizeof UNCOUNTED) == 0;
+        *good = *good && answered(answer, HINGREZH_DONE, 3, 3, 3) && memcmp(game, READ, sizeof READ) == 0;
         expand(REGULARS, sizeof REGULARS / 4, OVER, sizeof OVER / 4, out, answer);
         *good = *good && answered(answer, HINGREZH_DONE, 11, 0, 0) && memcmp(out, EXPANDED, sizeof EXPANDED) == 0;
     }
@@ -409,8 +438,8 @@ static void macros(void)
     CHECK(strcmp(version, HINGREZH_VERSION) == 0);
     CHECK(strcmp(version, EXPECTED) == 0);
     /* Sums beyond 32 bits. */
-    CHECK(HINGREZH_GAME_WORDS(UINT32_MAX, UINT32_MAX) == (size_t)21474836479);
-    CHECK(HINGREZH_GAME_WORDS(HINGREZH_MOST_VERTICES, HINGREZH_MOST_EDGES) == (size_t)11534340);
+    CHECK(HINGREZH_GAME_WORDS(UINT32_MAX, UINT32_MAX) == (size_t)30064771069);
+    CHECK(HINGREZH_GAME_WORDS(HINGREZH_MOST_VERTICES, HINGREZH_MOST_EDGES) == (size_t)13631492);
     CHECK(HINGREZH_WORK_WORDS(HINGREZH_MOST_VERTICES, HINGREZH_MOST_EDGES) == (size_t)16777216);
     CHECK(HINGREZH_SYSTEM_WORDS(HINGREZH_MOST_STATES, HINGREZH_MOST_TRANSITIONS) == (size_t)589826);
     CHECK(HINGREZH_LABEL_WORDS(HINGREZH_MOST_ACTIONS) == (size_t)32770);
@@ -425,6 +454,7 @@ int main(void)
     macros();
     refusals();
     a_run();
+    states_and_items();
     a_restriction();
     a_written_text();
     the_longest_text();

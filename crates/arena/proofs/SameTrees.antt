@@ -10,7 +10,7 @@ use native.Mathlib.Omega.{arith}
 use lib.Dec.{eqb, ltb}
 use lib.ListN.{get_or, length}
 use Rattle.rules.specs.Answers.{Check}
-use Rattle.rules.specs.Lists.{In, largest, position, once}
+use Rattle.rules.specs.Lists.{In, from, largest, has, position, once}
 use Rattle.rules.specs.declared.Room.{Room}
 use Rattle.rules.specs.Words.{Input}
 use Rattle.rules.specs.Labels.{multiset}
@@ -26,9 +26,10 @@ use Rattle.rules.specs.Pairs.{Pair, same_pair, initial_pair, item_at, item_owner
 use Rattle.rules.specs.Pairs.{successors, formula_targets, item_targets, targets}
 use Rattle.rules.specs.Pairs.{formula_transitions, item_transitions, modal_transitions, leading_to, transitions_behind}
 use Rattle.rules.specs.Walk.{Stand, walk}
-use Rattle.rules.specs.Game.{Vertex, vertices}
+use Rattle.rules.specs.Game.{Vertex}
 use Rattle.rules.specs.Refusal.{refusal}
-use Rattle.rules.specs.Run.{Outcome, walk_of, vertices_of, walk_outcome, refused_or, run}
+use Rattle.rules.specs.Run.{Outcome, walk_of, walk_outcome, refused_or, run}
+use Rattle.rules.specs.Vertices.{Ruled, ruled_edge, ruled_vertex, totalised, settled_vertex, waiting_vertex, vertex_at, vertices_of}
 use Rattle.lists.proofs.Filters.{filter-agree}
 use Rattle.tables.proofs.Decode.{action-at, action_past}
 use Rattle.arena.specs.Reworded.{reworded, SameRanks, SameActions}
@@ -215,11 +216,25 @@ module _ (x : Input) (ls' acts' : List ℕ) (trees : (v : ℕ) → action_tree l
     same_walk k = ap (λ (next : Pair → List Pair). walk same_pair next (initial_pair x) k) all-targets
 
     module _ (rank : Ranking) (ranks : SameRanks rank x (reworded x ls' acts')) where
+      same_ruled : (st : Stand Pair) (p : Pair) → ruled_vertex rank (reworded x ls' acts') st p ≡ ruled_vertex rank x st p
+      unfolding ruled_vertex ruled_edge
+      same_ruled st p i =
+          record {
+            owner = same_owners p i;
+            priority = same_priorities rank ranks p i;
+            edges = map (λ q. record { target = position same_pair q st.known; count = all_behind i p q }) (all-targets i p);
+          }
+
+      same_vertex : (st : Stand Pair) (v : ℕ) → vertex_at rank (reworded x ls' acts') st v ≡ vertex_at rank x st v
+      unfolding vertex_at
+      same_vertex st v =
+          let p = get_or st.known v (initial_pair x) in
+          ap (λ (r : Ruled). cond (has eqb v st.waiting) (waiting_vertex p) (settled_vertex p (totalised v r)))
+          (same_ruled st p)
+
       pub same_vertices : (st : Stand Pair) → vertices_of rank (reworded x ls' acts') st ≡ vertices_of rank x st
       unfolding vertices_of
-      same_vertices st i =
-          vertices same_pair (all-targets i) (initial_pair x) (λ p. same_owners p i)
-          (λ p. same_priorities rank ranks p i) (all_behind i) st
+      same_vertices st i = map (λ v. same_vertex st v i) (from 0 (length st.known))
 
       -- the run is word for word the same, if both are refused or accepted alike
       pub same_run : (r : Room) (k : ℕ) (game work : List ℕ)

@@ -7,7 +7,7 @@ use lib.ListN.{length, get_or, take, drop, set, replicate, drop_of_length-le}
 use Rattle.std.proofs.lemmas.List.{drop_more}
 use Rattle.std.specs.List.{sum_by, range_with_len}
 use Rattle.std.proofs.lemmas.List.Sums.{sum_by-cons}
-use Rattle.rules.specs.Game.{Vertex, waiting_vertex, vertex_columns, edge_columns, edge_count, offsets, all_edges, columns}
+use Rattle.rules.specs.Game.{Vertex, blank_vertex, vertex_columns, edge_columns, edge_count, offsets, all_edges, columns}
 use Rattle.rules.specs.Game.{game_of, padded, game_words}
 use Rattle.games.specs.Columns.{edge_column, edge_column_of}
 use Rattle.games.proofs.Reading.{length_edges, length_edge_column}
@@ -30,8 +30,8 @@ pub wrote_as : {at r : ℕ} {xs ys out out' : List ℕ} → xs ≡ ys → Wrote 
 wrote_as {at} {r} {out = out} {out' = out'} e w = subst (λ (l : List ℕ). Wrote at l out out' r) e w
 
 module _ (vs : List Vertex) where
-  more : (i : ℕ) → i < length vs → drop i vs ≡ get_or vs i waiting_vertex ∷ drop (i + 1) vs
-  more i h = drop_more vs i waiting_vertex h
+  more : (i : ℕ) → i < length vs → drop i vs ≡ get_or vs i blank_vertex ∷ drop (i + 1) vs
+  more i h = drop_more vs i blank_vertex h
 
   none : (i : ℕ) → length vs ≤ i → drop i vs ≡ []
   none i h = drop_of_length-le vs h
@@ -42,7 +42,7 @@ module _ (vs : List Vertex) where
   Counted b i = b + edge_count (drop i vs) ≡ edge_count vs
 
   count-more : (i : ℕ) → i < length vs → edge_count (drop i vs) ≡ length (edges_of vs i) + edge_count (drop (i + 1) vs)
-  count-more i h = ap edge_count (more i h) ∙ more_edges (get_or vs i waiting_vertex) (drop (i + 1) vs)
+  count-more i h = ap edge_count (more i h) ∙ more_edges (get_or vs i blank_vertex) (drop (i + 1) vs)
 
   pub count_put : (b i degree : ℕ) → degree ≡ length (edges_of vs i) → i < length vs → Counted b i
       → Counted (b + degree) (i + 1)
@@ -75,7 +75,7 @@ module _ (vs : List Vertex) where
       → Offsets (b + degree) (i + 1) at (set out (at + i) b) out₀
   offsets_put b i degree at {out} {out₀} d h l w =
       let here : at + i < length out = omega (arith, w.1.long) in
-      let one = ap (offsets b) (more i h) ∙ more_offsets b (get_or vs i waiting_vertex) (drop (i + 1) vs)
+      let one = ap (offsets b) (more i h) ∙ more_offsets b (get_or vs i blank_vertex) (drop (i + 1) vs)
       ∙ ap (λ (n : ℕ). b ∷ offsets (b + n) (drop (i + 1) vs)) (sym d) in
       let there : at + i + 1 ≡ at + (i + 1) = omega arith in
       (count_put b i degree d h w.0, moved there (put here (turn one w.1)))
@@ -112,7 +112,7 @@ module _ (vs : List Vertex) where
   edges_put c i h l wrote w =
       called l wrote
       (turn (ap (edge_column_of c) (more i h)
-      ∙ column-more (edge_column c) (get_or vs i waiting_vertex) (drop (i + 1) vs)) w)
+      ∙ column-more (edge_column c) (get_or vs i blank_vertex) (drop (i + 1) vs)) w)
 
   pub edges_done : (c i : ℕ) {p at₀ : ℕ} {stretch out out₀ : List ℕ} → length vs ≤ i
       → Writing p (edge_column_of c (drop i vs)) out at₀ stretch out₀ → Wrote at₀ stretch out₀ out p

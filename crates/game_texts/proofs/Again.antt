@@ -10,11 +10,11 @@ use Rattle.std.specs.declared.result.Result.TheVariants.{Ok}
 use Rattle.rules.specs.declared.Room.{Room}
 use Rattle.rules.specs.Lists.{In, from, once}
 use Rattle.rules.specs.FaultyText.{FaultyReading}
-use Rattle.rules.specs.Game.{Edge, Vertex, edge_to, waiting_vertex, edge_count, game_of, padded, vertex_count}
-use Rattle.rules.specs.Game.{owner_in, priority_in, targets_in}
+use Rattle.rules.specs.Game.{Edge, Vertex, edge_to, blank_vertex, edge_count, game_of, padded, vertex_count}
+use Rattle.rules.specs.Game.{priority_in, targets_in}
 use Rattle.rules.specs.GameRefusal.{game_refusal}
 use Rattle.rules.specs.Pgsolver.{SolverLine, SolverText, ProperLine}
-use Rattle.rules.specs.PgsolverReading.{vertex_of, vertex_named, read_vertices, Readback, read_as, read_game}
+use Rattle.rules.specs.PgsolverReading.{text_vertex, vertex_of, vertex_named, read_vertices, Readback, read_as, read_game}
 use Rattle.rules.specs.PgsolverWriting.{game_text, refusal98, writing_refusal, written_game}
 use Rattle.lists.proofs.Members.{in_map}
 use Rattle.lists.proofs.Inserts.{once_in}
@@ -30,6 +30,7 @@ use Rattle.game_texts.specs.Repeats.{vertex_once, without_repeats, Held}
 use Rattle.game_texts.proofs.Parsing.{parse_says}
 use Rattle.game_texts.proofs.Exact.{passes98}
 use Rattle.game_texts.proofs.Numbered.{named}
+use Rattle.game_texts.proofs.Rows.{TextRow}
 use Rattle.game_texts.proofs.Saying.{once_once, once_some}
 use Rattle.game_texts.proofs.ReadingExact.{reading_passed}
 use Rattle.game_texts.proofs.Readable.{Readable, reading_readable, readable_done, read_passes, read_length}
@@ -54,13 +55,9 @@ module _ {r : Room} {bytes : List ℕ} {n : ℕ} (t : SolverText) (c : Readable 
   proper = (parse_says bytes t c.parsed).proper
 
   -- what is read of the vertex of a line
-  row : (l : SolverLine) → In l t.lines
-      → (owner_in g l.number ≡ l.owner) × (priority_in g l.number ≡ l.priority)
-      × (targets_in g l.number ≡ once eqb l.successors)
+  row : (l : SolverLine) → In l t.lines → TextRow g l.number l.owner l.priority (once eqb l.successors)
   row l i =
-      let (a, b, d, e) = read_row t c [] l i in
-      subst (λ (x : List ℕ). (owner_in x l.number ≡ l.owner) × (priority_in x l.number ≡ l.priority)
-      × (targets_in x l.number ≡ once eqb l.successors)) plain (a, b, d)
+      subst (λ (x : List ℕ). TextRow x l.number l.owner l.priority (once eqb l.successors)) plain (read_row t c [] l i)
 
   -- what holds of the vertex of every line holds of every vertex
   each_vertex : (P : ℕ → Type 0) → ((l : SolverLine) → In l t.lines → P l.number) → (v : ℕ) → v < suc t.highest
@@ -70,20 +67,20 @@ module _ {r : Room} {bytes : List ℕ} {n : ℕ} (t : SolverText) (c : Readable 
       subst P e (f l i)
 
   accepted : game_refusal g ≡ Ok tt
-  unfolding vertex_of
+  unfolding vertex_of text_vertex
   accepted =
-      owned_passes vs waiting_vertex (omega (arith, read_length t c))
+      owned_passes vs blank_vertex (omega (arith, read_length t c))
       (omega (arith, read_length t c, (read_few t c).0, (room_most t c).0))
       (omega (arith, (read_few t c).1, (room_most t c).1))
-      (λ v h. each_vertex (λ u. (e : Edge) → In e (get_or vs u waiting_vertex).edges → e.target < length vs) inside v
+      (λ v h. each_vertex (λ u. (e : Edge) → In e (get_or vs u blank_vertex).edges → e.target < length vs) inside v
       (omega (arith, read_length t c)))
-      (λ v h. each_vertex (λ u. (get_or vs u waiting_vertex).owner < 2) owned v (omega (arith, read_length t c)))
+      (λ v h. each_vertex (λ u. (get_or vs u blank_vertex).owner < 2) owned v (omega (arith, read_length t c)))
     where
-      inside : (l : SolverLine) → In l t.lines → (e : Edge) → In e (get_or vs l.number waiting_vertex).edges
+      inside : (l : SolverLine) → In l t.lines → (e : Edge) → In e (get_or vs l.number blank_vertex).edges
           → e.target < length vs
       inside l i e j =
           let (q, m, f) = in_map edge_to e (once eqb l.successors)
-          (subst (λ (x : Vertex). In e x.edges) (read_at_lem t c l i waiting_vertex) j) in
+          (subst (λ (x : Vertex). In e x.edges) (read_at_lem t c l i blank_vertex) j) in
           let z : e.target ≡ q = ap (λ (y : Edge). y.target) f in
           omega (
             arith,
@@ -92,8 +89,8 @@ module _ {r : Room} {bytes : List ℕ} {n : ℕ} (t : SolverText) (c : Readable 
                 ((once_in number_equality l.successors q).0 m),
           )
 
-      owned : (l : SolverLine) → In l t.lines → (get_or vs l.number waiting_vertex).owner < 2
-      owned l i = omega (arith, ap (λ (x : Vertex). x.owner) (read_at_lem t c l i waiting_vertex), (proper l i).owned)
+      owned : (l : SolverLine) → In l t.lines → (get_or vs l.number blank_vertex).owner < 2
+      owned l i = omega (arith, ap (λ (x : Vertex). x.owner) (read_at_lem t c l i blank_vertex), (proper l i).owned)
 
   written : writing_refusal g ≡ Ok tt
   unfolding writing_refusal
@@ -103,7 +100,7 @@ module _ {r : Room} {bytes : List ℕ} {n : ℕ} (t : SolverText) (c : Readable 
     where
       leads : (l : SolverLine) → In l t.lines → ¬ (targets_in g l.number ≡ [])
       leads l i e =
-          let k : length (once eqb l.successors) ≡ 0 = ap length (sym (row l i).2 ∙ e) in
+          let k : length (once eqb l.successors) ≡ 0 = ap length (sym (row l i).targets ∙ e) in
           omega (arith, k, once_some l.successors (proper l i).leads)
 
   -- no edge is repeated
@@ -120,11 +117,11 @@ module _ {r : Room} {bytes : List ℕ} {n : ℕ} (t : SolverText) (c : Readable 
           line_once l i ∙ sym (named t.lines l (read_passes t c).apart i)
         where
           line_once : (l : SolverLine) → In l t.lines → vertex_once g l.number ≡ vertex_of l
-          line_once l i = unfold vertex_once vertex_of in
-              let (a, b, d) = row l i in
+          line_once l i = unfold vertex_once text_vertex vertex_of in
+              let r = row l i in
               let e : once eqb (targets_in g l.number) ≡ once eqb l.successors
-              = ap (once eqb) d ∙ once_once l.successors in
-              λ k. record { owner = a k; priority = b k; edges = map edge_to (e k) }
+              = ap (once eqb) r.targets ∙ once_once l.successors in
+              λ k. text_vertex (r.owner k) (r.priority k) (e k)
 
   held : Held g r
   held =
@@ -132,7 +129,7 @@ module _ {r : Room} {bytes : List ℕ} {n : ℕ} (t : SolverText) (c : Readable 
         vertices = omega (arith, counts, (read_few t c).0);
         edges = omega (arith, ap edge_count kept, (read_few t c).1);
         priorities = λ v h. each_vertex (λ u. priority_in g u < 4_294_967_296)
-            (λ l i. omega (arith, (row l i).1, read_priorities t c l i)) v (omega (arith, counts));
+            (λ l i. omega (arith, (row l i).priority, read_priorities t c l i)) v (omega (arith, counts));
       }
 
   read-words : (text game : List ℕ) → length game ≡ n → length (game_text g) ≤ length text

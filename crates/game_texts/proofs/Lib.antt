@@ -4,6 +4,7 @@ pub mod Exact
 pub mod Numbered
 pub mod WritingExact
 pub mod ReadingExact
+pub mod Rows
 pub mod Saying
 pub mod WritingDemands
 pub mod Readable

@@ -1,25 +1,23 @@
 -- What users of reading rely on holds of it, for every room, text and lent slice. Assumes nothing.
-use Prim.Native.Nat.{ℕ, ◌-◌, ◌<◌}
+use Prim.Native.Nat.{ℕ, ◌-◌}
 use native.Mathlib.Omega.{arith}
 use mathlib.Core.Path.{◌≡◌, refl, sym, ap, ap₂, ◌∙◌, subst}
-use mathlib.Core.List.{List, ◌++◌, map}
+use mathlib.Core.List.{List, ◌++◌}
 use lib.ListN.{length, replicate}
 use lib.Dec.{eqb}
 use Rattle.rules.specs.declared.Answer.TheVariants.{Done}
 use Rattle.rules.specs.declared.Room.{Room}
-use Rattle.rules.specs.Lists.{zeros, In, once}
-use Rattle.rules.specs.Game.{Edge, Vertex, waiting_vertex, edge_count, game_of, padded, vertex_count, edges_in, initial_in}
-use Rattle.rules.specs.Game.{owner_in, priority_in, targets_in, counts_in}
+use Rattle.rules.specs.Lists.{In, once}
+use Rattle.rules.specs.Game.{Vertex, blank_vertex, edge_count, game_of, padded, vertex_count, edges_in, initial_in}
 use Rattle.rules.specs.Pgsolver.{SolverLine, SolverText}
 use Rattle.rules.specs.PgsolverCalls.{ReadsGame, ReadingDemand}
-use Rattle.rules.specs.PgsolverReading.{vertex_of, read_vertices, Readback, read_as, read_game}
-use Rattle.games.proofs.Columns.{targets_plain}
-use Rattle.games.proofs.Reading.{count_read, edges_read, vertex_read, edge_words_read}
+use Rattle.rules.specs.PgsolverReading.{text_vertex, vertex_of, read_vertices, Readback, read_as, read_game}
+use Rattle.games.proofs.Reading.{count_read, edges_read, row_read}
 use Rattle.games.proofs.Rewriting.{Whole}
 use Rattle.theorems.proofs.Read.{whole_game}
 use Rattle.restrictions.proofs.Restriction.{padded-length}
 use Rattle.game_texts.proofs.Parsing.{parse_says}
-use Rattle.game_texts.proofs.Saying.{counts_plain}
+use Rattle.game_texts.proofs.Rows.{TextRow, text_row}
 use Rattle.game_texts.proofs.ReadingExact.{reading_exact, reading_passed}
 use Rattle.game_texts.proofs.Readable.{Readable, reading_readable, readable_done, reading_refused}
 use Rattle.game_texts.proofs.Readable.{read_passes, read_length, line_of, read_at_lem, read_fits}
@@ -30,23 +28,12 @@ module _ {r : Room} {bytes : List ℕ} {n : ℕ} (t : SolverText) (c : Readable 
 
   -- what is read of the vertex of a line, whatever words follow the game
   pub read_row : (rest : List ℕ) (l : SolverLine) → In l t.lines
-      → (owner_in (game_of 0 (read_vertices t) ++ rest) l.number ≡ l.owner)
-      × (priority_in (game_of 0 (read_vertices t) ++ rest) l.number ≡ l.priority)
-      × (targets_in (game_of 0 (read_vertices t) ++ rest) l.number ≡ once eqb l.successors)
-      × (counts_in (game_of 0 (read_vertices t) ++ rest) l.number ≡ zeros (once eqb l.successors))
-  unfolding vertex_of
+      → TextRow (game_of 0 (read_vertices t) ++ rest) l.number l.owner l.priority (once eqb l.successors)
+  unfolding vertex_of text_vertex
   read_row rest l i =
-      let k : l.number < length vs = omega (arith, read_length t c, ((read_passes t c).inside l i).0) in
-      let e = read_at_lem t c l i waiting_vertex in (
-        vertex_read 0 vs rest 0 l.number waiting_vertex (omega arith) k ∙ ap (λ (v : Vertex). v.owner) e,
-        vertex_read 0 vs rest 1 l.number waiting_vertex (omega arith) k ∙ ap (λ (v : Vertex). v.priority) e,
-        edge_words_read 0 vs rest 0 l.number waiting_vertex (omega arith) k
-            ∙ ap (λ (v : Vertex). map (λ (z : Edge). z.target) v.edges) e
-            ∙ targets_plain (once eqb l.successors),
-        edge_words_read 0 vs rest 1 l.number waiting_vertex (omega arith) k
-            ∙ ap (λ (v : Vertex). map (λ (z : Edge). z.count) v.edges) e
-            ∙ counts_plain (once eqb l.successors),
-      )
+      text_row
+      (row_read 0 vs rest l.number blank_vertex (vertex_of l)
+      (omega (arith, read_length t c, ((read_passes t c).inside l i).0)) (read_at_lem t c l i blank_vertex))
 
   abbrev h : List ℕ
   h = padded n (game_of 0 vs)
@@ -75,10 +62,12 @@ module _ {r : Room} {bytes : List ℕ} {n : ℕ} (t : SolverText) (c : Readable 
         vertices = counts ∙ read_length t c;
         first = first;
         numbers = λ l i. omega (arith, counts, read_length t c, ((read_passes t c).inside l i).0);
-        owners = λ l i. (read_row rest l i).0;
-        priorities = λ l i. (read_row rest l i).1;
-        edges = λ l i. (read_row rest l i).2;
-        counts = λ l i. (read_row rest l i).3;
+        owners = λ l i. (read_row rest l i).owner;
+        priorities = λ l i. (read_row rest l i).priority;
+        edges = λ l i. (read_row rest l i).targets;
+        counts = λ l i. (read_row rest l i).counts;
+        states = λ l i. (read_row rest l i).state;
+        items = λ l i. (read_row rest l i).item;
         given = λ v k. line_of t c v (omega (arith, counts, read_length t c));
         begins = whole.begins;
         follows = whole.follows;

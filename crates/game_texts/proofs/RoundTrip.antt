@@ -1,6 +1,6 @@
 -- The round trip (document 02, #101: "Writing a game that starts at 0 and reading it into room that holds it gives that
--- game with repeated edges removed"; #102: "the text's round trip now speaks only of what it shows": every count that
--- comes back is 0), for every game that has no fault in writing. Assumes nothing.
+-- game with repeated edges removed"; #102: "the text's round trip now speaks only of what it shows": every count, and
+-- with #105 every state and item, that comes back is 0), for every game that has no fault in writing. Assumes nothing.
 use Prim.Native.Nat.{ℕ, suc, ◌-◌, ◌≤◌, ◌<◌}
 use native.Mathlib.Omega.{arith}
 use native.Mathlib.Decide.{ℕ_discrete}
@@ -18,7 +18,7 @@ use Rattle.rules.specs.Words.{game_length, work_length}
 use Rattle.rules.specs.Faulty.{FaultyRoom, wrong_game}
 use Rattle.rules.specs.FaultyText.{FaultyWriting}
 use Rattle.rules.specs.Game.{Vertex, edge_count, padded, vertex_count}
-use Rattle.rules.specs.Game.{initial_in, priority_in, targets_in, counts_in}
+use Rattle.rules.specs.Game.{initial_in, priority_in, state_in, item_in, targets_in, counts_in}
 use Rattle.rules.specs.Refusal.{refusal1, refusal2}
 use Rattle.rules.specs.Texts.{Written}
 use Rattle.rules.specs.PgsolverReading.{refusal93, Readback, read_as, read_game}
@@ -26,7 +26,7 @@ use Rattle.rules.specs.PgsolverWriting.{line_in, text_in, game_text, writing_ref
 use Rattle.tables.proofs.Faults.{if-false, first_passed, then_both, then_passed}
 use Rattle.tables.proofs.Order.{Rising, if_numbered, passed_exact}
 use Rattle.tables.proofs.FaultyWords.{room_checks, room_sound, room_finds}
-use Rattle.game_texts.specs.Repeats.{without_repeats, without_counts, Held, RepeatsRemoved, RoundTripped}
+use Rattle.game_texts.specs.Repeats.{without_repeats, as_shown, Held, RepeatsRemoved, RoundTripped}
 use Rattle.game_texts.specs.WritingCheck.{writing_check}
 use Rattle.game_texts.proofs.Parsing.{says_parse}
 use Rattle.game_texts.proofs.Exact.{all_made, in_word, passes92}
@@ -122,16 +122,18 @@ module _ (g text : List ℕ) (r : Room) (game : List ℕ) (sound : (n p : ℕ) �
         removed = subst (λ (k : Readback). RepeatsRemoved g k.game) (sym b) (repeats_removed g (length game) start);
       }
 
-  -- a game without repeated edges comes back as the text shows it: every word is as it was, but for the counts
+  -- a game without repeated edges comes back as the text shows it: but for states, items and counts, as it was
   pub round_trip_shown : ((v : ℕ) → v < vertex_count g → Distinct (targets_in g v))
       → (read_game r (take round_trip.size (written_game g text).text) game).game
-      ≡ padded (length game) (without_counts g)
+      ≡ padded (length game) (as_shown g)
   round_trip_shown single =
-      round_trip.leaves ∙ ap (padded (length game)) (none_removed g (written_good g accepted) start single)
+      round_trip.leaves ∙ ap (padded (length game)) (none_removed g single)
 
-  -- so if besides every count is 0, as in a game that was read from text, it comes back as it was
+  -- so if besides these are all 0, as in a game that was read from text, it comes back as it was
   pub round_trip_same : ((v : ℕ) → v < vertex_count g → Distinct (targets_in g v))
+      → ((v : ℕ) → v < vertex_count g → (state_in g v ≡ 0) × (item_in g v ≡ 0))
       → ((v : ℕ) → v < vertex_count g → counts_in g v ≡ zeros (targets_in g v))
       → (read_game r (take round_trip.size (written_game g text).text) game).game ≡ padded (length game) g
-  round_trip_same single none =
-      round_trip_shown single ∙ ap (padded (length game)) (shown-same g (written_good g accepted) none)
+  round_trip_same single zero_pair none =
+      round_trip_shown single
+      ∙ ap (padded (length game)) (shown-same g (written_good g accepted) start zero_pair none)

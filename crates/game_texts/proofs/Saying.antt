@@ -9,11 +9,11 @@ use lib.ListN.{length, length-map}
 use lib.Dec.{eqb}
 use borrow.Author.Tests.{eq-eqb, ne_eqb}
 use Rattle.std.specs.declared.result.Result.TheVariants.{Ok}
-use Rattle.rules.specs.Lists.{word, zeros, In, Distinct, from, once}
-use Rattle.rules.specs.Game.{Edge, edge_to, vertex_count, owner_in, priority_in, targets_in}
+use Rattle.rules.specs.Lists.{word, In, Distinct, from, once}
+use Rattle.rules.specs.Game.{vertex_count, owner_in, priority_in, targets_in}
 use Rattle.rules.specs.Pgsolver.{SolverLine, ProperLine, HasForm}
 use Rattle.rules.specs.PgsolverWriting.{line_in, text_in, game_text, writing_refusal}
-use Rattle.rules.specs.PgsolverReading.{vertex_of, vertex_named, read_vertices, numbers_of}
+use Rattle.rules.specs.PgsolverReading.{text_vertex, vertex_of, vertex_named, read_vertices, numbers_of}
 use Rattle.lists.proofs.Members.{in_map, in_at}
 use Rattle.lists.proofs.Inserts.{once_in, once_distinct, inserts_new}
 use Rattle.lists.proofs.Equalities.{number_equality}
@@ -42,20 +42,12 @@ once_some xs h = go (once eqb xs) ((once_in number_equality xs (word xs 0)).1 (i
     go [] j = absurd j
     go (y ∷ ys) j = omega arith
 
--- the counts of edges that lead to these numbers
-pub counts_plain : (ts : List ℕ) → map (λ (e : Edge). e.count) (map (λ t. edge_to t) ts) ≡ zeros ts
-unfolding zeros
-counts_plain [] = refl
-counts_plain (t ∷ ts) = ap (λ (l : List ℕ). 0 ∷ l) (counts_plain ts)
-
 -- ---- the lines
 
 -- the vertex that a line of the text gives
 vertex_said : (g : List ℕ) (v : ℕ) → vertex_of (line_in g v) ≡ vertex_once g v
-unfolding line_in vertex_of vertex_once
-vertex_said g v =
-    ap (λ (l : List ℕ). record { owner = owner_in g v; priority = priority_in g v; edges = map edge_to l })
-    (once_once (targets_in g v))
+unfolding line_in vertex_of vertex_once text_vertex
+vertex_said g v = ap (text_vertex (owner_in g v) (priority_in g v)) (once_once (targets_in g v))
 
 line_named : (g : List ℕ) (i n v : ℕ) → i ≤ v → v < i + n
     → vertex_named (map (line_in g) (from i n)) v ≡ vertex_of (line_in g v)

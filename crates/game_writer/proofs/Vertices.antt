@@ -1,5 +1,5 @@
 -- What is shown of one vertex: its owner, priority and edges, by whether it is settled and by its first edge; and that
--- one that is not settled is shown as the rules' waiting vertex. Assumes nothing.
+-- one that is not settled is shown as the rules' waiting vertex of its pair. Assumes nothing.
 use mathlib.Core.Path.{◌≡◌, refl, sym, ap, ◌∙◌, subst}
 use mathlib.Core.Bool.{true, false}
 use mathlib.Core.List.{List, [], ◌∷◌, map, append-nil}
@@ -14,17 +14,19 @@ use Rattle.std.specs.Option.{SomeIff}
 use Rattle.player.specs.Player.{player_index}
 use Rattle.player.specs.declared.Player.{Player}
 use Rattle.rules.specs.Lists.{word, from}
-use Rattle.rules.specs.Game.{Edge, edge_columns, stuck_priority, waiting_vertex}
+use Rattle.rules.specs.Game.{Edge, edge_columns}
+use Rattle.rules.specs.Vertices.{stuck_priority, waiting_vertex}
 use Rattle.lists.proofs.Ranges.{from-length}
 use Rattle.games.specs.Columns.{edge_column}
 use Rattle.games.proofs.Columns.{each_edge_column}
 use Rattle.work_slice.specs.Regions.{region, edges_end, edge_word}
 use Rattle.words.specs.Stretches.{Wrote}
 use Rattle.item_table.specs.Entries.{kind_owner}
+use Rattle.pairs.specs.Table.{state_at, item_at}
 use Rattle.settling.specs.Stand.{edges_of, counts_of, settled_in, start_in, degree_in}
 use Rattle.settling.proofs.Buffer.{settled-in, unsettled_in, degree_unsettled}
 use Rattle.game_writer.proofs.Rows.{down_below}
-use Rattle.game_writer.specs.Shown.{item_in, first_target, loops_in, shown_player, shown_owner, shown_priority}
+use Rattle.game_writer.specs.Shown.{first_target, loops_in, shown_player, shown_owner, shown_priority}
 use Rattle.game_writer.specs.Shown.{shown_edge, shown_edges, shown_vertex}
 
 -- ---- whether it is settled, as code reads it: `degree` is none before it is settled
@@ -46,7 +48,7 @@ module _ (kinds w : List ℕ) (v u : ℕ) where
   owner-settled e = rw e refl
 
   -- as code reads it
-  pub player_read : (item : ℕ) (o : Player) → item ≡ item_in w v u → o ≡ kind_owner (word kinds item) → o ≡ shown_player kinds w v u
+  pub player_read : (item : ℕ) (o : Player) → item ≡ item_at w v u → o ≡ kind_owner (word kinds item) → o ≡ shown_player kinds w v u
   unfolding shown_player
   player_read item o e f = f ∙ ap (λ (i : ℕ). kind_owner (word kinds i)) e
 
@@ -72,12 +74,12 @@ module _ (kinds priorities w : List ℕ) (v e u : ℕ) where
   priority_stuck d l = rw (d, l) refl
 
   pub priority_ranked : settled_in w v u ≡ true → loops_in w v e u ≡ false
-      → shown_priority kinds priorities w v e u ≡ word priorities (item_in w v u)
+      → shown_priority kinds priorities w v e u ≡ word priorities (item_at w v u)
   unfolding shown_priority
   priority_ranked d n = rw (d, n) refl
 
   -- as code reads it
-  pub ranked_read : (item : ℕ) → settled_in w v u ≡ true → loops_in w v e u ≡ false → item ≡ item_in w v u
+  pub ranked_read : (item : ℕ) → settled_in w v u ≡ true → loops_in w v e u ≡ false → item ≡ item_at w v u
       → word priorities item ≡ shown_priority kinds priorities w v e u
   ranked_read item d n i = ap (word priorities) i ∙ sym (priority_ranked d n)
 
@@ -216,11 +218,17 @@ module _ (w : List ℕ) (v e u n : ℕ) where
       head zero h q = absurd (omega arith)
       head (suc d) h q = unfold from in ap (λ (l : List ℕ). word l 0) q
 
--- a vertex that is not settled is shown as the rules' waiting vertex: owner 2, priority 0, no edges
+-- a vertex that is not settled is shown as the rules' waiting vertex of its pair: owner 2, priority 0, no edges
 pub shown_waiting : (kinds priorities w : List ℕ) (v e u : ℕ) → settled_in w v u ≡ false
-    → shown_vertex kinds priorities w v e u ≡ waiting_vertex
+    → shown_vertex kinds priorities w v e u ≡ waiting_vertex (state_at w v u, item_at w v u)
 unfolding shown_vertex waiting_vertex
 shown_waiting kinds priorities w v e u d =
     let a = owner_waits kinds w v u d in
     let b = priority_waits kinds priorities w v e u d in
-    λ i. record { owner = a i; priority = b i; edges = edges_none w v e u d i }
+    λ i. record {
+      owner = a i;
+      priority = b i;
+      state = state_at w v u;
+      item = item_at w v u;
+      edges = edges_none w v e u d i;
+    }

@@ -1,20 +1,18 @@
 -- The vertices that are shown, by their numbers, and what the whole game asks for. Assumes nothing.
 use mathlib.Core.Path.{◌≡◌, refl, sym, ap, ◌∙◌}
 use mathlib.Core.List.{List, [], ◌∷◌, map}
-use Prim.Native.Nat.{ℕ, ◌+◌, ◌≤◌, ◌<◌}
+use Prim.Native.Nat.{ℕ, ◌≤◌, ◌<◌}
 use native.Mathlib.Omega.{arith}
 use lib.ListN.{length, get_or, length-map}
-use Rattle.std.proofs.lemmas.List.{get_or-map}
 use Rattle.rules.specs.Lists.{from}
-use Rattle.rules.specs.Game.{Vertex, waiting_vertex, vertex_columns, edge_count, game_words}
+use Rattle.rules.specs.Game.{Vertex, blank_vertex, edge_count, game_words}
 use Rattle.games.specs.Columns.{vertex_column}
 use Rattle.settling.specs.Stand.{degree_in}
 use Rattle.game_columns.specs.Shown.{edges_of}
-use Rattle.game_writer.specs.Shown.{shown_owner, shown_priority, shown_edges, shown_vertex, shown_word, shown_vertices}
-use Rattle.game_writer.specs.Shown.{Showable}
+use Rattle.game_writer.specs.Shown.{shown_edges, shown_vertex, shown_word, shown_vertices, Showable}
 use Rattle.game_writer.proofs.Edges.{total}
 use Rattle.game_writer.proofs.Vertices.{edges_length}
-use Rattle.lists.proofs.Ranges.{from-length, from_at}
+use Rattle.lists.proofs.Ranges.{from-length, told_at}
 
 -- ---- the vertices
 
@@ -41,27 +39,17 @@ module _ (kinds priorities w : List ℕ) (v e : ℕ) where
   known_below n u h = omega (arith, h, shown_length n)
 
   -- a word, by the column
-  pub owner_shown : (column u r : ℕ) → column ≡ 0 → r ≡ shown_owner kinds w v u
+  pub word_shown : (c column u r : ℕ) → column ≡ c → r ≡ vertex_column c (shown_vertex kinds priorities w v e u)
       → r ≡ shown_word kinds priorities w v e column u
-  unfolding shown_word shown_vertex
-  owner_shown column u r z f = f ∙ ap (λ (c : ℕ). vertex_column c (shown_vertex kinds priorities w v e u)) (sym z)
-
-  pub priority_shown : (column u r : ℕ) → column < length vertex_columns → (¬ (column ≡ 0))
-      → r ≡ shown_priority kinds priorities w v e u
-      → r ≡ shown_word kinds priorities w v e column u
-  unfolding shown_word shown_vertex
-  priority_shown column u r h d f =
-      let z : 1 ≡ column = omega arith in
-      f ∙ ap (λ (c : ℕ). vertex_column c (shown_vertex kinds priorities w v e u)) z
+  unfolding shown_word
+  word_shown c column u r z f =
+      f ∙ ap (λ (d : ℕ). vertex_column d (shown_vertex kinds priorities w v e u)) (sym z)
 
   -- a vertex by its number
   vertex_at : (n u : ℕ) → u < n
-      → get_or (shown_vertices kinds priorities w v e n) u waiting_vertex ≡ shown_vertex kinds priorities w v e u
+      → get_or (shown_vertices kinds priorities w v e n) u blank_vertex ≡ shown_vertex kinds priorities w v e u
   unfolding shown_vertices
-  vertex_at n u h =
-      let here : 0 + u ≡ u = omega arith in
-      get_or-map (shown_vertex kinds priorities w v e) (from 0 n) u 0 waiting_vertex (omega (arith, from-length 0 n))
-      ∙ ap (shown_vertex kinds priorities w v e) (from_at 0 n u 0 h ∙ here)
+  vertex_at n u h = told_at (shown_vertex kinds priorities w v e) n u blank_vertex h
 
   pub edges_at : (n u : ℕ) → u < n → shown_edges w v e u ≡ edges_of (shown_vertices kinds priorities w v e n) u
   unfolding shown_vertex

@@ -1,28 +1,25 @@
 -- The vertices of a walk as the work words and the item table show them (document 01, "Words handed over": the work
--- slice; "A cut game shows a waiting vertex with owner 2, priority 0 and no edges"). Assumes nothing: these are
--- definitions.
+-- slice; "A cut game shows a waiting vertex with owner 2, priority 0 and no edges"; document 02, #105: "Each vertex,
+-- waiting ones too, gains its state and item number"). Assumes nothing: these are definitions.
 use Rattle.std.specs.Prelude.{◌≡◌, Bool, true, cond, ◌&&◌, List, map, ℕ, ◌+◌, ◌*◌, ◌≤◌, ◌<◌, length, eqb, ltb}
 use Rattle.player.specs.Player.{player_index}
 use Rattle.player.specs.declared.Player.{Player}
 use Rattle.rules.specs.Lists.{word, from}
 use Rattle.rules.specs.Words.{most_vertices, most_edges}
-use Rattle.rules.specs.Game.{Edge, Vertex, stuck_priority, game_words}
+use Rattle.rules.specs.Game.{Edge, Vertex, game_words}
+use Rattle.rules.specs.Vertices.{stuck_priority}
 use Rattle.games.specs.Columns.{vertex_column}
 use Rattle.item_table.specs.Entries.{kind_owner}
 use Rattle.work_slice.specs.Regions.{edge_word}
-use Rattle.pairs.specs.Table.{item_at}
+use Rattle.pairs.specs.Table.{state_at, item_at}
 use Rattle.settling.specs.Stand.{settled_in, start_in, degree_in, degrees_in}
 
 -- ---- one vertex. The regions have v words each, and the edge buffer, with room for e edges, stands behind the eight
 -- of them: targets, then counts, both from the last word downwards
 
--- the item of vertex u
-abbrev pub item_in : List ℕ → ℕ → ℕ → ℕ
-item_in w v u = item_at w v u
-
 -- the player to whom the item of vertex u belongs
 unfoldable pub shown_player : List ℕ → List ℕ → ℕ → ℕ → Player
-shown_player kinds w v u = kind_owner (word kinds (item_in w v u))
+shown_player kinds w v u = kind_owner (word kinds (item_at w v u))
 
 unfoldable pub shown_owner : List ℕ → List ℕ → ℕ → ℕ → ℕ
 shown_owner kinds w v u = cond (settled_in w v u) (player_index (shown_player kinds w v u)) 2
@@ -39,7 +36,7 @@ loops_in w v e u = ltb 0 (degree_in w v u) && eqb (first_target w v e u) u
 unfoldable pub shown_priority : (kinds priorities w : List ℕ) (v e u : ℕ) → ℕ
 shown_priority kinds priorities w v e u =
     cond (settled_in w v u)
-    (cond (loops_in w v e u) (stuck_priority (shown_player kinds w v u)) (word priorities (item_in w v u))) 0
+    (cond (loops_in w v e u) (stuck_priority (shown_player kinds w v u)) (word priorities (item_at w v u))) 0
 
 -- the edge at place i of the buffer
 unfoldable pub shown_edge : List ℕ → (v e i : ℕ) → Edge
@@ -55,6 +52,8 @@ shown_vertex kinds priorities w v e u =
     record {
       owner = shown_owner kinds w v u;
       priority = shown_priority kinds priorities w v e u;
+      state = state_at w v u;
+      item = item_at w v u;
       edges = shown_edges w v e u;
     }
 

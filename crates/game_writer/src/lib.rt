@@ -4,7 +4,8 @@
 
 ghost use Rattle.std.specs.Prelude.{◌≡◌, reverse, ◌+◌, ◌≤◌, ◌<◌, length, is_some, unwrap_or};
 ghost use Rattle.rules.specs.Lists.{word};
-ghost use Rattle.rules.specs.Game.{stuck_priority, vertex_columns, edge_columns, game_of, padded};
+ghost use Rattle.rules.specs.Game.{vertex_columns, edge_columns, game_of, padded};
+ghost use Rattle.rules.specs.Vertices.{stuck_priority};
 ghost use Rattle.words.specs.Stretches.{Wrote};
 ghost use Rattle.work_slice.specs.Regions.{region_code, region, edges_end};
 ghost use Rattle.compiled.specs.Tables.{kinds_in, priorities_in};
@@ -15,7 +16,7 @@ use compiled::Compiled;
 use game_columns::Vertices;
 use kinds::owner_of;
 use pairs::Slots;
-use parity_game::{OWNER, TARGET};
+use parity_game::{OWNER, PRIORITY, STATE, TARGET};
 use player::{Player, Priority, VertexIndex};
 use rules::Room;
 use settling::Counters;
@@ -166,11 +167,12 @@ impl KnownVertex<'_, '_> {
         requires { column < length vertex_columns }
         ensures { result ≡ word_in self.entry.walked column self.entry.vertex.0 }
     {
-        if column == OWNER {
-            return self.owner_word();
+        match column {
+            OWNER => self.owner_word(),
+            PRIORITY => self.shown_priority().0,
+            STATE => self.walked.slots.state_of(self.vertex),
+            _ => self.walked.slots.item_of(self.vertex),
         }
-        let shown = self.shown_priority();
-        shown.0
     }
 }
 

@@ -14,10 +14,12 @@ use Rattle.lists.proofs.Members.{map_at}
 
 -- ---- the columns of a game, one by one: a column that is added is one more argument here
 
-pub each_vertex_column : (P : ℕ → Type 0) → P 0 → P 1 → (c : ℕ) → c < length vertex_columns → P c
-each_vertex_column P owner priority zero h = owner
-each_vertex_column P owner priority (suc zero) h = priority
-each_vertex_column P owner priority (suc (suc c)) h = absurd (omega arith)
+pub each_vertex_column : (P : ℕ → Type 0) → P 0 → P 1 → P 2 → P 3 → (c : ℕ) → c < length vertex_columns → P c
+each_vertex_column P owner priority state item zero h = owner
+each_vertex_column P owner priority state item (suc zero) h = priority
+each_vertex_column P owner priority state item (suc (suc zero)) h = state
+each_vertex_column P owner priority state item (suc (suc (suc zero))) h = item
+each_vertex_column P owner priority state item (suc (suc (suc (suc c)))) h = absurd (omega arith)
 
 pub each_edge_column : (P : ℕ → Type 0) → P 0 → P 1 → (c : ℕ) → c < length edge_columns → P c
 each_edge_column P target count zero h = target

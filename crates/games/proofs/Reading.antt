@@ -14,6 +14,7 @@ use Rattle.rules.specs.Game.{game_of, vertex_count, edges_in, vertex_column_at, 
 use Rattle.rules.specs.Game.{edges_from, edge_words_in}
 use Rattle.lists.proofs.Members.{map-append}
 use Rattle.games.specs.Columns.{vertex_column, edge_column}
+use Rattle.games.specs.Rows.{Row}
 use Rattle.games.proofs.Columns.{length-columns, left_at, right_at, slice_right, column-at, column_slice}
 
 pub length-offsets : (e : ℕ) (vs : List Vertex) → length (offsets e vs) ≡ suc (length vs)
@@ -173,6 +174,19 @@ module _ (initial : ℕ) (vs : List Vertex) (rest : List ℕ) where
       ∙ right_at before_edges (columns edge_columns (all_edges vs) ++ rest) p (c * length (all_edges vs) + e)
       (edge_place c e)
       ∙ column-at edge_columns (all_edges vs) rest c e d h (omega (arith, length_edges vs))
+
+  -- all that is read of a vertex
+  pub row_read : (v : ℕ) (d y : Vertex) → v < length vs → get_or vs v d ≡ y → Row (game_of initial vs ++ rest) v y
+  row_read v d y k e =
+      record {
+        owner = vertex_read 0 v d (omega arith) k ∙ ap (λ (z : Vertex). z.owner) e;
+        priority = vertex_read 1 v d (omega arith) k ∙ ap (λ (z : Vertex). z.priority) e;
+        state = vertex_read 2 v d (omega arith) k ∙ ap (λ (z : Vertex). z.state) e;
+        item = vertex_read 3 v d (omega arith) k ∙ ap (λ (z : Vertex). z.item) e;
+        targets =
+            edge_words_read 0 v d (omega arith) k ∙ ap (λ (z : Vertex). map (λ (c : Edge). c.target) z.edges) e;
+        counts = edge_words_read 1 v d (omega arith) k ∙ ap (λ (z : Vertex). map (λ (c : Edge). c.count) z.edges) e;
+      }
 
 pub length_read : (initial : ℕ) (vs : List Vertex) → length (game_of initial vs) ≡ game_words (length vs) (edge_count vs)
 unfolding game_of

@@ -3,7 +3,7 @@
 use mathlib.Core.Path.{◌≡◌, refl, sym, ap, ◌∙◌, subst}
 use mathlib.Core.Bool.{Bool, true, false, cond}
 use mathlib.Core.List.{List, [], ◌∷◌}
-use mathlib.Core.Logic.{inl, inr, ⊎_elim}
+use mathlib.Core.Logic.{⊎_elim}
 use Prim.Native.Nat.{ℕ, zero, suc, ◌+◌, ◌-◌, ◌≤◌, ◌<◌}
 use native.Mathlib.Omega.{arith}
 use native.Mathlib.Decide.{dec_lt, ℕ_discrete}
@@ -26,13 +26,15 @@ use Rattle.rules.specs.Depth.{Ranking, by_depth}
 use Rattle.rules.specs.Pairs.{Pair, owner, priority}
 use Rattle.rules.specs.Walk.{Stand}
 use Rattle.rules.specs.Reach.{N}
-use Rattle.rules.specs.Game.{Vertex, stuck_priority, edge_count, game_of, padded}
+use Rattle.rules.specs.Game.{Vertex, edge_count, game_of, padded}
 use Rattle.rules.specs.Game.{vertex_count, edges_in, owner_in, priority_in, targets_in}
 use Rattle.rules.specs.Refusal.{refusal}
-use Rattle.rules.specs.Run.{Outcome, walk_of, vertices_of, exceeds, built_answer, built_outcome, out_of_room, run}
-use Rattle.rules.specs.Demands.{Lead, Totalised, CutTheorem, settled_below}
+use Rattle.rules.specs.Run.{Outcome, walk_of, exceeds, built_answer, built_outcome, out_of_room, run}
+use Rattle.rules.specs.Vertices.{stuck_priority, vertices_of}
+use Rattle.rules.specs.Demands.{Totalised, CutTheorem, settled_below}
 use Rattle.rules.specs.Program.{gate_room, gate_steps, gate_run}
 use Rattle.theorems.proofs.Runs.{run_refused, run-exceeds, run_fits, fits}
+use Rattle.theorems.proofs.Pairs.{lead_in}
 use Rattle.theorems.proofs.Demand3.{demand3}
 use Rattle.lists.proofs.Members.{in_either}
 use Rattle.tables.proofs.Accepted.{accepted_words}
@@ -65,12 +67,6 @@ settled_less g v (suc n) h e = go (ℕ_discrete v n) (λ l. settled_less g v n l
 
 -- ---- owners are at most 2, priorities are words, and edges lead to vertices
 
-lead_below : (x : Input) (ps : List Pair) (us : List ℕ) (qs : List Pair) → Lead x ps us qs → (u : ℕ) → In u us → u < length ps
-lead_below x ps [] qs l u i = absurd i
-lead_below x ps (t ∷ us) [] l u i = absurd l
-lead_below x ps (t ∷ us) (q ∷ qs) l u (inl e) = omega (arith, l.0.0)
-lead_below x ps (t ∷ us) (q ∷ qs) l u (inr i) = lead_below x ps us qs l.1 u i
-
 -- the edge that is added leads back
 added_back : (rank : Ranking) (x : Input) (p : Pair) (v : ℕ) (ruled : List ℕ) (shown : ℕ) (added : List ℕ)
     → Totalised v (owner x p) (priority rank x p) ruled shown added → (u : ℕ) → In u added → u ≡ v
@@ -97,8 +93,7 @@ total_word : (v : ℕ) (o : Player) (p : ℕ) (ruled : List ℕ) (shown : ℕ) (
 total_word v o p [] shown added t h = omega (arith, t.0, stuck_word o)
 total_word v o p (u ∷ us) shown added t h = omega (arith, t.0)
 
-module _ {rank : Ranking} {x : Input} {k : ℕ} {a : Answer} {g : List ℕ} {ps : List Pair}
-    (t : CutTheorem rank x k a g ps) where
+module _ {rank : Ranking} {x : Input} {k : ℕ} {a : Answer} {g : List ℕ} (t : CutTheorem rank x k a g) where
   ranked_by : ((i : ℕ) → rank x i < 4_294_967_296) → (v : ℕ) → v < vertex_count g → priority_in g v < 4_294_967_296
   ranked_by small v h = go (dec_lt (owner_in g v) 2)
     where
@@ -123,7 +118,7 @@ module _ {rank : Ranking} {x : Input} {k : ℕ} {a : Answer} {g : List ℕ} {ps 
       go (yes l) =
           let s = t.settled v h l in
           ⊎_elim
-          (λ m. omega (arith, lead_below x ps s.ruled _ s.leads u m, t.paired))
+          (λ m. let (q, i, (b, e)) = lead_in g u s.ruled _ s.leads m in b)
           (λ m. omega (arith, added_back rank x _ v s.ruled _ s.added s.total u m))
           (in_either u s.ruled s.added (subst (λ (ts : List ℕ). In u ts) s.edges i))
 
@@ -170,14 +165,13 @@ module _ (rank : Ranking) (x : Input) (r : Room) (k : ℕ) (game work : List ℕ
   pub never_cut : r.vertices ≤ k → (i j m : ℕ) → ¬ (o.answer ≡ Cut i j m)
   never_cut h i j m e =
       let n : Accepted o.answer = subst Accepted (sym e) tt in
-      let (ps, t) = demand3 rank x r k game work n in
-      go n ps t (dec_lt k (N x))
+      go n (demand3 rank x r k game work n) (dec_lt k (N x))
     where
-      go : Accepted o.answer → (ps : List Pair) → CutTheorem rank x k o.answer o.game ps → Dec (k < N x) → ⊥
-      go n ps t (yes l) =
+      go : Accepted o.answer → CutTheorem rank x k o.answer o.game → Dec (k < N x) → ⊥
+      go n t (yes l) =
           let w = t.waits l in
           omega (arith, settled_less o.game w.0 (vertex_count o.game) w.1 w.2, t.counted, (within_room n).0)
-      go n ps t (no l) =
+      go n t (no l) =
           let d : Done (N x) (vertex_count o.game) (edges_in o.game) ≡ Cut i j m =
           sym (t.ended (omega arith)) ∙ e in
           let z : ◌≡◌ {A = ℕ} 0 1 = cc in
@@ -187,7 +181,7 @@ module _ (rank : Ranking) (x : Input) (r : Room) (k : ℕ) (game work : List ℕ
   pub run_shown : r.vertices ≤ 512 → r.edges ≤ 1_024 → ((i : ℕ) → rank x i < 4_294_967_296)
       → Accepted o.answer → Shown o.game
   run_shown v e small n =
-      let (ps, t) = demand3 rank x r k game work n in
+      let t = demand3 rank x r k game work n in
       let w = within_room n in
       record {
         few = omega (arith, w.0);

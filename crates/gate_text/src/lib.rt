@@ -114,7 +114,7 @@ fn run_input(labels: &[u32], system: &[u32], actions: &[u32], formula: &[u32], t
     ensures { let x = input_of labels.now system.now actions.now formula.now in
         Appended (reported (gate_run x)) text.old text.new }
 {
-    let mut game = [0u32; 3588];
+    let mut game = [0u32; 4612];
     let mut work = [0u32; 6144];
     let answer = translate::translate(
         labels, system, actions, formula, 512, 1024, 512, &mut game, &mut work,

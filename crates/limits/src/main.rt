@@ -17,7 +17,7 @@ const SMALLEST: Groups<'static> = Groups {
 
 // The run with this room, lent the slices of room for 6 vertices and 8 edges.
 fn run_in(rt: &impl Print, input: Groups<'_>, room: Room) -> io::Result<()> {
-    let mut game = [0u32; 38];
+    let mut game = [0u32; 50];
     let mut work = [0u32; 64];
     let answer = translate::translate(
         input.labels,
@@ -136,7 +136,7 @@ fn room(rt: &impl Print, vertices: u32, edges: u32) -> io::Result<()> {
     run_in(rt, SMALLEST, Room { vertices, edges })
 }
 
-// 51: so many vertices and edges of a game that is handed over. (The game itself would have 12 MB or more, which
+// 51: so many vertices and edges of a game that is handed over. (The game itself would have 20 MB or more, which
 // the stack does not hold.)
 fn sizes(rt: &impl Print, vertices: usize, edges: usize) -> io::Result<()> {
     if parity_game::above_room(vertices, edges) {

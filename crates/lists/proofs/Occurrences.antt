@@ -34,7 +34,7 @@ count_in z (x ∷ xs) h = go (eqb x z) refl (count_in z xs)
 -- one occurrence less
 module _ (x : ℕ) where
   without_count : (z : ℕ) (xs : List ℕ) (m : In x xs) → occurrences eqb z (without x xs m) + one (eqb x z) ≡ occurrences eqb z xs
-  unfolding occurrences eqb without
+  unfolding occurrences without
   without_count z [] m = absurd m
   without_count z (y ∷ xs) (inl e) = rw e refl
   without_count z (y ∷ xs) (inr m) = omega (arith, without_count z xs m)
@@ -50,7 +50,7 @@ module _ (x : ℕ) where
   first-counts xs = omega (arith, ap one (eq-eqb x x refl))
 
 pub alike_sums : (g : ℕ → ℕ) (xs ys : List ℕ) → ((z : ℕ) → occurrences eqb z xs ≡ occurrences eqb z ys) → sum (map g xs) ≡ sum (map g ys)
-unfolding occurrences eqb sum
+unfolding occurrences sum
 alike_sums g [] [] h = refl
 alike_sums g [] (y ∷ ys) h = absurd (omega (arith, h y, first-counts y ys))
 alike_sums g (x ∷ xs) ys h =

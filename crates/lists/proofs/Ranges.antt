@@ -2,13 +2,14 @@
 -- nothing.
 use mathlib.Core.Path.{◌≡◌, refl, ap, ap₂, ◌∙◌}
 use mathlib.Core.Logic.{inl, inr}
-use mathlib.Core.List.{List, [], ◌∷◌, ◌++◌}
+use mathlib.Core.List.{List, [], ◌∷◌, ◌++◌, map}
 use mathlib.Core.Bool.{Bool, cond}
 use Prim.Native.Nat.{ℕ, zero, suc, ◌+◌, ◌≤◌, ◌<◌}
 use native.Mathlib.Decide.{ℕ_discrete}
 use native.Mathlib.Omega.{arith}
 use lib.ListN.{length, get_or}
 use Rattle.rules.specs.Lists.{In, from, seek}
+use Rattle.lists.proofs.Members.{map_at}
 
 pub from-length : (i n : ℕ) → length (from i n) ≡ n
 unfolding from
@@ -20,6 +21,12 @@ unfolding from
 from_at i zero v d h = absurd (omega arith)
 from_at i (suc n) zero d h = omega arith
 from_at i (suc n) (suc v) d h = omega (arith, from_at (suc i) n v d (omega arith))
+
+-- what stands at place v where something is said of each of the first n numbers
+pub told_at : {A : Type 0} (f : ℕ → A) (n v : ℕ) (d : A) → v < n → get_or (map f (from 0 n)) v d ≡ f v
+told_at f n v d h =
+    let here : 0 + v ≡ v = omega arith in
+    map_at f (from 0 n) v 0 d (omega (arith, from-length 0 n)) ∙ ap f (from_at 0 n v 0 h ∙ here)
 
 pub from_in : (v i n : ℕ) → i ≤ v → v < i + n → In v (from i n)
 unfolding from

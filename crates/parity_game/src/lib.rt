@@ -25,7 +25,11 @@ pub const OWNER: usize = 0;
 
 pub const PRIORITY: usize = 1;
 
-const VERTEX_COLUMNS: usize = 2;
+pub const STATE: usize = 2;
+
+pub const ITEM: usize = 3;
+
+const VERTEX_COLUMNS: usize = 4;
 
 // The columns of the edges.
 pub const TARGET: usize = 0;

@@ -14,7 +14,7 @@ use Rattle.lists.proofs.Ranges.{from_in, from-length}
 use Rattle.lists.proofs.Inserts.{once_in, once_distinct, once_length}
 use Rattle.lists.proofs.Equalities.{number_equality}
 use Rattle.rules.specs.Pgsolver.{SolverLine}
-use Rattle.rules.specs.PgsolverReading.{vertex_of}
+use Rattle.rules.specs.PgsolverReading.{text_vertex, vertex_of}
 use Rattle.pgsolver_scan.specs.declared.VertexLine.{VertexLine}
 use Rattle.pgsolver_scan.specs.Told.{RowAt}
 use Rattle.pgsolver_check.specs.Lines.{top_of, tops_of}
@@ -54,7 +54,7 @@ no_edges = refl
 
 -- the edges of one line
 line_edges : (x : SolverLine) → length (vertex_of x).edges ≡ length (once eqb x.successors)
-unfolding vertex_of
+unfolding vertex_of text_vertex
 line_edges x = length-map (once eqb x.successors) edge_to
 
 pub edges-of : (ls : List SolverLine) (x : SolverLine) (ms : List SolverLine)

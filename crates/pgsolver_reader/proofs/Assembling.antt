@@ -1,9 +1,9 @@
 -- The game is put together, and the answer of the whole call. Assumes nothing.
-use Prim.Native.Nat.{ℕ, suc, ◌+◌, ◌-◌, ◌≤◌, ◌<◌}
+use Prim.Native.Nat.{ℕ, suc, ◌+◌, ◌-◌, ◌*◌, ◌≤◌, ◌<◌}
 use native.Mathlib.Omega.{arith}
 use mathlib.Core.Path.{◌≡◌, refl, sym, ap, ◌∙◌, subst}
 use mathlib.Core.Bool.{Bool, true, false, cond, not}
-use mathlib.Core.List.{List, [], ◌∷◌, ◌++◌, map, append-nil, append_assoc}
+use mathlib.Core.List.{List, [], ◌∷◌, ◌++◌, map, append_assoc}
 use lib.ListN.{length, take, drop, set, replicate, length-set, length-map, take-append-drop}
 use lib.Seq.{slice, slice_empty, take-take, take-set-le, length-take-le}
 use lib.Dec.{eqb}
@@ -15,12 +15,12 @@ use Rattle.rules.specs.declared.Room.{Room}
 use Rattle.rules.specs.Lists.{In, from, sum, once}
 use Rattle.rules.specs.Words.{game_length, room_of}
 use Rattle.rules.specs.Answers.{fault_if, and_then, first_fault}
-use Rattle.rules.specs.Game.{Vertex, waiting_vertex, vertex_columns, edge_columns, game_words, edge_count, offsets}
+use Rattle.rules.specs.Game.{Vertex, vertex_columns, edge_columns, game_words, edge_count, offsets}
 use Rattle.rules.specs.Game.{all_edges, columns, game_of, padded}
 use Rattle.rules.specs.Refusal.{differ, outside, refusal1}
 use Rattle.rules.specs.Pgsolver.{SolverLine, SolverText}
 use Rattle.rules.specs.PgsolverParse.{parse}
-use Rattle.rules.specs.PgsolverReading.{vertex_of, vertex_named, numbers_of, read_vertices}
+use Rattle.rules.specs.PgsolverReading.{text_vertex, vertex_of, vertex_named, numbers_of, read_vertices}
 use Rattle.rules.specs.PgsolverReading.{text_refusal, reading_refusal, vertices_in, read_as, read_or, Readback, read_game}
 use Rattle.lists.proofs.Members.{in_map}
 use Rattle.lists.proofs.Ranges.{from-length}
@@ -40,6 +40,7 @@ use Rattle.pgsolver_check.proofs.Checking.{order_numbers}
 use Rattle.pgsolver_reader.specs.Parts.{verts_to, starts, Whole, Part, Ready, room_refusal, column_at, offsets_from}
 use Rattle.pgsolver_reader.specs.Parts.{edges_begin, Posted, LinesPosted, PostedFrom}
 use Rattle.pgsolver_reader.proofs.Writing.{slice_below, slice_above, slice-last}
+use Rattle.pgsolver_reader.proofs.Clearing.{vertex_words}
 
 -- ---- the first vertex
 
@@ -93,7 +94,7 @@ verts_length ls n = length-map (from 0 n) (vertex_named ls) ∙ from-length 0 n
 
 -- the text gives no counts
 named_plain : (ls : List SolverLine) (v : ℕ) → Plain (vertex_named ls v).edges
-unfolding vertex_named vertex_of waiting_vertex
+unfolding vertex_named vertex_of text_vertex
 named_plain [] v = refl
 named_plain (l ∷ ls) v = go (eqb l.number v) (named_plain ls v)
   where
@@ -109,7 +110,8 @@ verts_plain ls n = each (from 0 n)
     each [] = plain_none
     each (u ∷ us) = plain_more (vertex_named ls u) (map (vertex_named ls) us) (named_plain ls u) (each us)
 
-module _ {text : List ℕ} {n m q : ℕ} {g : List ℕ} (p : Part text n n q g) (size : m ≡ q - edges_begin n) where
+module _ {text : List ℕ} {n m q : ℕ} {g : List ℕ} (p : Part text n n q g)
+    (none : slice (column_at n 2) (offsets_from n) g ≡ replicate (2 * n) 0) (size : m ≡ q - edges_begin n) where
   abbrev vs : List Vertex
   vs = verts_to (lines_in text) n
 
@@ -149,6 +151,11 @@ module _ {text : List ℕ} {n m q : ℕ} {g : List ℕ} (p : Part text n n q g) 
       slice_above g3 (column_at n 1) (column_at n 1 + n) last m (omega arith)
       ∙ behind (column_at n 1) (column_at n 1 + n) (omega arith) ∙ p.priorities
 
+  none_read : slice (column_at n 2) (offsets_from n) G ≡ replicate (2 * n) 0
+  none_read =
+      slice_above g3 (column_at n 2) (offsets_from n) last m (omega arith)
+      ∙ behind (column_at n 2) (offsets_from n) (omega arith) ∙ none
+
   starts_read : slice (offsets_from n) last G ≡ starts 0 vs
   starts_read = slice_above g3 (offsets_from n) last last m (omega arith) ∙ behind (offsets_from n) last (omega arith)
       ∙ p.offsets
@@ -164,10 +171,6 @@ module _ {text : List ℕ} {n m q : ℕ} {g : List ℕ} (p : Part text n n q g) 
       slice_below g3 (last + 1) q last m (omega arith) ∙ behind (last + 1) q (omega arith)
       ∙ ap (λ (a : ℕ). slice a q g) z ∙ p.targets
 
-  two_columns : columns vertex_columns vs ≡ map (λ x. x.owner) vs ++ (map (λ x. x.priority) vs ++ [])
-  unfolding columns
-  two_columns = refl
-
   -- the columns behind the targets
   abbrev more : List ℕ
   more = columns (drop 1 edge_columns) (all_edges vs)
@@ -176,34 +179,37 @@ module _ {text : List ℕ} {n m q : ℕ} {g : List ℕ} (p : Part text n n q g) 
   whole =
       let a : 3 ≡ column_at n 0 = omega arith in
       let b : column_at n 0 + n ≡ column_at n 1 = omega arith in
-      let d : column_at n 1 + n ≡ offsets_from n = omega arith in
+      let d : column_at n 1 + n ≡ column_at n 2 = omega arith in
       let e : 0 + edge_count vs ≡ m = omega (arith, assembled_count) in
       let one_by_one : take q G
-      ≡ ((((take 3 G ++ slice (column_at n 0) (column_at n 0 + n) G) ++ slice (column_at n 1) (column_at n 1 + n) G)
-      ++ slice (offsets_from n) last G) ++ slice last (last + 1) G) ++ slice (last + 1) q G
+      ≡ (((((take 3 G ++ slice (column_at n 0) (column_at n 0 + n) G) ++ slice (column_at n 1) (column_at n 1 + n) G)
+      ++ slice (column_at n 2) (offsets_from n) G) ++ slice (offsets_from n) last G) ++ slice last (last + 1) G)
+      ++ slice (last + 1) q G
       = cut_off G (last + 1) q (omega (arith, p.place))
       ∙ ap (λ (l : List ℕ). l ++ slice (last + 1) q G) (cut_off G last (last + 1) (omega arith)
       ∙ ap (λ (l : List ℕ). l ++ slice last (last + 1) G) (cut_off G (offsets_from n) last (omega arith)
-      ∙ ap (λ (l : List ℕ). l ++ slice (offsets_from n) last G) (ap (λ (k : ℕ). take k G) (sym d)
+      ∙ ap (λ (l : List ℕ). l ++ slice (offsets_from n) last G)
+      (cut_off G (column_at n 2) (offsets_from n) (omega arith)
+      ∙ ap (λ (l : List ℕ). l ++ slice (column_at n 2) (offsets_from n) G) (ap (λ (k : ℕ). take k G) (sym d)
       ∙ cut_off G (column_at n 1) (column_at n 1 + n) (omega arith)
       ∙ ap (λ (l : List ℕ). l ++ slice (column_at n 1) (column_at n 1 + n) G) (ap (λ (k : ℕ). take k G) (sym b)
       ∙ cut_off G (column_at n 0) (column_at n 0 + n) (omega arith)
-      ∙ ap (λ (k : ℕ). take k G ++ slice (column_at n 0) (column_at n 0 + n) G) (sym a))))) in
+      ∙ ap (λ (k : ℕ). take k G ++ slice (column_at n 0) (column_at n 0 + n) G) (sym a)))))) in
       ap (λ (l : List ℕ). l ++ more) one_by_one
-      ∙ rw (head, owners, priorities, starts_read, last_read, targets_read) refl
-      ∙ regroup (n ∷ m ∷ 0 ∷ []) (map (λ x. x.owner) vs) (map (λ x. x.priority) vs) (starts 0 vs) (m ∷ [])
-      (edge_column_of 0 vs) more
+      ∙ rw (head, owners, priorities, none_read, starts_read, last_read, targets_read) refl
+      ∙ regroup (n ∷ m ∷ 0 ∷ []) (map (λ x. x.owner) vs) (map (λ x. x.priority) vs) (replicate (2 * n) 0)
+      (starts 0 vs) (m ∷ []) (edge_column_of 0 vs) more
       ∙ ap (λ (l : List ℕ). (n ∷ m ∷ 0 ∷ []) ++ (l ++ ((starts 0 vs ++ (m ∷ [])) ++ (edge_column_of 0 vs ++ more))))
-      (sym two_columns)
+      (sym (vertex_words (lines_in text) n))
       ∙ ap (λ (l : List ℕ). (n ∷ m ∷ 0 ∷ []) ++ (columns vertex_columns vs ++ (l ++ (edge_column_of 0 vs ++ more))))
       (ap (λ (k : ℕ). starts 0 vs ++ (k ∷ [])) (sym e) ∙ sym (offsets-starts 0 vs))
       ∙ ap (λ (l : List ℕ). (n ∷ m ∷ 0 ∷ []) ++ (columns vertex_columns vs ++ (offsets 0 vs ++ l)))
       (sym (targets_first vs))
       ∙ sym (game_stretches vs n m (sym (verts_length (lines_in text) n)) assembled_count)
     where
-      regroup : (a b c d e f h : List ℕ)
-          → (((((a ++ b) ++ c) ++ d) ++ e) ++ f) ++ h ≡ a ++ ((b ++ (c ++ [])) ++ ((d ++ e) ++ (f ++ h)))
-      regroup a b c d e f h = simp (append_assoc, append-nil)
+      regroup : (a b c z d e f h : List ℕ)
+          → ((((((a ++ b) ++ c) ++ z) ++ d) ++ e) ++ f) ++ h ≡ a ++ ((b ++ (c ++ z)) ++ ((d ++ e) ++ (f ++ h)))
+      regroup a b c z d e f h = simp append_assoc
 
   long : length (take q G) ≡ q
   long = length-take-le q G (omega (arith, length-set g3 last m, long3, p.place, p.room))

@@ -4,5 +4,6 @@ pub mod Posting
 pub mod Writing
 pub mod Widths
 pub mod Ordering
+pub mod Clearing
 pub mod Assembling
 pub mod Whole

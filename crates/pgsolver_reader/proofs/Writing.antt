@@ -14,7 +14,7 @@ use Rattle.rules.specs.Lists.{word, In, from, sum, once}
 use Rattle.rules.specs.Game.{Vertex, Edge, edge_count, all_edges}
 use Rattle.rules.specs.Pgsolver.{SolverLine}
 use Rattle.rules.specs.TextReading.{read_field}
-use Rattle.rules.specs.PgsolverReading.{vertex_of, vertex_named}
+use Rattle.rules.specs.PgsolverReading.{text_vertex, vertex_of, vertex_named}
 use Rattle.lists.proofs.Members.{map-append}
 use Rattle.lists.proofs.Ranges.{from_snoc}
 use Rattle.lists.proofs.Inserts.{inserts_new, once_in, once_distinct}
@@ -22,6 +22,7 @@ use Rattle.lists.proofs.Equalities.{number_equality}
 use Rattle.games.specs.Columns.{edge_column, edge_column_of}
 use Rattle.games.proofs.Columns.{targets_plain}
 use Rattle.words.specs.Stretches.{Wrote}
+use Rattle.words.proofs.Regions.{same_later}
 use Rattle.bitmap.specs.Marks.{Holds}
 use Rattle.bitmap.proofs.Sets.{only_holds}
 use Rattle.game_texts.proofs.Numbered.{named}
@@ -63,6 +64,14 @@ module _ {q r : ℕ} {s g g' : List ℕ} (w : Wrote q s g g' r) (h : q ≤ lengt
 
   pub slice_wrote_last : (a : ℕ) → a ≤ q → slice a r g' ≡ slice a q g ++ s
   slice_wrote_last a k = ap (drop a) w.words ∙ drop-append-le a (take q g) s (omega (arith, length-take-le q g h))
+
+  -- what stands behind it
+  pub slice_behind : (a b : ℕ) → r ≤ a → a ≤ b → slice a b g' ≡ slice a b g
+  slice_behind a b k l =
+      let e : a + (b - a) ≡ b = omega arith in
+      ap (λ (x : ℕ). slice a x g') (sym e) ∙ drop-take a (b - a) g'
+      ∙ ap (take (b - a)) (same_later r a g g' w.rest k)
+      ∙ sym (drop-take a (b - a) g) ∙ ap (λ (x : ℕ). slice a x g) e
 
   -- what was written
   pub slice_wrote_new : slice q r g' ≡ s
@@ -166,14 +175,14 @@ module _ {text : List ℕ} {n v q place : ℕ} {game : List ℕ} (w : Whole text
     turn_line = first.3 ∙ second.3
 
     pub turn_priority : (pr ≡ (vertex_named lines v).priority) × (pr < 4294967296)
-    unfolding vertex_of
+    unfolding vertex_of text_vertex
     turn_priority =
         let z : pr ≡ t.line.priority = first.0 ∙ exactly t.line.priority (omega (arith, low_rank t w)) in
         (z ∙ ap (λ (x : Vertex). x.priority) (sym vertex), omega (arith, low_rank t w))
 
     -- an owner is 0 or 1
     pub turn_owner : (o ≡ (vertex_named lines v).owner) × (o < 4294967296)
-    unfolding vertex_of
+    unfolding vertex_of text_vertex
     turn_owner =
         let z : o ≡ t.line.owner = second.0 ∙ exactly t.line.owner (omega (arith, t.body.small)) in
         (z ∙ ap (λ (x : Vertex). x.owner) (sym vertex), omega (arith, t.body.small))
@@ -188,7 +197,7 @@ module _ {text : List ℕ} {n v q place : ℕ} {game : List ℕ} (w : Whole text
     turn_listed = listed.1
 
     targets : once eqb (list_at text list) ≡ map (edge_column 0) (vertex_named lines v).edges
-    unfolding vertex_of
+    unfolding vertex_of text_vertex
     targets =
         ap (once eqb) listed.0
         ∙ sym (ap (λ (x : Vertex). map (edge_column 0) x.edges) vertex

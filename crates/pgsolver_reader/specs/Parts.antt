@@ -88,7 +88,7 @@ unfoldable pub starts : ℕ → List Vertex → List ℕ
 starts e [] = []
 starts e (v ∷ vs) = e ∷ starts (e + length v.edges) vs
 
--- the vertices below v are written, their targets up to place q
+-- the vertices below v are written, but for states and items, and their targets up to place q
 pub record Part (text : List ℕ) (n v q : ℕ) (game : List ℕ) : Type 0 where
   pub room : game_words n (edge_count (verts_to (lines_in text) n)) ≤ length game
   pub within : v ≤ n

@@ -5,7 +5,7 @@
 // Kept (no plainer): text and place stay two parameters, as in crate pgsolver_scan.
 #![tactic(auto)]
 
-ghost use Rattle.std.specs.Prelude.{◌≡◌, false, [], ◌∷◌, ◌+◌, ◌-◌, ◌*◌, ◌/◌, ◌%◌, ◌<◌, ◌≤◌, length, set, eqb};
+ghost use Rattle.std.specs.Prelude.{◌≡◌, false, [], ◌∷◌, ◌+◌, ◌-◌, ◌*◌, ◌/◌, ◌%◌, ◌<◌, ◌≤◌, length, set, replicate, eqb};
 ghost use Rattle.std.specs.declared.result.Result.TheVariants.{Ok};
 ghost use Rattle.rules.specs.Lists.{from, once};
 ghost use Rattle.rules.specs.Words.{most_vertices, most_edges, room_of};
@@ -27,7 +27,7 @@ ghost use Rattle.pgsolver_reader.specs.Parts.{DigitBound, column_at, offsets_fro
 ghost use Rattle.pgsolver_reader.specs.Parts.{Posted, LinesPosted, PostedFrom, PostsKept};
 
 use bitmap::Bitmap;
-use parity_game::{OWNER, PRIORITY};
+use parity_game::{OWNER, PRIORITY, STATE};
 use pgsolver_check::Numbering;
 use pgsolver_scan::Successors;
 use rules::{Answer, Fault, Room};
@@ -138,7 +138,7 @@ fn posted_at(game: &[u32], vertices: usize, vertex: usize) -> usize
 
 // ---- writing
 
-// What the game says of a vertex: its owner, its priority, and where its edges begin.
+// What the line of a vertex gives the game: its owner, its priority, and where its edges begin.
 #[derive(Clone, Copy)]
 struct VertexWords {
     owner: usize,
@@ -146,7 +146,7 @@ struct VertexWords {
     offset: usize,
 }
 
-// The words of a vertex.
+// The words that a line gives; state and item are 0 of every vertex (`clear_pairs`).
 fn put_vertex(game: &mut [u32], vertices: usize, vertex: usize, words: VertexWords)
     requires in_bounds { (vertex < vertices) × (vertices ≤ most_vertices) × (edges_begin vertices ≤ length game.old) }
     requires in_words { (words.owner < 4294967296) × (words.priority < 4294967296) × (words.offset < 4294967296) }
@@ -172,6 +172,17 @@ fn digits_of(digits: Digits, vertex: usize) -> Digits
         count: digits.count + 1,
         bound: 10 * digits.bound,
     }
+}
+
+// The states and items of all vertices: "A game read from PGSolver text has 0 in both" (#105). Their two columns stand
+// one behind the other, in front of the offsets.
+fn clear_pairs(game: &mut [u32], vertices: usize)
+    requires { (vertices ≤ most_vertices) × (edges_begin vertices ≤ length game.old) }
+    ensures { Wrote (column_at vertices 2) (replicate (2 * vertices) 0) game.old game.new (offsets_from vertices) }
+{
+    let first = parity_game::vertex_column_at(vertices, STATE);
+    let end = parity_game::offsets_at(vertices);
+    game[first..end].fill(0);
 }
 
 // The words that belong to no vertex and no edge: the first ones, and the last offset.
@@ -350,6 +361,7 @@ impl<'a> Source<'a> {
     {
         bits.clear();
         let end = self.write_vertices(game, bits);
+        clear_pairs(game, self.vertices);
         let edges = end - parity_game::game_words(self.vertices, 0);
         write_sizes(game, self.vertices, edges);
         game[end..].fill(0);
@@ -395,7 +407,7 @@ fn read_text(text: &[u8], room: Room, game: &mut [u32]) -> Result<Answer, Fault>
 // - `equals` gives the answer and the game slice afterwards by the rules' reading;
 // - `coded`: the answer's words (`said`) are those of the rules' answer;
 // - `demand` says when a text is refused, by which number, and else what the slice holds: the game that the text says,
-//   each edge with the count 0, and zeros past it.
+//   each vertex with state and item 0, each edge with the count 0, and zeros past it.
 pub fn read_pgsolver(text: &[u8], vertices: u32, edges: u32, game: &mut [u32]) -> Answer
     ensures equals { ◌≡◌ {A = Readback} (record { answer = result; game = game.new })
         (read_game (room_of vertices edges) text.now game.old) }

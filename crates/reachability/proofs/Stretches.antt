@@ -7,7 +7,7 @@ use lib.ListN.{length, take, drop, length-map}
 use lib.Seq.{get_or-take}
 use Rattle.std.proofs.lemmas.List.{get_or-map}
 use Rattle.rules.specs.Lists.{word}
-use Rattle.rules.specs.Game.{Edge, Vertex, waiting_vertex, vertex_columns, edge_columns, edge_count, game_words, edges_in}
+use Rattle.rules.specs.Game.{Edge, Vertex, blank_vertex, vertex_columns, edge_columns, edge_count, game_words, edges_in}
 use Rattle.rules.specs.Game.{vertex_count, vertex_word, edge_words_in, edges_at as edges_in_game}
 use Rattle.rules.specs.Restrict.{new_number, kept_edge, kept_vertex, kept_vertices}
 use Rattle.words.proofs.Stretches.{words_behind, behind_inside}
@@ -32,7 +32,7 @@ module _ (g reached : List ℕ) where
   unfolding kept_vertices
   edges_at i v h e =
       ap (λ (u : ℕ). (kept_vertex g reached u).edges) e
-      ∙ sym (ap (λ (x : Vertex). x.edges) (get_or-map (kept_vertex g reached) reached i 0 waiting_vertex (reached_below i h)))
+      ∙ sym (ap (λ (x : Vertex). x.edges) (get_or-map (kept_vertex g reached) reached i 0 blank_vertex (reached_below i h)))
 
   module _ (k : Chosen g reached) where
     pub reached_inside : (i v : ℕ) → i < length (kept_vertices g reached) → v ≡ word reached i → v < vertex_count g
@@ -128,7 +128,7 @@ module _ (g reached : List ℕ) (k : Chosen g reached) where
       kept_word : (v : ℕ) → vertex_word g c v ≡ vertex_column c (kept_vertex g reached v)
       kept_word v =
           unfold kept_vertex in
-          each_vertex_column (λ d. vertex_word g d v ≡ vertex_column d (kept_vertex g reached v)) refl refl c h
+          each_vertex_column (λ d. vertex_word g d v ≡ vertex_column d (kept_vertex g reached v)) refl refl refl refl c h
 
       go : (xs : List ℕ)
           → map (λ v. vertex_word g c v) xs ≡ map (vertex_column c) (map (kept_vertex g reached) xs)

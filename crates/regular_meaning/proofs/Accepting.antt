@@ -18,10 +18,9 @@ use Rattle.writing.specs.FormulaReading.{formula_syntax, itself, renamed}
 use Rattle.writing.proofs.FormulaReading.{words_read}
 use Rattle.writing.proofs.FormulaTheorems.{accepted_input_is_written}
 use Rattle.meaning.specs.Satisfies.{SatisfiesBy, Satisfies}
-use Rattle.regular_rules.specs.Refusals.{RegularInput, expansion_refusal}
-use Rattle.regular_rules.specs.Expansion.{expanded, expanded_words, regular_formula}
+use Rattle.regular_rules.specs.Refusals.{RegularInput}
+use Rattle.regular_rules.specs.Expansion.{expanded, regular_formula}
 use Rattle.regular_rules.specs.Accepts.{Accepts}
-use Rattle.regular_rules.proofs.Theorems.{expansion_accepted}
 use Rattle.regular_meaning.specs.Paths.{MovesAt}
 use Rattle.regular_meaning.specs.Claims.{RegularSatisfied, SystemAccepted, run_input, ExpansionMeans}
 use Rattle.regular_meaning.proofs.Expanding.{expansion_means}

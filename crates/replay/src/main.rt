@@ -35,7 +35,7 @@ struct Build<'a> {
     fill: u32,
     game: usize,
     work: usize,
-    ghost few: { (game ≤ 117) × (work ≤ 193) },
+    ghost few: { (game ≤ 149) × (work ≤ 193) },
 }
 
 // A stored call.
@@ -67,7 +67,7 @@ fn build_of(record: &Record) -> Option<Build<'_>> {
     let (actions, rest) = rest.split_at_checked(actions as usize)?;
     let (formula, _) = rest.split_at_checked(formula as usize)?;
     let (game, work) = (game as usize, work as usize);
-    if 117 < game || 193 < work {
+    if 149 < game || 193 < work {
         return None;
     }
     let input = Groups {
@@ -109,7 +109,7 @@ fn call_of(record: &Record) -> Option<Call<'_>> {
 }
 
 fn lend_build(rt: &impl Print, call: Build<'_>) -> io::Result<()> {
-    let mut game = stored_runs::filled::<u32, 117>(call.fill);
+    let mut game = stored_runs::filled::<u32, 149>(call.fill);
     let mut work = stored_runs::filled::<u32, 193>(call.fill);
     let (game, work) = (&mut game[..call.game], &mut work[..call.work]);
     let answer = translate::translate(

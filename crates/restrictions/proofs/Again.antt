@@ -12,7 +12,7 @@ use Rattle.rules.specs.declared.Answer.{Answer}
 use Rattle.rules.specs.declared.Answer.TheVariants.{Done}
 use Rattle.rules.specs.Lists.{word, In, from, position}
 use Rattle.rules.specs.Reach.{onward}
-use Rattle.rules.specs.Game.{edges_in, initial_in, owner_in, priority_in, targets_in, counts_in}
+use Rattle.rules.specs.Game.{edges_in, initial_in, owner_in, priority_in, state_in, item_in, targets_in, counts_in}
 use Rattle.rules.specs.Demands.{Numbers, numbered, old, new}
 use Rattle.rules.specs.Restricts.{Searched, begun, gone, Restricts}
 use Rattle.lists.specs.Shapes.{Begins}
@@ -116,9 +116,12 @@ module _ (g : List ℕ) (a : Answer) (h ns met : List ℕ) (r : Restricts g a h 
         leaves = λ v l o. absurd (o ((exactly v).0 (from_in v 0 n (omega arith) (omega (arith, r.first.0)))));
         owners = λ u l. ap (λ (k : ℕ). owner_in h k) (sym (from-word n u (omega arith)));
         priorities = λ u l. ap (λ (k : ℕ). priority_in h k) (sym (from-word n u (omega arith)));
+        states = λ u l. ap (λ (k : ℕ). state_in h k) (sym (from-word n u (omega arith)));
+        items = λ u l. ap (λ (k : ℕ). item_in h k) (sym (from-word n u (omega arith)));
         edges = λ u l.
             sym (ap (λ (k : ℕ). map (λ t. word (from 0 n) t) (targets_in h k)) (from-word n u (omega arith)) ∙ kept_numbers n (targets_in h u) (edge-below u (omega arith)));
         counts = λ u l. ap (λ (k : ℕ). counts_in h k) (sym (from-word n u (omega arith)));
+        apart = λ d. d;
         begins = r.begins;
         follows = r.follows;
         ends = r.ends;

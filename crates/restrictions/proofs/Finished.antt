@@ -1,9 +1,9 @@
 -- The restriction of a finished run's game loses nothing: the game is accepted, every vertex of it is reachable, and
--- the map is a renumbering of all vertices. Assumes nothing.
+-- the map is a renumbering of all vertices. No two vertices that it leaves have the same state and item. Assumes
+-- nothing.
 use mathlib.Core.Path.{◌≡◌, refl, sym, ap, ap₂, ◌∙◌, subst}
 use mathlib.Core.Bool.{Bool, true, false}
 use mathlib.Core.List.{List, [], ◌∷◌, append-nil}
-use mathlib.Core.Logic.{inl, inr}
 use Prim.Native.Nat.{ℕ, ◌-◌, ◌≤◌, ◌<◌}
 use native.Mathlib.Omega.{arith}
 use lib.ListN.{length, get_or, replicate}
@@ -18,20 +18,23 @@ use Rattle.rules.specs.Answers.{Accepted}
 use Rattle.rules.specs.Depth.{Ranking}
 use Rattle.rules.specs.Pairs.{Pair, initial_pair, targets}
 use Rattle.rules.specs.Reach.{Reachable, at_root, onward, N}
-use Rattle.rules.specs.Game.{Vertex, waiting_vertex, game_of, padded, vertex_count, edges_in, initial_in, targets_in}
+use Rattle.rules.specs.Game.{Vertex, vertex_columns, blank_vertex, game_of, padded, vertex_count, edges_in, initial_in}
+use Rattle.rules.specs.Game.{vertex_word, pair_in, targets_in}
 use Rattle.rules.specs.GameRefusal.{game_refusal}
 use Rattle.rules.specs.Refusal.{refusal}
-use Rattle.rules.specs.Run.{Outcome, walk_of, vertices_of, exceeds, built_answer, built_outcome, out_of_room, run}
-use Rattle.rules.specs.Demands.{Stands, Lead, CutTheorem}
+use Rattle.rules.specs.Run.{Outcome, walk_of, exceeds, built_answer, built_outcome, out_of_room, run}
+use Rattle.rules.specs.Vertices.{vertices_of}
+use Rattle.rules.specs.Demands.{Stands, Apart, CutTheorem}
 use Rattle.rules.specs.Restrict.{reached_vertices, restriction_refusal, Restricted, restricted_to, restriction}
 use Rattle.rules.specs.Restricts.{Restricts}
-use Rattle.lists.proofs.Members.{in_at, in_left, distinct_positions, no_more}
+use Rattle.lists.proofs.Members.{in_at, in_left, no_more}
 use Rattle.lists.proofs.Ranges.{from-length, in_from}
 use Rattle.walks.proofs.Reached.{reachable_inside}
-use Rattle.games.proofs.Reading.{count_read, edge_words_read}
+use Rattle.games.proofs.Reading.{count_read, vertex_read, edge_words_read}
+use Rattle.theorems.proofs.Pairs.{in_lead, stands_once}
 use Rattle.theorems.proofs.Runs.{run_refused, run-exceeds, run_fits}
 use Rattle.theorems.proofs.Cut.{done_enough}
-use Rattle.theorems.proofs.Demand3.{walk_cut}
+use Rattle.theorems.proofs.Demand3.{demand3}
 use Rattle.theorems.proofs.Handing.{done_passes}
 use Rattle.restrictions.specs.GoodGame.{GoodGame}
 use Rattle.restrictions.specs.Trimmed.{trimmed}
@@ -45,41 +48,28 @@ use Rattle.restrictions.proofs.Twice.{trimmed_game}
 
 -- ---- every vertex of a finished run's game is reachable
 
-lead_in : (x : Input) (ps : List Pair) (us : List ℕ) (qs : List Pair) → Lead x ps us qs → (q : Pair) → In q qs → (u : ℕ) × In u us × Stands x ps u q
-lead_in x ps [] [] l q m = absurd m
-lead_in x ps [] (p ∷ qs) l q m = absurd l
-lead_in x ps (u ∷ us) [] l q m = absurd m
-lead_in x ps (u ∷ us) (p ∷ qs) l q (inl e) = (u, inl refl, (l.0.0, l.0.1 ∙ sym e))
-lead_in x ps (u ∷ us) (p ∷ qs) l q (inr m) = let (w, i, s) = lead_in x ps us qs l.1 q m in (w, inr i, s)
-
-module _ (rank : Ranking) (x : Input) (k : ℕ) (a : Answer) (g : List ℕ) (ps : List Pair)
-    (c : CutTheorem rank x k a g ps) (done : N x ≤ k) where
+module _ (rank : Ranking) (x : Input) (k : ℕ) (a : Answer) (g : List ℕ) (c : CutTheorem rank x k a g) (done : N x ≤ k) where
   abbrev root : Pair
   root = initial_pair x
 
-  stands_once : (u w : ℕ) (q : Pair) → Stands x ps u q → Stands x ps w q → u ≡ w
-  stands_once u w q s t = distinct_positions ps root c.distinct u w s.0 t.0 (s.1 ∙ sym t.1)
-
   -- the edges of the vertex that stands for o lead to the vertices that stand for the targets of o
-  edge_to_lem : (o : Pair) → Reachable (targets x) root o → (q : Pair) → In q (targets x o) → (v : ℕ) → Stands x ps v q
-      → (u : ℕ) × Stands x ps u o × In v (targets_in g u)
+  edge_to_lem : (o : Pair) → Reachable (targets x) root o → (q : Pair) → In q (targets x o) → (v : ℕ) → Stands g v q
+      → (u : ℕ) × Stands g u o × In v (targets_in g u)
   edge_to_lem o r q m v s =
       let (u, t, l) = c.complete done o r in
-      let row = c.settled u (omega (arith, t.0, c.paired)) l in
-      let (w, i, z) = lead_in x ps row.ruled (targets x (get_or ps u root)) row.leads q (subst (λ (p : Pair). In q (targets x p)) (sym t.1) m) in
-      (u, t, subst (In v) (sym row.edges) (in_left v row.ruled row.added (subst (λ (n : ℕ). In n row.ruled) (stands_once w v q z s) i)))
+      let row = c.settled u t.0 l in
+      let (w, i, z) = in_lead g q row.ruled (targets x (pair_in g u)) row.leads (subst (λ (p : Pair). In q (targets x p)) (sym t.1) m) in
+      (u, t, subst (In v) (sym row.edges) (in_left v row.ruled row.added (subst (λ (n : ℕ). In n row.ruled) (stands_once g c.distinct w v q z s) i)))
 
-  pair_reached : (p : Pair) → Reachable (targets x) root p → (v : ℕ) → Stands x ps v p → Reachable (targets_in g) (initial_in g) v
+  pair_reached : (p : Pair) → Reachable (targets x) root p → (v : ℕ) → Stands g v p → Reachable (targets_in g) (initial_in g) v
   pair_reached p at_root v s =
-      subst (Reachable (targets_in g) (initial_in g)) (c.first.0 ∙ stands_once 0 v root c.first.1 s) at_root
+      subst (Reachable (targets_in g) (initial_in g)) (c.first.0 ∙ stands_once g c.distinct 0 v root c.first.1 s) at_root
   pair_reached p (onward {p = o} r m) v s =
       let (u, t, i) = edge_to_lem o r p m v s in
       onward (pair_reached o r u t) i
 
   pub all_reached : (v : ℕ) → v < vertex_count g → Reachable (targets_in g) (initial_in g) v
-  all_reached v h =
-      let l : v < length ps = omega (arith, c.paired) in
-      pair_reached (get_or ps v root) (c.reached (get_or ps v root) (in_at ps v root l)) v (l, refl)
+  all_reached v h = pair_reached (pair_in g v) (c.reached v h) v (h, refl)
 
 -- ---- a game of which every vertex is reachable
 
@@ -166,13 +156,12 @@ module _ (rank : Ranking) (x : Input) (r : Room) (k : ℕ) (game work : List ℕ
   pub finished_accepted : game_refusal (trimmed (run rank x r k game work).game) ≡ Ok tt
   finished_accepted = let (e, f, p, w) = finished_run in ap game_refusal trimmed_is ∙ done_passes rank x r k game work e f w
 
-  cut : CutTheorem rank x k o.answer o.game (walk_of x k).known
-  cut = walk_cut rank x r k game work accepted-run
+  cut : CutTheorem rank x k o.answer o.game
+  cut = demand3 rank x r k game work accepted-run
 
   game_reached : (v : ℕ) → v < vertex_count o.game → Reachable (targets_in o.game) (initial_in o.game) v
   game_reached =
-      all_reached rank x k o.answer o.game (walk_of x k).known cut
-      (done_enough rank x k o.answer o.game (walk_of x k).known cut s n m done)
+      all_reached rank x k o.answer o.game cut (done_enough rank x k o.answer o.game cut s n m done)
 
   abbrev h : List ℕ
   h = trimmed (run rank x r k game work).game
@@ -198,8 +187,17 @@ module _ (rank : Ranking) (x : Input) (r : Room) (k : ℕ) (game work : List ℕ
   same_targets v l =
       let i : v < length vs = omega (arith, many-vertices) in
       ap (λ (w : List ℕ). targets_in w v) finished_run.2
-      ∙ edge_words_read 0 vs (replicate (length game - length (game_of 0 vs)) 0) 0 v waiting_vertex (omega arith) i
-      ∙ sym (ap (λ (w : List ℕ). targets_in w v) (trimmed_is ∙ sym (append-nil (game_of 0 vs))) ∙ edge_words_read 0 vs [] 0 v waiting_vertex (omega arith) i)
+      ∙ edge_words_read 0 vs (replicate (length game - length (game_of 0 vs)) 0) 0 v blank_vertex (omega arith) i
+      ∙ sym (ap (λ (w : List ℕ). targets_in w v) (trimmed_is ∙ sym (append-nil (game_of 0 vs))) ∙ edge_words_read 0 vs [] 0 v blank_vertex (omega arith) i)
+
+  same_column : (c : ℕ) → c < length vertex_columns → (v : ℕ) → v < vertex_count h
+      → vertex_word o.game c v ≡ vertex_word h c v
+  unfolding padded
+  same_column c b v l =
+      let i : v < length vs = omega (arith, many-vertices) in
+      ap (λ (w : List ℕ). vertex_word w c v) finished_run.2
+      ∙ vertex_read 0 vs (replicate (length game - length (game_of 0 vs)) 0) c v blank_vertex b i
+      ∙ sym (ap (λ (w : List ℕ). vertex_word w c v) (trimmed_is ∙ sym (append-nil (game_of 0 vs))) ∙ vertex_read 0 vs [] c v blank_vertex b i)
 
   pub finished_reached : (v : ℕ) → v < vertex_count (trimmed (run rank x r k game work).game)
       → Reachable (targets_in (trimmed (run rank x r k game work).game)) (initial_in (trimmed (run rank x r k game work).game)) v
@@ -218,3 +216,14 @@ module _ (rank : Ranking) (x : Input) (r : Room) (k : ℕ) (game work : List ℕ
       → KeepsAll (trimmed (run rank x r k game work).game) (restriction (trimmed (run rank x r k game work).game) out numbers lent).answer
       (restriction (trimmed (run rank x r k game work).game) out numbers lent).mapping
   finished_kept out numbers lent a b c = keeps_all h finished_accepted finished_reached out numbers lent a b c
+
+  -- "in a run's game no two vertices have the same two values" (#105), and none of those that its restriction leaves
+  pub trimmed_apart : Apart (trimmed (run rank x r k game work).game)
+  trimmed_apart u v l i s t =
+      cut.distinct u v (omega (arith, same_count)) (omega (arith, same_count))
+      (same_column 2 (omega arith) u l ∙ s ∙ sym (same_column 2 (omega arith) v i))
+      (same_column 3 (omega arith) u l ∙ t ∙ sym (same_column 3 (omega arith) v i))
+
+  pub finished_apart : (a : Answer) (g ns ms : List ℕ) → Restricts (trimmed (run rank x r k game work).game) a g ns ms
+      → Apart g
+  finished_apart a g ns ms kept = kept.apart trimmed_apart

@@ -11,7 +11,7 @@ use lib.Seq.{ext_get_or}
 use Rattle.rules.specs.declared.Answer.{Answer}
 use Rattle.rules.specs.declared.Answer.TheVariants.{Done}
 use Rattle.rules.specs.Lists.{word, In}
-use Rattle.rules.specs.Game.{vertex_count, edges_in, vertex_word, edge_words_in, owner_in, priority_in, targets_in, counts_in}
+use Rattle.rules.specs.Game.{vertex_columns, vertex_count, edges_in, vertex_word, edge_words_in, targets_in, counts_in}
 use Rattle.rules.specs.Restricts.{Restricts}
 use Rattle.lists.proofs.Members.{in_or, distinct_positions}
 use Rattle.lists.proofs.Equalities.{number_equality}
@@ -21,6 +21,13 @@ use Rattle.restrictions.proofs.Searching.{met_once}
 
 pub restricts_whole : {g : List ℕ} {a : Answer} {h ns met : List ℕ} → Restricts g a h ns met → Whole h
 restricts_whole r = record { begins = r.begins; follows = r.follows; ends = r.ends; past = r.past }
+
+-- in every column vertex u shows the word of its old vertex
+restricts_column : {g : List ℕ} {a : Answer} {h ns met : List ℕ} → Restricts g a h ns met
+    → (c : ℕ) → c < length vertex_columns → (u : ℕ) → u < length met → vertex_word h c u ≡ vertex_word g c (get_or met u 0)
+restricts_column {g = g} {h = h} {met = met} r =
+    each_vertex_column (λ c. (u : ℕ) → u < length met → vertex_word h c u ≡ vertex_word g c (get_or met u 0)) r.owners
+    r.priorities r.states r.items
 
 module _ (g : List ℕ) (a : Answer) (h ns met : List ℕ) (b : Answer) (k ms met' : List ℕ)
     (r : Restricts g a h ns met) (s : Restricts g b k ms met') where
@@ -56,22 +63,13 @@ module _ (g : List ℕ) (a : Answer) (h ns met : List ℕ) (b : Answer) (k ms me
       (record {
         count = counts;
         initial = r.first.1 ∙ sym s.first.1;
-        vertex =
-            each_vertex_column (λ c. (u : ℕ) → u < vertex_count h → vertex_word h c u ≡ vertex_word k c u) owner priority;
+        vertex = λ c i u l.
+            restricts_column r c i u (omega (arith, r.first.0)) ∙ ap (λ (v : ℕ). vertex_word g c v) (old_vertex u)
+            ∙ sym (restricts_column s c i u (omega (arith, counts, s.first.0)));
         edges =
             each_edge_column (λ c. (u : ℕ) → u < vertex_count h → edge_words_in h c u ≡ edge_words_in k c u) targets behind;
       })
     where
-      owner : (u : ℕ) → u < vertex_count h → owner_in h u ≡ owner_in k u
-      owner u l =
-          r.owners u (omega (arith, r.first.0)) ∙ ap (λ (v : ℕ). owner_in g v) (old_vertex u)
-          ∙ sym (s.owners u (omega (arith, counts, s.first.0)))
-
-      priority : (u : ℕ) → u < vertex_count h → priority_in h u ≡ priority_in k u
-      priority u l =
-          r.priorities u (omega (arith, r.first.0)) ∙ ap (λ (v : ℕ). priority_in g v) (old_vertex u)
-          ∙ sym (s.priorities u (omega (arith, counts, s.first.0)))
-
       targets : (u : ℕ) → u < vertex_count h → targets_in h u ≡ targets_in k u
       targets u l =
           r.edges u (omega (arith, r.first.0)) ∙ ap (λ (v : ℕ). map (λ t. word ns t) (targets_in g v)) (old_vertex u)

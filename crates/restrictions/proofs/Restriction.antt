@@ -13,15 +13,17 @@ use Rattle.rules.specs.Answers.{fault}
 use Rattle.rules.specs.Lists.{word, In, Distinct, zeros}
 use Rattle.rules.specs.Answers.{Accepted}
 use Rattle.rules.specs.Reach.{Reachable}
-use Rattle.rules.specs.Game.{Edge, Vertex, waiting_vertex, edge_count, game_of, padded, vertex_count, edges_in, initial_in}
-use Rattle.rules.specs.Game.{owner_in, priority_in, targets_in, counts_in, edges_at}
+use Rattle.rules.specs.Game.{Edge, Vertex, blank_vertex, edge_count, game_of, padded, vertex_count, edges_in, initial_in}
+use Rattle.rules.specs.Game.{state_in, item_in, targets_in, counts_in, edges_at}
 use Rattle.rules.specs.Restrict.{reached_vertices, new_number, kept_edge, kept_vertex, kept_vertices, vertex_map}
 use Rattle.rules.specs.Restrict.{restriction_refusal, Restricted, restricted_to, restricted_or, restriction}
 use Rattle.rules.specs.Restricts.{Restricts}
-use Rattle.lists.proofs.Members.{in_at, position_at}
+use Rattle.rules.specs.Demands.{Apart}
+use Rattle.lists.proofs.Members.{in_at, position_at, distinct_positions}
 use Rattle.lists.proofs.Equalities.{number_equality}
+use Rattle.games.specs.Rows.{Row}
 use Rattle.games.proofs.Columns.{map_same}
-use Rattle.games.proofs.Reading.{count_read, vertex_read, edge_words_read}
+use Rattle.games.proofs.Reading.{count_read, row_read}
 use Rattle.games.proofs.Rewriting.{Whole}
 use Rattle.theorems.proofs.Read.{whole_game}
 use Rattle.restrictions.specs.GoodGame.{GoodGame}
@@ -109,25 +111,23 @@ module _ (g : List ℕ) (good : GoodGame g) (n : ℕ) where
   kept_counts v l =
       map-map (λ (z : Edge). z.count) (kept_edge met) (edges_at g v) ∙ edges_column g good 1 v (omega arith) l
 
-  -- what is read of vertex u
-  row : (u : ℕ) → u < length met
-      → (owner_in h u ≡ owner_in g (get_or met u 0)) × (priority_in h u ≡ priority_in g (get_or met u 0))
-      × (targets_in h u ≡ map (new_number met) (targets_in g (get_or met u 0))) × (counts_in h u ≡ counts_in g (get_or met u 0))
-  unfolding padded kept_vertex
+  -- what is read of vertex u is what is kept of its old one
+  row : (u : ℕ) → u < length met → Row h u (kept_vertex g met (get_or met u 0))
+  unfolding padded
   row u l =
-      let rest : List ℕ = replicate (n - length (game_of 0 vs)) 0 in
-      let k : u < length vs = omega (arith, kept_length g met) in
-      let b = reached_below g good (get_or met u 0) (in_at met u 0 l) in
-      let e : get_or vs u waiting_vertex ≡ kept_vertex g met (get_or met u 0) = kept_at g met u waiting_vertex l in (
-        vertex_read 0 vs rest 0 u waiting_vertex (omega arith) k ∙ ap (λ (v : Vertex). v.owner) e,
-        vertex_read 0 vs rest 1 u waiting_vertex (omega arith) k ∙ ap (λ (v : Vertex). v.priority) e,
-        edge_words_read 0 vs rest 0 u waiting_vertex (omega arith) k
-            ∙ ap (λ (v : Vertex). map (λ (z : Edge). z.target) v.edges) e
-            ∙ kept_targets g good met (get_or met u 0) b,
-        edge_words_read 0 vs rest 1 u waiting_vertex (omega arith) k
-            ∙ ap (λ (v : Vertex). map (λ (z : Edge). z.count) v.edges) e
-            ∙ kept_counts (get_or met u 0) b,
-      )
+      row_read 0 vs (replicate (n - length (game_of 0 vs)) 0) u blank_vertex (kept_vertex g met (get_or met u 0))
+      (omega (arith, kept_length g met)) (kept_at g met u blank_vertex l)
+
+  states : (u : ℕ) → u < length met → state_in h u ≡ state_in g (get_or met u 0)
+  unfolding kept_vertex
+  states u l = (row u l).state
+
+  items : (u : ℕ) → u < length met → item_in h u ≡ item_in g (get_or met u 0)
+  unfolding kept_vertex
+  items u l = (row u l).item
+
+  old_below : (u : ℕ) → u < length met → get_or met u 0 < vertex_count g
+  old_below u l = reached_below g good (get_or met u 0) (in_at met u 0 l)
 
   sent : (v : ℕ) → In v met → (word ns v < length met) × (get_or met (word ns v) 0 ≡ v)
   sent v m =
@@ -138,9 +138,19 @@ module _ (g : List ℕ) (good : GoodGame g) (n : ℕ) where
   renumbered v m =
       map_same (new_number met) (λ t. word ns t) (targets_in g v) (λ t i. sym (map-word g met t (target_below g good v (reached_below g good v m) t i)))
 
+  -- no two vertices have the same old one
+  kept_apart : Apart g → Apart h
+  kept_apart d u v l k s i =
+      let l' : u < length met = omega (arith, count-is) in
+      let k' : v < length met = omega (arith, count-is) in
+      distinct_positions met 0 distinct u v l' k'
+      (d (get_or met u 0) (get_or met v 0) (old_below u l') (old_below v k')
+      (sym (states u l') ∙ s ∙ states v k') (sym (items u l') ∙ i ∙ items v k'))
+
   pub kept_restricts : (room : length (game_of 0 (kept_vertices g (reached_vertices g))) ≤ n)
       → Restricts g (Done (length vs) (length vs) (edge_count vs))
       (padded n (game_of 0 (kept_vertices g (reached_vertices g)))) (vertex_map g (reached_vertices g)) (reached_vertices g)
+  unfolding kept_vertex
   kept_restricts room =
       let s = reached_searched g good in
       let whole : Whole h = whole_game vs n room in
@@ -154,10 +164,15 @@ module _ (g : List ℕ) (good : GoodGame g) (n : ℕ) where
         mapped = map-length g met;
         sends = λ v r. sent v ((exactly v).1 r);
         leaves = λ v l n. map-word g met v l ∙ number-out met v (λ m. n ((exactly v).0 m));
-        owners = λ u l. (row u l).0;
-        priorities = λ u l. (row u l).1;
-        edges = λ u l. (row u l).2 ∙ renumbered (get_or met u 0) (in_at met u 0 l);
-        counts = λ u l. (row u l).3;
+        owners = λ u l. (row u l).owner;
+        priorities = λ u l. (row u l).priority;
+        states = states;
+        items = items;
+        edges = λ u l.
+            (row u l).targets ∙ kept_targets g good met (get_or met u 0) (old_below u l)
+            ∙ renumbered (get_or met u 0) (in_at met u 0 l);
+        counts = λ u l. (row u l).counts ∙ kept_counts (get_or met u 0) (old_below u l);
+        apart = kept_apart;
         begins = whole.begins;
         follows = whole.follows;
         ends = whole.ends;

@@ -10,7 +10,7 @@ use Rattle.rules.specs.declared.Answer.TheVariants.{Done}
 use Rattle.std.specs.declared.result.Result.TheVariants.{Ok}
 use Rattle.rules.specs.Lists.{In, from, zeros}
 use Rattle.rules.specs.Answers.{Accepted}
-use Rattle.rules.specs.Game.{Edge, Vertex, waiting_vertex, edge_count, game_of, padded}
+use Rattle.rules.specs.Game.{Edge, Vertex, blank_vertex, edge_count, game_of, padded}
 use Rattle.rules.specs.Game.{vertex_count, targets_in, edges_at, game_end}
 use Rattle.rules.specs.GameRefusal.{game_refusal}
 use Rattle.rules.specs.Restrict.{reached_vertices, new_number, kept_edge, kept_vertex, kept_vertices, vertex_map}
@@ -42,7 +42,7 @@ trimmed_game vs n =
     end_is : (rest : List ℕ) → game_end (game_of 0 vs ++ rest) ≡ length (game_of 0 vs)
     end_is rest = unfold game_of in omega (arith, length_read 0 vs)
 
-no-pad : (ws : List ℕ) → padded (length ws) ws ≡ ws
+pub no-pad : (ws : List ℕ) → padded (length ws) ws ≡ ws
 unfolding padded
 no-pad ws = let e : length ws - length ws ≡ 0 = omega arith in ap (λ (k : ℕ). ws ++ replicate k 0) e ∙ append-nil ws
 
@@ -58,14 +58,14 @@ module _ (g : List ℕ) (passed : game_refusal g ≡ Ok tt) where
   good : GoodGame g
   good = good_game g passed
 
-  inside : (u : ℕ) → u < length vs → (f : Edge) → In f (get_or vs u waiting_vertex).edges → f.target < length vs
+  inside : (u : ℕ) → u < length vs → (f : Edge) → In f (get_or vs u blank_vertex).edges → f.target < length vs
   unfolding kept_vertex kept_edge
   inside u l f m =
       let k : u < length met = omega (arith, kept_length g met) in
       let w : ℕ = get_or met u 0 in
       let j = in_at met u 0 k in
       let (q, i, e) = in_map (kept_edge met) f (edges_at g w)
-      (subst (λ (v : Vertex). In f v.edges) (kept_at g met u waiting_vertex k) m) in
+      (subst (λ (v : Vertex). In f v.edges) (kept_at g met u blank_vertex k) m) in
       let z : f.target ≡ new_number met q.target = ap (λ (y : Edge). y.target) e in
       let t : In q.target (targets_in g w)
       = subst (In q.target) (edges_column g good 0 w (omega arith) (reached_below g good w j))
@@ -73,15 +73,15 @@ module _ (g : List ℕ) (passed : game_refusal g ≡ Ok tt) where
       let b = number_below met q.target (met_closed g met (reached_searched g good) w j q.target t) in
       omega (arith, kept_length g met)
 
-  owned : (u : ℕ) → u < length vs → (get_or vs u waiting_vertex).owner < 2
+  owned : (u : ℕ) → u < length vs → (get_or vs u blank_vertex).owner < 2
   unfolding kept_vertex
   owned u l =
       let k : u < length met = omega (arith, kept_length g met) in
-      subst (λ (v : Vertex). v.owner < 2) (sym (kept_at g met u waiting_vertex k)) (good.owned (get_or met u 0) (reached_below g good (get_or met u 0) (in_at met u 0 k)))
+      subst (λ (v : Vertex). v.owner < 2) (sym (kept_at g met u blank_vertex k)) (good.owned (get_or met u 0) (reached_below g good (get_or met u 0) (in_at met u 0 k)))
 
   pub result_accepted : game_refusal (game_of 0 (kept_vertices g (reached_vertices g))) ≡ Ok tt
   result_accepted =
-      owned_passes vs waiting_vertex
+      owned_passes vs blank_vertex
       (omega (arith, (met_first g met (reached_searched g good)).0, kept_length g met))
       (omega (arith, reached_few g good, good.few, kept_length g met))
       (omega (arith, edges_fit g good met (met_distinct g met (reached_searched g good)) (reached_below g good), good.light))

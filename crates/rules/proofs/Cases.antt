@@ -1,8 +1,9 @@
 -- Document 01, "Small games to check by": the cases marked * as one list with a theorem of its own, and beside it lists
 -- of other cases, which tell the rules from wrong ones (each edit of specs/ in rules/must-fail is a wrong rule that a
 -- case, or a theorem of FaultCases, refuses). A theorem says that the rules give what is said of each case of its list,
--- and is proved by computation. Inputs, games and texts are quoted as 01 prints them, each game with the counts of its edges
--- behind its targets (document 02, #102: "01's expected games grow by them"). Assumes nothing.
+-- and is proved by computation. Inputs, games and texts are quoted as 01 prints them, each game with the states and the
+-- items of its vertices behind its priorities, and the counts of its edges behind its targets (document 02, #102 and
+-- #105: "01's expected games grow by these"). Assumes nothing.
 use mathlib.Core.Path.{◌≡◌, refl}
 use Prim.Native.Nat.{ℕ}
 use Prim.Native.String.{String, ◌++◌ as ◌and◌}
@@ -22,7 +23,7 @@ use Rattle.rules.specs.Formula.{equation_count}
 use Rattle.rules.specs.Depth.{depth, by_depth}
 use Rattle.rules.specs.Items.{items}
 use Rattle.rules.specs.Reach.{N}
-use Rattle.rules.specs.Game.{padded, vertex_count}
+use Rattle.rules.specs.Game.{padded, vertex_count, pairs_in}
 use Rattle.rules.specs.Refusal.{refusal1, refusal2, refusal11, refusal12, refusal13, refusal21, refusal22}
 use Rattle.rules.specs.Refusal.{refusal23, refusal25, refusal26, refusal31, refusal32, refusal33, refusal41}
 use Rattle.rules.specs.Refusal.{refusal42, refusal43, refusal}
@@ -64,17 +65,21 @@ three_states =
     input "3 4, 0 1 2 2, 7 8 7 8" "3 6 0, 3 2 1, 0 1 2 1 0 2, 0 1 2 2 0 1"
     "11; 3 2 2 5 2 4 5 2 5 2 0; 2 0 1 0 0 8 0 0 0 2 0" "9; 2 5 4 1 3 5 0 4 1; 4 0 3 0 7 5 0 10 0"
 
+-- three states, from the initial one of which label 0 leads to both others; diamond of (true and false)
+abbrev pub branching : Input
+branching = input "1 1, 0, 7" "3 2 1, 0 2 0, 0 0, 0 2" "1, 2, 0" "4; 5 2 0 1; 0 3 0 0"
+
 abbrev pub formula1 : String
 formula1 = "3; 7 5 8; 0 0 0"
 
 abbrev pub game1 : String
-game1 = "3 3 0, 0 0 1, 0 0 0, 0 1 2 3, 1 2 0, 0 1 0"
+game1 = "3 3 0, 0 0 1, 0 0 0, 0 0 0, 0 1 2, 0 1 2 3, 1 2 0, 0 1 0"
 
 abbrev pub formula5 : String
 formula5 = "6; 3 5 0 2 1 0; 3 0 0 5 0 0"
 
 abbrev pub game5 : String
-game5 = "6 8 0, 1 0 0 1 0 1, 1 0 0 0 1 0, 0 1 3 4 6 7 8, 1 2 3 5 4 5 4 5, 0 0 0 1 0 0 0 0"
+game5 = "6 8 0, 1 0 0 1 0 1, 1 0 0 0 1 0, 0 0 0 0 0 0, 0 1 2 4 5 3, 0 1 3 4 6 7 8, 1 2 3 5 4 5 4 5, 0 0 0 1 0 0 0 0"
 
 -- ---- what is said of a case
 
@@ -162,30 +167,30 @@ All cs = map given cs ≡ map expected cs
 abbrev pub starred : List Case
 starred =
     -- 1
-    runs (looping "3; 7 5 8; 0 0 0") (room_of 512 1_024) 512 (Done 3 3 3) "3 3 0, 0 0 1, 0 0 0, 0 1 2 3, 1 2 0, 0 1 0"
+    runs (looping "3; 7 5 8; 0 0 0") (room_of 512 1_024) 512 (Done 3 3 3) "3 3 0, 0 0 1, 0 0 0, 0 0 0, 0 1 2, 0 1 2 3, 1 2 0, 0 1 0"
     -- 2
-    ∷ runs (stuck "2; 5 0; 0 0") (room_of 6 8) 512 (Done 2 2 2) "2 2 0, 1 0, 1 1, 0 1 2, 1 1, 0 0"
+    ∷ runs (stuck "2; 5 0; 0 0") (room_of 6 8) 512 (Done 2 2 2) "2 2 0, 1 0, 1 1, 0 0, 0 1, 0 1 2, 1 1, 0 0"
     -- 3
-    ∷ runs (stuck "2; 4 0; 0 0") (room_of 6 8) 512 (Done 2 2 2) "2 2 0, 1 1, 1 0, 0 1 2, 1 1, 0 0"
+    ∷ runs (stuck "2; 4 0; 0 0") (room_of 6 8) 512 (Done 2 2 2) "2 2 0, 1 1, 1 0, 0 0, 0 1, 0 1 2, 1 1, 0 0"
     -- 4
-    ∷ runs (looping "3; 2 0 0; 2 0 0") (room_of 6 8) 512 (Done 3 3 4) "3 4 0, 1 1 1, 1 0 0, 0 1 3 4, 1 2 2 2, 0 0 0 0"
+    ∷ runs (looping "3; 2 0 0; 2 0 0") (room_of 6 8) 512 (Done 3 3 4) "3 4 0, 1 1 1, 1 0 0, 0 0 0, 0 1 2, 0 1 3 4, 1 2 2 2, 0 0 0 0"
     -- 5
     ∷ runs (looping "6; 3 5 0 2 1 0; 3 0 0 5 0 0") (room_of 512 1_024) 512 (Done 6 6 8)
-    "6 8 0, 1 0 0 1 0 1, 1 0 0 0 1 0, 0 1 3 4 6 7 8, 1 2 3 5 4 5 4 5, 0 0 0 1 0 0 0 0"
+    "6 8 0, 1 0 0 1 0 1, 1 0 0 0 1 0, 0 0 0 0 0 0, 0 1 2 4 5 3, 0 1 3 4 6 7 8, 1 2 3 5 4 5 4 5, 0 0 0 1 0 0 0 0"
     -- 6
-    ∷ runs (looping formula5) (room_of 6 8) 2 (Cut 2 4 3) "4 3 0, 1 0 2 2, 1 0 0 0, 0 1 3 3 3, 1 2 3, 0 0 0"
+    ∷ runs (looping formula5) (room_of 6 8) 2 (Cut 2 4 3) "4 3 0, 1 0 2 2, 1 0 0 0, 0 0 0 0, 0 1 2 4, 0 1 3 3 3, 1 2 3, 0 0 0"
     -- 7
     ∷ runs (looping formula5) (room_of 6 8) 6 (Done 6 6 8) game5
     ∷ runs (looping formula5) (room_of 5 8) 6 (Refused 60 0) ""
     ∷ runs (looping formula5) (room_of 6 7) 6 (Refused 60 0) ""
     ∷ runs (looping formula5) (room_of 6 8) 5 (Cut 5 6 7)
-    "6 7 0, 1 0 2 1 0 1, 1 0 0 0 1 0, 0 1 3 3 5 6 7, 1 2 3 4 5 4 5, 0 0 0 0 0 0 0"
+    "6 7 0, 1 0 2 1 0 1, 1 0 0 0 1 0, 0 0 0 0 0 0, 0 1 2 4 5 3, 0 1 3 3 5 6 7, 1 2 3 4 5 4 5, 0 0 0 0 0 0 0"
     -- 8: greatest X, least Y, (diamond X or greatest Z, least W, diamond Y)
     ∷ ranks (looping "9; 7 6 3 5 8 7 6 5 8; 0 0 5 0 0 0 0 0 1") "3 3 1 0" "2 3 0 1"
     -- 9: greatest X, least Y, greatest Z, reference Z
     ∷ deep (looping "4; 7 6 7 8; 0 0 0 2") 0 2
     -- 10
-    ∷ runs (looping formula1) (room_of 6 8) 0 (Cut 0 1 0) "1 0 0, 2, 0, 0 0"
+    ∷ runs (looping formula1) (room_of 6 8) 0 (Cut 0 1 0) "1 0 0, 2, 0, 0, 0, 0 0"
     ∷ []
 
 pub starred_cases : All starred
@@ -198,46 +203,60 @@ abbrev pub games : List Case
 games =
     -- 12: two loops on label 0. "case 12 differs from case 1 by a 2" (#102)
     runs (moving "1 2 0, 2, 0 0, 0 0" formula1) (room_of 6 8) 512 (Done 3 3 3)
-    "3 3 0, 0 0 1, 0 0 0, 0 1 2 3, 1 2 0, 0 2 0"
+    "3 3 0, 0 0 1, 0 0 0, 0 0 0, 0 1 2, 0 1 2 3, 1 2 0, 0 2 0"
     -- the same cut after two steps: the diamond is settled
-    ∷ runs (moving "1 2 0, 2, 0 0, 0 0" formula1) (room_of 6 8) 2 (Cut 2 3 2) "3 2 0, 0 0 2, 0 0 0, 0 1 2 2, 1 2, 0 2"
+    ∷ runs (moving "1 2 0, 2, 0 0, 0 0" formula1) (room_of 6 8) 2 (Cut 2 3 2) "3 2 0, 0 0 2, 0 0 0, 0 0 0, 0 1 2, 0 1 2 2, 1 2, 0 2"
     -- a loop on label 0 and one on label 1, which the diamond does not match
     ∷ runs (input "2 2, 0 1, 7 8" "1 2 0, 2, 0 1, 0 0" "1; 2; 0" formula1) (room_of 6 8) 512 (Done 3 3 3) game1
     -- an added self-loop of a modal vertex has count 0 (F1)
-    ∷ runs (stuck formula1) (room_of 6 8) 512 (Done 2 2 2) "2 2 0, 0 0, 0 1, 0 1 2, 1 1, 0 0"
-    -- the last shortcut: greatest X, least Y, diamond Y on a loop: "5 vertices instead of 4"
+    ∷ runs (stuck formula1) (room_of 6 8) 512 (Done 2 2 2) "2 2 0, 0 0, 0 1, 0 0, 0 1, 0 1 2, 1 1, 0 0"
+    -- the last shortcut: greatest X, least Y, diamond Y on a loop: "5 vertices instead of 4"; the node of Y carries the
+    -- reference, which is item 2 (B2)
     ∷ runs (looping "4; 7 6 5 8; 0 0 0 1") (room_of 6 8) 512 (Done 4 4 4)
-    "4 4 0, 0 1 1 0, 0 0 1 0, 0 1 2 3 4, 1 2 3 1, 0 0 0 1"
+    "4 4 0, 0 1 1 0, 0 0 1 0, 0 0 0 0, 0 2 1 3, 0 1 2 3 4, 1 2 3 1, 0 0 0 1"
     -- the initial state is 1: diamond of true
     ∷ runs (moving "2 1 1, 0 1, 0, 0" "2; 5 0; 0 0") (room_of 6 8) 512 (Done 3 3 3)
-    "3 3 0, 1 0 1, 1 0 0, 0 1 2 3, 1 2 2, 0 1 0"
+    "3 3 0, 1 0 1, 1 0 0, 1 1 0, 0 1 2, 0 1 2 3, 1 2 2, 0 1 0"
+    -- true and (true and false): items are numbered without gaps (B1)
+    ∷ runs (looping "5; 2 0 2 0 1; 2 0 4 0 0") (room_of 6 8) 512 (Done 5 5 7)
+    "5 7 0, 1 1 1 1 0, 1 0 0 0 1, 0 0 0 0 0, 0 1 2 3 4, 0 1 3 4 6 7, 1 2 3 2 2 4 4, 0 0 0 0 0 0 0"
+    -- (true and false) or (false and true): by the lowest node, true is item 3 and false item 4, though the walk meets
+    -- false first
+    ∷ runs (looping "7; 3 2 0 1 2 1 0; 4 3 0 0 6 0 0") (room_of 6 10) 512 (Done 6 6 9)
+    "6 9 0, 1 0 1 1 0 1, 1 0 0 0 1 0, 0 0 0 0 0 0, 0 1 2 5 4 3, 0 1 3 5 7 8 9, 1 2 3 5 4 4 5 4 5, 0 0 0 0 0 0 0 0 0"
+    -- a waiting vertex has its state and its item: the pair that the run begins at; the conjunction in the states 0 and
+    -- 2; the same in state 0, and its operands in state 2
+    ∷ runs branching (room_of 6 8) 0 (Cut 0 1 0) "1 0 0, 2, 0, 1, 0, 0 0"
+    ∷ runs branching (room_of 6 8) 2 (Cut 2 4 3) "4 3 0, 1 0 2 2, 1 0 0 0, 1 1 0 2, 0 1 2 2, 0 1 3 3 3, 1 2 3, 0 1 1"
+    ∷ runs branching (room_of 6 8) 3 (Cut 3 6 5)
+    "6 5 0, 1 0 2 1 2 2, 1 0 0 0 0 0, 1 1 0 2 2 2, 0 1 2 2 3 4, 0 1 3 3 5 5 5, 1 2 3 4 5, 0 1 1 0 0"
     -- true or true
-    ∷ runs (looping "3; 3 0 0; 2 0 0") (room_of 6 8) 512 (Done 3 3 4) "3 4 0, 1 0 1, 1 0 0, 0 1 3 4, 1 2 2 2, 0 0 0 0"
+    ∷ runs (looping "3; 3 0 0; 2 0 0") (room_of 6 8) 512 (Done 3 3 4) "3 4 0, 1 0 1, 1 0 0, 0 0 0, 0 1 2, 0 1 3 4, 1 2 2 2, 0 0 0 0"
     -- two labels with the actions 7, 8 and 8, 7: a modality of the one matches the other, and both operands of the and
     -- are one item (B3)
     ∷ runs (input "2 4, 0 0 1 1, 7 8 8 7" "1 1 0, 1, 1, 0" "2; 2 2; 0 1" "5; 2 5 0 5 0; 3 0 0 1 0")
-    (room_of 6 8) 512 (Done 4 4 5) "4 5 0, 1 1 0 1, 1 0 0 0, 0 1 3 4 5, 1 2 2 3 3, 0 0 0 1 0"
+    (room_of 6 8) 512 (Done 4 4 5) "4 5 0, 1 1 0 1, 1 0 0 0, 0 0 0 0, 0 1 2 3, 0 1 3 4 5, 1 2 2 3 3, 0 0 0 1 0"
     -- labels tau, {7, 7} and {7}: not (tau or {7, 7}); true
     ∷ runs
     (input "3 3, 1 1 2, 7 7 7" "2 3 0, 3 0, 1 0 2, 1 0 1" "5; 5 3 2 2 0; 0 3 0 1 0" "6; 2 5 0 4 5 0; 3 0 0 4 0 0")
     (room_of 6 8) 512 (Done 6 6 8)
-    "6 8 0, 1 1 0 1 0 1, 1 0 0 0 1 0, 0 1 3 4 6 7 8, 1 2 3 5 4 2 4 5, 0 0 0 1 2 1 0 0"
+    "6 8 0, 1 1 0 1 0 1, 1 0 0 0 1 0, 0 0 0 0 1 1, 0 1 2 4 2 3, 0 1 3 4 6 7 8, 1 2 3 5 4 2 4 5, 0 0 0 1 2 1 0 0"
     -- the action formulas true and false
-    ∷ runs (acting "1; 0; 0" "2; 5 0; 0 0") (room_of 6 8) 512 (Done 3 3 3) "3 3 0, 1 0 1, 1 0 0, 0 1 2 3, 1 2 2, 0 1 0"
-    ∷ runs (acting "1; 1; 0" "2; 5 0; 0 0") (room_of 6 8) 512 (Done 2 2 2) "2 2 0, 1 0, 1 1, 0 1 2, 1 1, 0 0"
+    ∷ runs (acting "1; 0; 0" "2; 5 0; 0 0") (room_of 6 8) 512 (Done 3 3 3) "3 3 0, 1 0 1, 1 0 0, 0 0 0, 0 1 2, 0 1 2 3, 1 2 2, 0 1 0"
+    ∷ runs (acting "1; 1; 0" "2; 5 0; 0 0") (room_of 6 8) 512 (Done 2 2 2) "2 2 0, 1 0, 1 1, 0 0, 0 1, 0 1 2, 1 1, 0 0"
     -- three states, three labels, every kind of action formula
     ∷ runs three_states (room_of 12 18) 512 (Done 12 12 18)
-    ("12 18 0, 1 1 0 0 0 1 0 0 0 1 1 1, 1 0 0 0 0 0 1 1 1 0 0 0, 0 1 3 5 7 8 11 12 13 14 15 17 18,"
-    and " 1 2 3 10 11 4 5 9 6 7 8 6 7 8 9 7 8 8, 0 0 0 1 1 0 0 1 1 1 1 0 0 0 0 1 1 1")
+    ("12 18 0, 1 1 0 0 0 1 0 0 0 1 1 1, 1 0 0 0 0 0 1 1 1 0 0 0, 0 0 0 0 0 0 0 1 2 1 0 1, 0 1 2 5 6 8 4 4 4 7 3 3,"
+    and " 0 1 3 5 7 8 11 12 13 14 15 17 18, 1 2 3 10 11 4 5 9 6 7 8 6 7 8 9 7 8 8, 0 0 0 1 1 0 0 1 1 1 1 0 0 0 0 1 1 1")
     -- a reference may skip inner fixpoints (A9)
     ∷ runs (looping "3; 7 6 8; 0 0 0") (room_of 6 8) 512 (Done 4 4 4)
-    "4 4 0, 0 1 1 1, 2 0 1 0, 0 1 2 3 4, 1 2 3 0, 0 0 0 0"
+    "4 4 0, 0 1 1 1, 2 0 1 0, 0 0 0 0, 0 2 1 3, 0 1 2 3 4, 1 2 3 0, 0 0 0 0"
     -- 4,096 labels without actions are tau (A13)
     ∷ runs (input "4096 0" "1 0 0, 0" "1; 2; 4095" "1; 0; 0") (room_of 6 8) 512 (Done 2 2 2)
-    "2 2 0, 1 1, 1 0, 0 1 2, 1 1, 0 0"
+    "2 2 0, 1 1, 1 0, 0 0, 0 1, 0 1 2, 1 1, 0 0"
     -- a cut game counts added self-loops (B6)
     ∷ runs (looping formula5) (room_of 6 8) 4 (Cut 4 6 6)
-    "6 6 0, 1 0 2 1 2 1, 1 0 0 0 0 0, 0 1 3 3 5 5 6, 1 2 3 4 5 5, 0 0 0 0 0 0"
+    "6 6 0, 1 0 2 1 2 1, 1 0 0 0 0 0, 0 0 0 0 0 0, 0 1 2 4 5 3, 0 1 3 3 5 5 6, 1 2 3 4 5 5, 0 0 0 0 0 0"
     -- waiting vertices are known (B7)
     ∷ runs (looping formula5) (room_of 5 8) 3 (Refused 60 0) ""
     -- the largest limit
@@ -247,6 +266,11 @@ games =
 pub game_cases : All games
 unfolding every_rule
 game_cases = refl
+
+-- the pairs that a game shows, by its vertices' numbers: state, then item (#105)
+pub pairs_shown : pairs_in (words "2 0 0, 2 2, 0 0, 7 8, 3 4, 0 0 0") ≡ (7, 3) ∷ (8, 4) ∷ []
+unfolding every_rule
+pairs_shown = refl
 
 -- ---- depths and priorities, items, reachable pairs
 
@@ -384,7 +408,7 @@ abbrev pub two_faults : List Case
 two_faults =
     -- 1 and 2, 2 and 11
     checks (refusal (looping formula1) (room_of 0 8) 0 0) (fault 1 0)
-    ∷ checks (refusal (labelled "" formula1) (room_of 6 8) 37 0) (fault 2 0)
+    ∷ checks (refusal (labelled "" formula1) (room_of 6 8) 49 0) (fault 2 0)
     -- 11 and 12, 12 and 13, 13 and 21
     ∷ refuses (labelled "4097 1, 0" formula1) 11 0
     ∷ refuses (labelled "4097 2, 1 0, 7 7" formula1) 12 0
@@ -427,14 +451,15 @@ limits =
     ∷ checks (refusal1 (room_of 1 4_194_305)) (fault 1 0)
     ∷ checks (refusal1 (room_of 1 1)) (Ok tt)
     ∷ checks (refusal1 (room_of 1_048_576 4_194_304)) (Ok tt)
-    -- 2: each slice one word shorter and longer
-    ∷ checks (refusal2 (room_of 6 8) 38 64) (Ok tt)
-    ∷ checks (refusal2 (room_of 6 8) 37 64) (fault 2 0)
-    ∷ checks (refusal2 (room_of 6 8) 39 64) (fault 2 0)
-    ∷ checks (refusal2 (room_of 6 8) 38 63) (fault 2 0)
-    ∷ checks (refusal2 (room_of 6 8) 38 65) (fault 2 0)
-    ∷ checks (refusal2 (room_of 6 8) 11_534_340 16_777_216) (fault 2 0)
-    ∷ checks (refusal2 (room_of 1_048_576 4_194_304) 11_534_340 16_777_216) (Ok tt)
+    -- 2: each slice one word shorter and longer; a game slice without words for states and items (#105)
+    ∷ checks (refusal2 (room_of 6 8) 50 64) (Ok tt)
+    ∷ checks (refusal2 (room_of 6 8) 49 64) (fault 2 0)
+    ∷ checks (refusal2 (room_of 6 8) 51 64) (fault 2 0)
+    ∷ checks (refusal2 (room_of 6 8) 50 63) (fault 2 0)
+    ∷ checks (refusal2 (room_of 6 8) 50 65) (fault 2 0)
+    ∷ checks (refusal2 (room_of 6 8) 38 64) (fault 2 0)
+    ∷ checks (refusal2 (room_of 6 8) 13_631_492 16_777_216) (fault 2 0)
+    ∷ checks (refusal2 (room_of 1_048_576 4_194_304) 13_631_492 16_777_216) (Ok tt)
     -- 11, 21, 31, 41: one word shorter and longer
     ∷ checks (refusal11 (words "1 1, 0")) (fault 11 0)
     ∷ checks (refusal11 (words "1 1, 0, 7 0")) (fault 11 0)
@@ -487,25 +512,29 @@ abbrev pub handed : List Case
 handed =
     -- without edges (C1), beginning anywhere (C3), with words past its end (C4), cut (C5), with an offset above the
     -- edge count (C6), with a repeated edge (C7)
-    checks (game_refusal (words "1 0 0, 1, 0, 0 0")) (Ok tt)
-    ∷ checks (game_refusal (words "2 1 1, 0 0, 0 0, 0 0 1, 1, 4294967295")) (Ok tt)
-    ∷ checks (game_refusal (words "1 1 0, 0, 0, 0 1, 0, 0 0")) (fault 51 0)
-    ∷ checks (game_refusal (words "1 0 0, 2, 0, 0 0")) (fault 53 3)
-    ∷ checks (game_refusal (words "2 2 0, 0 0, 0 0, 0 5 2, 0 0, 0 0")) (fault 52 9)
-    ∷ checks (game_refusal (words "1 2 0, 0, 0, 0 2, 0 0, 1 0")) (Ok tt)
-    -- without the counts (#102)
-    ∷ checks (game_refusal (words "1 1 0, 0, 0, 0 1, 0")) (fault 51 0)
+    checks (game_refusal (words "1 0 0, 1, 0, 3, 4, 0 0")) (Ok tt)
+    ∷ checks (game_refusal (words "2 1 1, 0 0, 0 0, 3 5, 4 6, 0 0 1, 1, 4294967295")) (Ok tt)
+    ∷ checks (game_refusal (words "1 1 0, 0, 0, 3, 4, 0 1, 0, 0 0")) (fault 51 0)
+    ∷ checks (game_refusal (words "1 0 0, 2, 0, 3, 4, 0 0")) (fault 53 3)
+    ∷ checks (game_refusal (words "2 2 0, 0 0, 0 0, 3 5, 4 6, 0 5 2, 0 0, 0 0")) (fault 52 13)
+    ∷ checks (game_refusal (words "1 2 0, 0, 0, 3, 4, 0 2, 0 0, 1 0")) (Ok tt)
+    -- states and items are not judged: the largest words, the same at two vertices (C7)
+    ∷ checks (game_refusal (words "2 0 0, 0 0, 0 0, 4294967295 4294967295, 4294967295 4294967295, 0 0 0")) (Ok tt)
+    -- without the counts (#102), without states and items, without one of the two (#105)
+    ∷ checks (game_refusal (words "1 1 0, 0, 0, 3, 4, 0 1, 0")) (fault 51 0)
+    ∷ checks (game_refusal (words "1 1 0, 0, 0, 0 1, 0, 0")) (fault 51 0)
+    ∷ checks (game_refusal (words "1 1 0, 0, 0, 3, 0 1, 0, 0")) (fault 51 0)
     -- 51 to 53: too short, no vertex, a first offset, a last offset, an initial vertex, a target; the smallest place
     ∷ checks (game_refusal (words "1 0")) (fault 51 0)
     ∷ checks (game_refusal (words "0 0 0, 0")) (fault 51 0)
-    ∷ checks (game_refusal (words "1 1 0, 0, 0, 1 1, 0, 0")) (fault 52 5)
-    ∷ checks (game_refusal (words "1 1 0, 0, 0, 0 0, 0, 0")) (fault 52 6)
-    ∷ checks (game_refusal (words "1 1 1, 0, 0, 0 1, 0, 0")) (fault 53 2)
-    ∷ checks (game_refusal (words "1 1 0, 0, 0, 0 1, 1, 0")) (fault 53 7)
-    ∷ checks (game_refusal (words "1 1 0, 2, 0, 0 1, 1, 0")) (fault 53 3)
+    ∷ checks (game_refusal (words "1 1 0, 0, 0, 3, 4, 1 1, 0, 0")) (fault 52 7)
+    ∷ checks (game_refusal (words "1 1 0, 0, 0, 3, 4, 0 0, 0, 0")) (fault 52 8)
+    ∷ checks (game_refusal (words "1 1 1, 0, 0, 3, 4, 0 1, 0, 0")) (fault 53 2)
+    ∷ checks (game_refusal (words "1 1 0, 0, 0, 3, 4, 0 1, 1, 0")) (fault 53 9)
+    ∷ checks (game_refusal (words "1 1 0, 2, 0, 3, 4, 0 1, 1, 0")) (fault 53 3)
     -- two faults at once: 51 and 52, 52 and 53
-    ∷ checks (game_refusal (words "1 1 0, 0, 0, 1 1, 0, 0 0")) (fault 51 0)
-    ∷ checks (game_refusal (words "1 1 1, 0, 0, 1 1, 0, 0")) (fault 52 5)
+    ∷ checks (game_refusal (words "1 1 0, 0, 0, 3, 4, 1 1, 0, 0 0")) (fault 51 0)
+    ∷ checks (game_refusal (words "1 1 1, 0, 0, 3, 4, 1 1, 0, 0")) (fault 52 7)
     ∷ []
 
 pub handed_cases : All handed
@@ -517,26 +546,31 @@ handed_cases = refl
 abbrev pub restrictions : List Case
 restrictions =
     -- five vertices from vertex 2: breadth first, 3 before 0; vertex 1 and 4 are not reached
-    restricts "5 6 2, 0 1 0 1 0, 7 6 5 4 3, 0 1 2 4 5 6, 2 1 3 0 3 4, 1 2 3 0 5 6" (Done 3 3 4)
-    "3 4 0, 0 1 0, 5 4 7, 0 2 3 4, 1 2 1 0, 3 0 5 1" "2 4294967295 0 1 4294967295"
+    restricts
+    "5 6 2, 0 1 0 1 0, 7 6 5 4 3, 11 12 13 14 15, 21 22 23 24 25, 0 1 2 4 5 6, 2 1 3 0 3 4, 1 2 3 0 5 6" (Done 3 3 4)
+    "3 4 0, 0 1 0, 5 4 7, 13 14 11, 23 24 21, 0 2 3 4, 1 2 1 0, 3 0 5 1" "2 4294967295 0 1 4294967295"
     -- breadth first: vertex 1 is gone through before vertex 2
-    ∷ restricts "5 6 0, 0 0 0 0 0, 1 2 3 4 5, 0 2 3 4 5 6, 1 2 3 4 3 4, 0 0 0 0 0 0" (Done 5 5 6)
-    "5 6 0, 0 0 0 0 0, 1 2 3 4 5, 0 2 3 4 5 6, 1 2 3 4 3 4, 0 0 0 0 0 0" "0 1 2 3 4"
+    ∷ restricts "5 6 0, 0 0 0 0 0, 1 2 3 4 5, 9 0 7 6 8, 6 7 8 9 0, 0 2 3 4 5 6, 1 2 3 4 3 4, 0 0 0 0 0 0" (Done 5 5 6)
+    "5 6 0, 0 0 0 0 0, 1 2 3 4 5, 9 0 7 6 8, 6 7 8 9 0, 0 2 3 4 5 6, 1 2 3 4 3 4, 0 0 0 0 0 0" "0 1 2 3 4"
     -- it begins at 0 (C3)
-    ∷ restricts "2 1 1, 0 0, 0 0, 0 0 1, 1, 4294967295" (Done 1 1 1) "1 1 0, 0, 0, 0 1, 0, 4294967295" "4294967295 0"
+    ∷ restricts "2 1 1, 0 0, 0 0, 3 5, 4 6, 0 0 1, 1, 4294967295" (Done 1 1 1)
+    "1 1 0, 0, 0, 5, 6, 0 1, 0, 4294967295" "4294967295 0"
+    -- states and items are copied unjudged (C7)
+    ∷ restricts "2 2 1, 1 1, 5 6, 4294967295 4294967295, 4294967295 4294967295, 0 1 2, 0 0, 7 8" (Done 2 2 2)
+    "2 2 0, 1 1, 6 5, 4294967295 4294967295, 4294967295 4294967295, 0 1 2, 1 1, 8 7" "1 0"
     -- without edges (C1), with a repeated edge (C7)
-    ∷ restricts "1 0 0, 1, 0, 0 0" (Done 1 1 0) "1 0 0, 1, 0, 0 0" "0"
-    ∷ restricts "1 2 0, 0, 0, 0 2, 0 0, 3 1" (Done 1 1 2) "1 2 0, 0, 0, 0 2, 0 0, 3 1" "0"
+    ∷ restricts "1 0 0, 1, 0, 3, 4, 0 0" (Done 1 1 0) "1 0 0, 1, 0, 3, 4, 0 0" "0"
+    ∷ restricts "1 2 0, 0, 0, 4, 3, 0 2, 0 0, 3 1" (Done 1 1 2) "1 2 0, 0, 0, 4, 3, 0 2, 0 0, 3 1" "0"
     -- 53 and 2 at once: 2 comes last (C2)
-    ∷ checks (restriction_refusal (words "1 1 1, 0, 0, 0 1, 0, 0") 0 0 0) (fault 53 2)
+    ∷ checks (restriction_refusal (words "1 1 1, 0, 0, 3, 4, 0 1, 0, 0") 0 0 0) (fault 53 2)
     -- 2: each slice one word shorter and longer
-    ∷ checks (restriction_refusal (words "1 0 0, 1, 0, 0 0") 7 1 1) (Ok tt)
-    ∷ checks (restriction_refusal (words "1 0 0, 1, 0, 0 0") 6 1 1) (fault 2 0)
-    ∷ checks (restriction_refusal (words "1 0 0, 1, 0, 0 0") 8 1 1) (fault 2 0)
-    ∷ checks (restriction_refusal (words "1 0 0, 1, 0, 0 0") 7 0 1) (fault 2 0)
-    ∷ checks (restriction_refusal (words "1 0 0, 1, 0, 0 0") 7 2 1) (fault 2 0)
-    ∷ checks (restriction_refusal (words "1 0 0, 1, 0, 0 0") 7 1 0) (fault 2 0)
-    ∷ checks (restriction_refusal (words "1 0 0, 1, 0, 0 0") 7 1 2) (fault 2 0)
+    ∷ checks (restriction_refusal (words "1 0 0, 1, 0, 3, 4, 0 0") 9 1 1) (Ok tt)
+    ∷ checks (restriction_refusal (words "1 0 0, 1, 0, 3, 4, 0 0") 8 1 1) (fault 2 0)
+    ∷ checks (restriction_refusal (words "1 0 0, 1, 0, 3, 4, 0 0") 10 1 1) (fault 2 0)
+    ∷ checks (restriction_refusal (words "1 0 0, 1, 0, 3, 4, 0 0") 9 0 1) (fault 2 0)
+    ∷ checks (restriction_refusal (words "1 0 0, 1, 0, 3, 4, 0 0") 9 2 1) (fault 2 0)
+    ∷ checks (restriction_refusal (words "1 0 0, 1, 0, 3, 4, 0 0") 9 1 0) (fault 2 0)
+    ∷ checks (restriction_refusal (words "1 0 0, 1, 0, 3, 4, 0 0") 9 1 2) (fault 2 0)
     ∷ []
 
 pub restriction_cases : All restrictions

@@ -31,19 +31,21 @@ use Rattle.rules.proofs.Unfold.{every_rule}
 
 pub room_faults :
     FaultyRoom (room_of 0 1) 6 2 1 0
-    × FaultyRoom (room_of 1_048_577 1) 3_145_737 8_388_618 1 0
-    × FaultyRoom (room_of 1 0) 7 8 1 0
-    × FaultyRoom (room_of 1 4_194_305) 8_388_617 8_388_618 1 0
-    × FaultyRoom (room_of 6 8) 37 64 2 0
-    × FaultyRoom (room_of 6 8) 39 64 2 0
-    × FaultyRoom (room_of 6 8) 38 63 2 0
-    × FaultyRoom (room_of 6 8) 38 65 2 0
+    × FaultyRoom (room_of 1_048_577 1) 5_242_891 8_388_618 1 0
+    × FaultyRoom (room_of 1 0) 9 8 1 0
+    × FaultyRoom (room_of 1 4_194_305) 8_388_619 8_388_618 1 0
+    × FaultyRoom (room_of 6 8) 49 64 2 0
+    × FaultyRoom (room_of 6 8) 51 64 2 0
+    × FaultyRoom (room_of 6 8) 38 64 2 0
+    × FaultyRoom (room_of 6 8) 50 63 2 0
+    × FaultyRoom (room_of 6 8) 50 65 2 0
 unfolding every_rule
 room_faults = (
   few_vertices (lit< tt),
   many_vertices (lit< tt),
   few_edges (lit< tt),
   many_edges (lit< tt),
+  wrong_game (eqb-false _ _ refl),
   wrong_game (eqb-false _ _ refl),
   wrong_game (eqb-false _ _ refl),
   wrong_work (eqb-false _ _ refl),
@@ -234,7 +236,7 @@ formula_faults = (
 
 -- ---- what is just right: no fault, or none of the number (a list is written out where a text would be read often)
 
-pub least_room_right : (n p : ℕ) → ¬ FaultyRoom (room_of 1 1) 9 10 n p
+pub least_room_right : (n p : ℕ) → ¬ FaultyRoom (room_of 1 1) 11 10 n p
 unfolding every_rule
 least_room_right n p (few_vertices h) = omega (arith, h)
 least_room_right n p (many_vertices h) = omega (arith, h)
@@ -243,7 +245,7 @@ least_room_right n p (many_edges h) = omega (arith, h)
 least_room_right n p (wrong_game h) = h refl
 least_room_right n p (wrong_work h) = h refl
 
-pub most_room_right : (n p : ℕ) → ¬ FaultyRoom (room_of 1_048_576 4_194_304) 11_534_340 16_777_216 n p
+pub most_room_right : (n p : ℕ) → ¬ FaultyRoom (room_of 1_048_576 4_194_304) 13_631_492 16_777_216 n p
 unfolding every_rule
 most_room_right n p (few_vertices h) = omega (arith, h)
 most_room_right n p (many_vertices h) = omega (arith, h)

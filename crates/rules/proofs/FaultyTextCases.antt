@@ -22,9 +22,9 @@ use Rattle.rules.proofs.Unfold.{every_rule, every_solver_rule}
 
 -- ---- writing
 
-pub writing_faults : FaultyWriting (words "1 0 0, 2, 0, 0 0") 0 53 3
-    × FaultyWriting (words "2 1 0, 1 1, 0 0, 0 1 1, 1") 99 98 0
-    × FaultyWriting (words "1 1 0, 0, 0, 0 1, 0") 18 2 0
+pub writing_faults : FaultyWriting (words "1 0 0, 2, 0, 3, 4, 0 0") 0 53 3
+    × FaultyWriting (words "2 1 0, 1 1, 0 0, 3 5, 4 6, 0 1 1, 1, 0") 99 98 0
+    × FaultyWriting (words "1 1 0, 0, 0, 3, 4, 0 1, 0, 0") 18 2 0
 unfolding every_rule every_solver_rule
 writing_faults = (
   no_game (owner_too_large 0 (lit< tt) (lit< tt)),
@@ -119,14 +119,14 @@ zero_alone (inl e) = let z : ◌≡◌ {A = ℕ} 1 0 = e in omega arith
 zero_alone (inr x') = elim x' [ ]
 
 pub reading_faults : FaultyReading (room_of 1048577 1) [] 0 1 0
-    × FaultyReading (room_of 1 1) [] 10 2 0
-    × FaultyReading (room_of 4 4) (characters "parity 1;\n0 0 0 0;\n") 24 92 0
-    × FaultyReading (room_of 4 4) (characters "parity 1;\n0 0 0 0;\n0 0 0 0;\n") 24 92 0
-    × FaultyReading (room_of 4 4) (characters "parity 0;\n1 0 0 2;\n") 24 92 0
-    × FaultyReading (room_of 4 4) (characters "parity 0;\n1 0 0 2;\n") 24 92 0
-    × FaultyReading (room_of 1 4) (characters "parity 1;\n0 0 0 0;\n") 15 93 0
-    × FaultyReading (room_of 4 0) (characters "parity 0;\n0 0 0 0;\n") 16 93 0
-    × FaultyReading (room_of 4 4) (characters "parity 0;\n0 4294967296 0 0,0;\n") 24 93 0
+    × FaultyReading (room_of 1 1) [] 12 2 0
+    × FaultyReading (room_of 4 4) (characters "parity 1;\n0 0 0 0;\n") 32 92 0
+    × FaultyReading (room_of 4 4) (characters "parity 1;\n0 0 0 0;\n0 0 0 0;\n") 32 92 0
+    × FaultyReading (room_of 4 4) (characters "parity 0;\n1 0 0 2;\n") 32 92 0
+    × FaultyReading (room_of 4 4) (characters "parity 0;\n1 0 0 2;\n") 32 92 0
+    × FaultyReading (room_of 1 4) (characters "parity 1;\n0 0 0 0;\n") 17 93 0
+    × FaultyReading (room_of 4 0) (characters "parity 0;\n0 0 0 0;\n") 24 93 0
+    × FaultyReading (room_of 4 4) (characters "parity 0;\n0 4294967296 0 0,0;\n") 32 93 0
 unfolding every_rule every_solver_rule
 reading_faults = (
   no_room (many_vertices (lit< tt)),

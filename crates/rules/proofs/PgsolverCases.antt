@@ -66,11 +66,11 @@ AllSolver cs = map given cs ≡ map expected cs
 -- ---- games as text
 
 abbrev case1 : String
-case1 = "3 3 0, 0 0 1, 0 0 0, 0 1 2 3, 1 2 0, 0 1 0"
+case1 = "3 3 0, 0 0 1, 0 0 0, 0 0 0, 0 1 2, 0 1 2 3, 1 2 0, 0 1 0"
 
--- .. as it is read: "games read from text carry 0" (#102)
+-- .. as it is read: "games read from text carry 0" (#102), and "0 in both", state and item (#105)
 abbrev case1_read : String
-case1_read = "3 3 0, 0 0 1, 0 0 0, 0 1 2 3, 1 2 0, 0 0 0"
+case1_read = "3 3 0, 0 0 1, 0 0 0, 0 0 0, 0 0 0, 0 1 2 3, 1 2 0, 0 0 0"
 
 abbrev text1 : String
 text1 = "parity 2;\n0 0 0 1;\n1 0 0 2;\n2 0 1 0;\n"
@@ -80,25 +80,26 @@ written =
     -- case 1, in a slice of just enough bytes, and in a longer one (E1); priority before owner
     writes case1 37 text1 37
     ∷ writes case1 40 text1 37
-    ∷ writes "1 1 0, 0, 0, 0 1, 0, 5" 30 "parity 0;\n0 0 0 0;\n" 19
+    ∷ writes "1 1 0, 0, 0, 3, 4, 0 1, 0, 5" 30 "parity 0;\n0 0 0 0;\n" 19
     -- "each once, by first appearance"
-    ∷ writes "2 6 0, 0 1, 5 12, 0 5 6, 1 0 1 0 0 1, 0 0 0 0 0 0" 40 "parity 1;\n0 5 0 1,0;\n1 12 1 1;\n" 31
-    ∷ writes "2 4 0, 0 1, 0 7, 0 2 4, 1 1 1 0, 1 2 3 4" 40 "parity 1;\n0 0 0 1;\n1 7 1 1,0;\n" 30
+    ∷ writes "2 6 0, 0 1, 5 12, 3 6, 4 7, 0 5 6, 1 0 1 0 0 1, 0 0 0 0 0 0" 40 "parity 1;\n0 5 0 1,0;\n1 12 1 1;\n" 31
+    ∷ writes "2 4 0, 0 1, 0 7, 3 3, 4 4, 0 2 4, 1 1 1 0, 1 2 3 4" 40 "parity 1;\n0 0 0 1;\n1 7 1 1,0;\n" 30
     -- a game that starts elsewhere (E3)
-    ∷ writes "2 2 1, 0 0, 0 0, 0 1 2, 0 1, 0 0" 30 "parity 1;\n0 0 0 0;\n1 0 0 1;\n" 28
+    ∷ writes "2 2 1, 0 0, 0 0, 3 4, 5 6, 0 1 2, 0 1, 0 0" 30 "parity 1;\n0 0 0 0;\n1 0 0 1;\n" 28
     -- the largest priority
-    ∷ writes "1 1 0, 1, 4294967295, 0 1, 0, 4294967295" 30 "parity 0;\n0 4294967295 1 0;\n" 28
+    ∷ writes "1 1 0, 1, 4294967295, 4294967295, 4294967295, 0 1, 0, 4294967295" 30 "parity 0;\n0 4294967295 1 0;\n" 28
     -- a slice that is too short by a byte, and none
     ∷ writes_not case1 36 2 0
     ∷ writes_not case1 0 2 0
-    -- 51, 52, 53 with their places, before 98 and 2
-    ∷ writes_not "1 0 0, 0, 0, 0 0, 0" 0 51 0
-    ∷ writes_not "1 0 0, 2, 0, 0 1" 0 52 6
-    ∷ writes_not "1 0 0, 2, 0, 0 0" 0 53 3
+    -- 51, 52, 53 with their places, before 98 and 2; a game without states and items (#105) is refused 51
+    ∷ writes_not "1 0 0, 0, 0, 3, 4, 0 0, 0" 0 51 0
+    ∷ writes_not "1 1 0, 0, 0, 0 1, 0, 0" 30 51 0
+    ∷ writes_not "1 0 0, 2, 0, 3, 4, 0 1" 0 52 8
+    ∷ writes_not "1 0 0, 2, 0, 3, 4, 0 0" 0 53 3
     -- 98 at place 0 (E2), before 2; the first vertex, the last one
-    ∷ writes_not "2 1 0, 1 1, 0 0, 0 1 1, 1, 0" 0 98 0
-    ∷ writes_not "2 1 0, 1 1, 0 0, 0 1 1, 1, 0" 40 98 0
-    ∷ writes_not "2 1 0, 1 1, 0 0, 0 0 1, 1, 0" 40 98 0
+    ∷ writes_not "2 1 0, 1 1, 0 0, 3 5, 4 6, 0 1 1, 1, 0" 0 98 0
+    ∷ writes_not "2 1 0, 1 1, 0 0, 3 5, 4 6, 0 1 1, 1, 0" 40 98 0
+    ∷ writes_not "2 1 0, 1 1, 0 0, 3 5, 4 6, 0 0 1, 1, 0" 40 98 0
     ∷ []
 
 pub written_cases : AllSolver written
@@ -113,14 +114,14 @@ read =
     reads 3 3 text1 (Done 3 3 3) case1_read
     ∷ reads 4 5 "parity 2;\n2 0 1 0;\n0 0 0 1;\n1 0 0 2;\n" (Done 3 3 3) case1_read
     -- priority before owner; the largest priority
-    ∷ reads 1 1 "parity 0;\n0 4294967295 1 0;\n" (Done 1 1 1) "1 1 0, 1, 4294967295, 0 1, 0, 0"
-    ∷ reads 1 1 "parity 0;\n0 13568 1 0;\n" (Done 1 1 1) "1 1 0, 1, 13568, 0 1, 0, 0"
+    ∷ reads 1 1 "parity 0;\n0 4294967295 1 0;\n" (Done 1 1 1) "1 1 0, 1, 4294967295, 0, 0, 0 1, 0, 0"
+    ∷ reads 1 1 "parity 0;\n0 13568 1 0;\n" (Done 1 1 1) "1 1 0, 1, 13568, 0, 0, 0 1, 0, 0"
     -- "a repeated successor kept once", where it first stands; room for the edges that are kept (E8)
-    ∷ reads 2 3 "parity 1;\n1 0 0 1,0,1,1;\n0 3 1 0,0;\n" (Done 2 2 3) "2 3 0, 1 0, 3 0, 0 1 3, 0 1 0, 0 0 0"
+    ∷ reads 2 3 "parity 1;\n1 0 0 1,0,1,1;\n0 3 1 0,0;\n" (Done 2 2 3) "2 3 0, 1 0, 3 0, 0 0, 0 0, 0 1 3, 0 1 0, 0 0 0"
     -- names: none, an empty one (E5), one with commas and semicolons (E12), one with bytes that are no characters
-    ∷ reads 1 1 "parity 0;\n0 0 0 0 \"\";\n" (Done 1 1 1) "1 1 0, 0, 0, 0 1, 0, 0"
-    ∷ reads 1 1 "parity 0;\n0 0 0 0 \"a;b, 1 2\";\n" (Done 1 1 1) "1 1 0, 0, 0, 0 1, 0, 0"
-    ∷ reads_bytes 1 1 (characters "parity 0;\n0 0 0 0 \"" ++ (0 ∷ 255 ∷ (characters "\";\n"))) (Done 1 1 1) "1 1 0, 0, 0, 0 1, 0, 0"
+    ∷ reads 1 1 "parity 0;\n0 0 0 0 \"\";\n" (Done 1 1 1) "1 1 0, 0, 0, 0, 0, 0 1, 0, 0"
+    ∷ reads 1 1 "parity 0;\n0 0 0 0 \"a;b, 1 2\";\n" (Done 1 1 1) "1 1 0, 0, 0, 0, 0, 0 1, 0, 0"
+    ∷ reads_bytes 1 1 (characters "parity 0;\n0 0 0 0 \"" ++ (0 ∷ 255 ∷ (characters "\";\n"))) (Done 1 1 1) "1 1 0, 0, 0, 0, 0, 0 1, 0, 0"
     ∷ []
 
 pub read_cases : AllSolver read
@@ -189,7 +190,7 @@ misnumbered =
     -- above the highest, as a vertex and as a successor; the highest itself is not
     ∷ reads_not 4 4 "parity 1;\n0 0 0 0;\n2 0 0 0;\n" 92
     ∷ reads_not 4 4 "parity 1;\n0 0 0 1,2;\n1 0 0 0;\n" 92
-    ∷ reads 2 2 "parity 1;\n0 0 0 1;\n1 0 0 1;\n" (Done 2 2 2) "2 2 0, 0 0, 0 0, 0 1 2, 1 1"
+    ∷ reads 2 2 "parity 1;\n0 0 0 1;\n1 0 0 1;\n" (Done 2 2 2) "2 2 0, 0 0, 0 0, 0 0, 0 0, 0 1 2, 1 1, 0 0"
     -- numbers beyond 32 and beyond 64 bits (E7)
     ∷ reads_not 4 4 "parity 0;\n0 0 0 4294967296;\n" 92
     ∷ reads_not 4 4 "parity 0;\n18446744073709551616 0 0 0;\n" 92
@@ -208,18 +209,19 @@ beyond =
     -- a vertex too many, an edge too many, of those that are kept (E8)
     reads_not 1 9 "parity 1;\n0 0 0 0;\n1 0 0 0;\n" 93
     ∷ reads_not 2 2 "parity 1;\n0 0 0 0,1;\n1 0 0 0;\n" 93
-    ∷ reads 2 3 "parity 1;\n0 0 0 0,1;\n1 0 0 0;\n" (Done 2 2 3) "2 3 0, 0 0, 0 0, 0 2 3, 0 1 0, 0 0 0"
-    ∷ reads 1 1 "parity 0;\n0 0 0 0,0,0,0,0;\n" (Done 1 1 1) "1 1 0, 0, 0, 0 1, 0, 0"
+    ∷ reads 2 3 "parity 1;\n0 0 0 0,1;\n1 0 0 0;\n" (Done 2 2 3) "2 3 0, 0 0, 0 0, 0 0, 0 0, 0 2 3, 0 1 0, 0 0 0"
+    ∷ reads 1 1 "parity 0;\n0 0 0 0,0,0,0,0;\n" (Done 1 1 1) "1 1 0, 0, 0, 0, 0, 0 1, 0, 0"
     -- a priority beyond 32 bits, and beyond 64
     ∷ reads_not 1 1 "parity 0;\n0 4294967296 0 0;\n" 93
     ∷ reads_not 1 1 "parity 0;\n0 18446744073709551616 0 0;\n" 93
     -- "after 1 and 2"
     ∷ reads_not_into 6 0 1 "" 1
-    ∷ reads_not_into 7 1 0 "" 1
+    ∷ reads_not_into 9 1 0 "" 1
     ∷ reads_not_into 0 1048577 1 "" 1
     ∷ reads_not_into 0 1 4194305 "" 1
-    ∷ reads_not_into 8 1 1 text1 2
-    ∷ reads_not_into 10 1 1 "" 2
+    ∷ reads_not_into 10 1 1 text1 2
+    ∷ reads_not_into 12 1 1 "" 2
+    ∷ reads_not_into 9 1 1 "parity 0;\n0 0 0 0;\n" 2
     ∷ []
 
 pub beyond_cases : AllSolver beyond

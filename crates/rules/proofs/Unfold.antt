@@ -21,8 +21,9 @@ use Rattle.rules.specs.Pairs.{matching_transitions, successors, formula_targets,
 use Rattle.rules.specs.Pairs.{formula_transitions, item_transitions, modal_transitions, transitions_behind}
 use Rattle.rules.specs.Walk.{push_new, settle, step_from, step, steps_from, walk}
 use Rattle.rules.specs.Reach.{all_targets, reached_in, reachable_pairs, N}
-use Rattle.rules.specs.Game.{waiting_vertex, stuck_priority, totalised_by, totalised, settled_vertex, ruled_edge, ruled_vertex}
-use Rattle.rules.specs.Game.{vertex_at, vertices, edge_count, offsets, all_edges, columns, game_of, padded, edge_at, edges_at}
+use Rattle.rules.specs.Game.{edge_count, offsets, all_edges, columns, game_of, padded, pairs_in, edge_at, edges_at}
+use Rattle.rules.specs.Vertices.{stuck_priority, totalised_by, totalised, ruled_edge, ruled_vertex, settled_vertex}
+use Rattle.rules.specs.Vertices.{waiting_vertex, vertex_at, vertices_of}
 use Rattle.rules.specs.Refusal.{outside, differ, fault_from, lower_fault, refusal1, refusal2, refusal11, refusal12}
 use Rattle.rules.specs.Refusal.{bad_label, refusal13, refusal21, refusal22, refusal23, refusal24, too_large}
 use Rattle.rules.specs.Refusal.{refusal25, refusal26, refusal31, refusal32, refusal33, wrong_operand}
@@ -44,10 +45,10 @@ use Rattle.rules.specs.PgsolverParse.{read_commas, read_list, read_name, read_na
 use Rattle.rules.specs.PgsolverParse.{read_lines, read_header, parse}
 use Rattle.rules.specs.PgsolverWriting.{line_in, text_in, game_text, has_successor, refusal98, writing_refusal}
 use Rattle.rules.specs.PgsolverWriting.{written_or, written_game}
-use Rattle.rules.specs.PgsolverReading.{vertex_of, vertex_named, read_vertices, all, different, within_highest}
+use Rattle.rules.specs.PgsolverReading.{text_vertex, vertex_of, vertex_named, read_vertices, all, different, within_highest}
 use Rattle.rules.specs.PgsolverReading.{refusal92, refusal93, text_refusal, reading_refusal, read_as, vertices_in}
 use Rattle.rules.specs.PgsolverReading.{read_or, read_game}
-use Rattle.rules.specs.Run.{walk_of, vertices_of, exceeds, built_answer, built_outcome, out_of_room, walk_outcome, refused_or, run}
+use Rattle.rules.specs.Run.{walk_of, exceeds, built_answer, built_outcome, out_of_room, walk_outcome, refused_or, run}
 
 unfoldable pub every_rule : Unit {0}
 unfolding from sum largest zeros tally every seek sum_words filter has occurrences position insert insert_all once
@@ -60,11 +61,11 @@ unfolding from sum largest zeros tally every seek sum_words filter has occurrenc
     formula_owner item_owner owner priority matching_transitions successors formula_targets item_targets targets
     formula_transitions item_transitions modal_transitions transitions_behind push_new settle
     step_from step steps_from walk all_targets reached_in reachable_pairs N waiting_vertex stuck_priority totalised_by
-    totalised settled_vertex ruled_edge ruled_vertex vertex_at vertices edge_count offsets all_edges columns game_of padded edge_at edges_at outside differ fault_from lower_fault refusal1
+    totalised settled_vertex ruled_edge ruled_vertex vertex_at vertices_of edge_count offsets all_edges columns game_of padded pairs_in edge_at edges_at outside differ fault_from lower_fault refusal1
     refusal2 refusal11 refusal12 bad_label refusal13 refusal21 refusal22 refusal23 refusal24 too_large refusal25
     refusal26 refusal31 refusal32 refusal33 wrong_operand bad_action_operand refusal34 refusal41 refusal42
     refusal43 names_no_root bad_formula_operand wrong_end refusal44 encloses wrong_reference refusal45
-    input_refusal refusal walk_of vertices_of exceeds built_answer built_outcome out_of_room walk_outcome refused_or run above_room
+    input_refusal refusal walk_of exceeds built_answer built_outcome out_of_room walk_outcome refused_or run above_room
     refusal51 falls refusal52 refusal53 game_refusal search_from reached_vertices new_number kept_edge kept_vertex kept_vertices
     vertex_map restriction_refusal restricted_to restricted_or restriction digits_to decimal spaced
     line text_into word_of joined words_of gate_words disagree slices_of gate_room gate_steps gate_run done_text cut_text
@@ -76,6 +77,6 @@ unfoldable pub every_solver_rule : Unit {0}
 unfolding then_read with_first read_byte read_bytes is_digit digits_at past_digits value_on no_numeral read_number read_field
     parity_word header_text comma_text list_text name_text line_text lines_text spelled read_commas read_list read_name read_named
     read_owner read_line with_line read_lines read_header parse line_in text_in game_text has_successor refusal98 writing_refusal
-    written_or written_game vertex_of vertex_named read_vertices all different within_highest refusal92 refusal93 text_refusal
+    written_or written_game text_vertex vertex_of vertex_named read_vertices all different within_highest refusal92 refusal93 text_refusal
     reading_refusal read_as vertices_in read_or read_game
 every_solver_rule = tt

@@ -15,7 +15,9 @@ use Rattle.rules.specs.Depth.{Ranking}
 use Rattle.rules.specs.Items.{items}
 use Rattle.rules.specs.Pairs.{Pair, initial_pair, owner, priority, targets, transitions_behind}
 use Rattle.rules.specs.Reach.{Reachable, reachable_pairs, N}
-use Rattle.rules.specs.Game.{stuck_priority, vertex_count, edges_in, initial_in, owner_in, priority_in, offset_in, targets_in, counts_in, game_end}
+use Rattle.rules.specs.Game.{vertex_count, edges_in, initial_in, owner_in, priority_in, state_in, item_in, pair_in, pairs_in}
+use Rattle.rules.specs.Game.{offset_in, targets_in, counts_in, game_end}
+use Rattle.rules.specs.Vertices.{stuck_priority}
 use Rattle.rules.specs.Faulty.{FirstFaulty, Faultless}
 
 -- ---- 01's "One step" as a relation: no stack
@@ -46,16 +48,20 @@ unfoldable pub settled_below : List ℕ → ℕ → ℕ
 settled_below g zero = 0
 settled_below g (suc v) = cond (ltb (owner_in g v) 2) 1 0 + settled_below g v
 
--- vertex v stands for the pair p
-abbrev pub Stands : Input → List Pair → ℕ → Pair → Type 0
-Stands x ps v p = (v < length ps) × (get_or ps v (initial_pair x) ≡ p)
+-- vertex v of game g stands for the pair p: "The cut theorem now reads its pairs off the game itself" (#105)
+abbrev pub Stands : List ℕ → ℕ → Pair → Type 0
+Stands g v p = (v < vertex_count g) × (pair_in g v ≡ p)
+
+-- "no two vertices have the same two values", state and item
+abbrev pub Apart : List ℕ → Type 0
+Apart g = (u v : ℕ) → u < vertex_count g → v < vertex_count g → state_in g u ≡ state_in g v → item_in g u ≡ item_in g v → u ≡ v
 
 -- one edge for each of the pairs, in order, to the vertex that stands for it
-abbrev pub Lead : Input → List Pair → List ℕ → List Pair → Type 0
-Lead x ps [] [] = Unit {0}
-Lead x ps [] (q ∷ qs) = ⊥
-Lead x ps (u ∷ us) [] = ⊥
-Lead x ps (u ∷ us) (q ∷ qs) = Stands x ps u q × Lead x ps us qs
+abbrev pub Lead : List ℕ → List ℕ → List Pair → Type 0
+Lead g [] [] = Unit {0}
+Lead g [] (q ∷ qs) = ⊥
+Lead g (u ∷ us) [] = ⊥
+Lead g (u ∷ us) (q ∷ qs) = Stands g u q × Lead g us qs
 
 -- "A settled vertex without targets gets an edge to itself, and priority 0 if Odd, 1 if Even": the vertex; its owner,
 -- priority and edges by the rules; the priority shown and the edges added
@@ -65,36 +71,35 @@ Totalised v o p (t ∷ ts) shown added = (shown ≡ p) × (added ≡ [])
 
 -- vertex v is shown as the rules have its pair p; each edge with the number of transitions behind it, an added one
 -- with 0 (document 02, #102: "Transitions behind an edge")
-pub record SettledRow (rank : Ranking) (x : Input) (g : List ℕ) (ps : List Pair) (v : ℕ) (p : Pair) : Type 0 where
+pub record SettledRow (rank : Ranking) (x : Input) (g : List ℕ) (v : ℕ) (p : Pair) : Type 0 where
   pub ruled : List ℕ
   pub added : List ℕ
   pub owned : owner_in g v ≡ player_index (owner x p)
   pub edges : targets_in g v ≡ ruled ++ added
-  pub leads : Lead x ps ruled (targets x p)
+  pub leads : Lead g ruled (targets x p)
   pub counts : counts_in g v ≡ map (transitions_behind x p) (targets x p) ++ zeros added
   pub total : Totalised v (owner x p) (priority rank x p) ruled (priority_in g v) added
 
--- a: the answer; g: the game slice's words; ps: the pair of each vertex
-pub record CutTheorem (rank : Ranking) (x : Input) (k : ℕ) (a : Answer) (g : List ℕ) (ps : List Pair) : Type 0 where
+-- a: the answer; g: the game slice's words. The pair of a vertex is the state and the item that g shows of it
+pub record CutTheorem (rank : Ranking) (x : Input) (k : ℕ) (a : Answer) (g : List ℕ) : Type 0 where
   -- demand 3: the settled vertices number exactly the smaller of k and N
   pub counted : settled_below g (vertex_count g) ≡ min k (N x)
   -- demand 3: cut exactly when k < N. "Done (steps, vertices, edges), Cut (steps, vertices known, edges)"
   pub answered : let s = settled_below g (vertex_count g) in
       a ≡ cond (ltb k (N x)) (Cut s (vertex_count g) (edges_in g)) (Done s (vertex_count g) (edges_in g))
-  -- each vertex has a pair of a state and an item
-  pub paired : length ps ≡ vertex_count g
-  pub inside : (p : Pair) → In p ps → (p.0 < state_count x.system) × (p.1 < length (items x))
+  -- "Each vertex, waiting ones too", shows a state of the system and an item of the formula
+  pub inside : (v : ℕ) → v < vertex_count g → (state_in g v < state_count x.system) × (item_in g v < length (items x))
   -- "Vertex 0 is (initial state, equation 0)"
-  pub first : (initial_in g ≡ 0) × Stands x ps 0 (initial_pair x)
+  pub first : (initial_in g ≡ 0) × Stands g 0 (initial_pair x)
   -- demand 3: distinct reachable pairs, waiting ones too
-  pub distinct : Distinct ps
-  pub reached : (p : Pair) → In p ps → Reachable (targets x) (initial_pair x) p
+  pub distinct : Apart g
+  pub reached : (v : ℕ) → v < vertex_count g → Reachable (targets x) (initial_pair x) (pair_in g v)
   -- demand 3: right owners, priorities, edges
-  pub settled : (v : ℕ) → v < vertex_count g → owner_in g v < 2 → SettledRow rank x g ps v (get_or ps v (initial_pair x))
+  pub settled : (v : ℕ) → v < vertex_count g → owner_in g v < 2 → SettledRow rank x g v (pair_in g v)
   pub waiting : (v : ℕ) → v < vertex_count g → (¬ (owner_in g v < 2)) → (owner_in g v ≡ 2) × (priority_in g v ≡ 0) × (targets_in g v ≡ [])
   -- which pairs are known, under which numbers, and which are settled is as 01's steps leave it, in a cut game too
   pub order : List ℕ
-  pub walked : After (targets x) (initial_pair x) k ps order
+  pub walked : After (targets x) (initial_pair x) k (pairs_in g) order
   pub taken : (v : ℕ) → v < vertex_count g → (owner_in g v < 2) ↔ In v order
   -- the words are a game, and nothing else stands in the slice
   pub begins : offset_in g 0 ≡ 0
@@ -109,12 +114,12 @@ pub record CutTheorem (rank : Ranking) (x : Input) (k : ℕ) (a : Answer) (g : L
   pub waits : k < N x → (v : ℕ) × (v < vertex_count g) × (owner_in g v ≡ 2)
   -- else the run ends after exactly N steps, and every reachable pair is a settled vertex
   pub ended : N x ≤ k → a ≡ Done (N x) (vertex_count g) (edges_in g)
-  pub complete : N x ≤ k → (p : Pair) → Reachable (targets x) (initial_pair x) p → (v : ℕ) × Stands x ps v p × (owner_in g v < 2)
+  pub complete : N x ≤ k → (p : Pair) → Reachable (targets x) (initial_pair x) p → (v : ℕ) × Stands g v p × (owner_in g v < 2)
 
--- in every run that is not refused there is a list of pairs such that the cut theorem holds; there is only one such
--- list, answer and game (theorems `pairs_once`, `answer_once`, `game_once`)
+-- the cut theorem holds of every run that is not refused; there is only one such answer and game (theorems
+-- `answer_once`, `game_once`)
 abbrev pub Demand3 : Ranking → Input → ℕ → Answer → List ℕ → Type 0
-Demand3 rank x k a g = Accepted a → (ps : List Pair) × CutTheorem rank x k a g ps
+Demand3 rank x k a g = Accepted a → CutTheorem rank x k a g
 
 -- ---- demand 1: the exact conditions of refusal, and what a refusal leaves
 

@@ -20,7 +20,8 @@ target_place g e = edge_column_at g 0 + e
 
 -- ---- a game that is handed over: fault n at place p
 
--- "51: length fewer than 3 or not" (#102) "4 + 3n + 2m", "no vertex, or a size above the room limits"
+-- "51: length fewer than 3 or not" 4 + 5n + 2m ("51 takes the new length", #105), "no vertex, or a size above the room
+-- limits"
 -- "52: offsets don't begin at 0, fall (at the later word), or don't end at the edge count"
 -- "53: owner above 1, target or initial vertex too large"
 pub data FaultyGame (g : List ℕ) : (n p : ℕ) → Type 0 where

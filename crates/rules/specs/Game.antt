@@ -1,13 +1,10 @@
 -- Games (document 01, "Words handed over": "A game is: vertices, edges, initial vertex; owners and priorities; then the
--- offsets, one more than there are vertices; then the targets. Words past its end are 0. A cut game shows a waiting
--- vertex with owner 2, priority 0 and no edges"; document 02, #102: each edge's "count of matching transitions", "in an
--- array after the targets"). Assumes nothing: these are definitions.
-use Rattle.std.specs.Prelude.{ℕ, suc, ◌+◌, ◌*◌, ◌-◌, Bool, cond, List, [], ◌∷◌, ◌++◌, map, get_or, length, replicate, eqb}
+-- offsets, one more than there are vertices; then the targets. Words past its end are 0"; document 02, #102: the "count
+-- of matching transitions" of each edge, "in an array after the targets"; #105: "Each vertex, waiting ones too, gains
+-- its state and item number, two parallel arrays after owners and priorities"). Assumes nothing: these are definitions.
+use Rattle.std.specs.Prelude.{ℕ, suc, ◌+◌, ◌*◌, ◌-◌, List, [], ◌∷◌, ◌++◌, map, length, replicate}
 use Rattle.std.proofs.Math.Seq.{slice}
-use Rattle.player.specs.Player.{player_index, other_player}
-use Rattle.player.specs.declared.Player.{Player}
-use Rattle.rules.specs.Lists.{word, from, sum, has, position}
-use Rattle.rules.specs.Walk.{Stand}
+use Rattle.rules.specs.Lists.{word, from, sum}
 
 -- an edge and a vertex as the game's words show them: what is written of each is a field here and a column below
 pub record Edge : Type 0 where
@@ -17,72 +14,29 @@ pub record Edge : Type 0 where
 pub record Vertex : Type 0 where
   pub owner : ℕ
   pub priority : ℕ
+  pub state : ℕ
+  pub item : ℕ
   pub edges : List Edge
 
 -- an edge without a count: "added self-loops and games read from text carry 0"
 abbrev pub edge_to : ℕ → Edge
 edge_to t = record { target = t; count = 0 }
 
--- "A cut game shows a waiting vertex with owner 2, priority 0 and no edges"
-unfoldable pub waiting_vertex : Vertex
-waiting_vertex = record { owner = 2; priority = 0; edges = [] }
-
--- ---- what the rules give a settled vertex
-
--- the owner, the priority and the edges that "One step" gives
-pub record Ruled : Type 0 where
-  pub owner : Player
-  pub priority : ℕ
-  pub edges : List Edge
-
--- "priority 0 if Odd, 1 if Even": the opponent's index
-unfoldable pub stuck_priority : Player → ℕ
-stuck_priority o = player_index (other_player o)
-
--- "A settled vertex without targets gets an edge to itself, and priority 0 if Odd, 1 if Even": vertex v, to which the
--- rules give r and these edges
-unfoldable pub totalised_by : List Edge → ℕ → Ruled → Ruled
-totalised_by [] v r = record { owner = r.owner; priority = stuck_priority r.owner; edges = edge_to v ∷ [] }
-totalised_by (e ∷ es) v r = r
-
-unfoldable pub totalised : ℕ → Ruled → Ruled
-totalised v r = totalised_by r.edges v r
-
--- as words
-unfoldable pub settled_vertex : Ruled → Vertex
-settled_vertex r = record { owner = player_index r.owner; priority = r.priority; edges = r.edges }
-
--- ---- the vertices where a walk stands
-
-module _ {A : Type 0} (same : A → A → Bool) (next : A → List A) (root : A) (owner : A → Player) (priority : A → ℕ)
-    (behind : A → A → ℕ) where
-  -- the edge from pair p to its target q: it leads to the vertex that stands for q
-  unfoldable pub ruled_edge : Stand A → A → A → Edge
-  ruled_edge st p q = record { target = position same q st.known; count = behind p q }
-
-  -- what the rules give pair p: an edge for each of its targets, in order
-  unfoldable pub ruled_vertex : Stand A → A → Ruled
-  ruled_vertex st p = record { owner = owner p; priority = priority p; edges = map (ruled_edge st p) (next p) }
-
-  unfoldable pub vertex_at : Stand A → ℕ → Vertex
-  vertex_at st v =
-      let settled = settled_vertex (totalised v (ruled_vertex st (get_or st.known v root))) in
-      cond (has eqb v st.waiting) waiting_vertex settled
-
-  unfoldable pub vertices : Stand A → List Vertex
-  vertices st = map (vertex_at st) (from 0 (length st.known))
+-- what stands where a list of vertices has no vertex
+abbrev pub blank_vertex : Vertex
+blank_vertex = record { owner = 0; priority = 0; state = 0; item = 0; edges = [] }
 
 -- ---- the words of a game
 
--- "owners and priorities": what the game has of each vertex
+-- "owners and priorities", then "state and item number": what the game has of each vertex
 abbrev pub vertex_columns : List (Vertex → ℕ)
-vertex_columns = (λ v. v.owner) ∷ (λ v. v.priority) ∷ []
+vertex_columns = (λ v. v.owner) ∷ (λ v. v.priority) ∷ (λ v. v.state) ∷ (λ v. v.item) ∷ []
 
 -- "then the targets", the counts "in an array after the targets": what it has of each edge
 abbrev pub edge_columns : List (Edge → ℕ)
 edge_columns = (λ e. e.target) ∷ (λ e. e.count) ∷ []
 
--- n vertices and m edges: "4 + 3n + 2m", the offsets being "one more than there are vertices"
+-- n vertices and m edges: 4 + 5n + 2m, the offsets being "one more than there are vertices" (decision F2)
 abbrev pub game_words : (n m : ℕ) → ℕ
 game_words n m = 4 + (length vertex_columns + 1) * n + length edge_columns * m
 
@@ -160,11 +114,24 @@ owner_in g v = vertex_word g 0 v
 abbrev pub priority_in : List ℕ → ℕ → ℕ
 priority_in g v = vertex_word g 1 v
 
+abbrev pub state_in : List ℕ → ℕ → ℕ
+state_in g v = vertex_word g 2 v
+
+abbrev pub item_in : List ℕ → ℕ → ℕ
+item_in g v = vertex_word g 3 v
+
 abbrev pub targets_in : List ℕ → ℕ → List ℕ
 targets_in g v = edge_words_in g 0 v
 
 abbrev pub counts_in : List ℕ → ℕ → List ℕ
 counts_in g v = edge_words_in g 1 v
+
+-- the pair of a state and an item that vertex v shows, and those of all vertices, by their numbers (#105)
+abbrev pub pair_in : List ℕ → ℕ → ℕ × ℕ
+pair_in g v = (state_in g v, item_in g v)
+
+unfoldable pub pairs_in : List ℕ → List (ℕ × ℕ)
+pairs_in g = map (pair_in g) (from 0 (vertex_count g))
 
 -- edge e as the words show it, and the edges of vertex v
 unfoldable pub edge_at : List ℕ → ℕ → Edge

@@ -13,8 +13,8 @@ use Rattle.rules.specs.Refusal.{differ, fault_from, lower_fault, too_large}
 unfoldable pub above_room : (n m : ℕ) → Bool
 above_room n m = ltb most_vertices n || ltb most_edges m
 
--- "51: length fewer than 3 or not" (#102) "4 + 3n + 2m", "no vertex, or a size above the room limits" (decisions C1,
--- C4)
+-- "51: length fewer than 3 or not" 4 + 5n + 2m ("51 takes the new length", #105), "no vertex, or a size above the room
+-- limits" (decisions C1, C4)
 unfoldable pub refusal51 : List ℕ → Check
 refusal51 g =
     fault_if 51 0
@@ -26,7 +26,7 @@ unfoldable pub falls : List ℕ → ℕ → Bool
 falls g w = ltb (word g w) (word g (w - 1))
 
 -- "52: offsets don't begin at 0, fall (at the later word), or don't end at the edge count": they are the words from
--- 3 + 2n to 3 + 3n (decision C6)
+-- 3 + 4n to 3 + 5n (decision C6)
 unfoldable pub refusal52 : List ℕ → Check
 refusal52 g =
     lower_fault (fault_if 52 (offsets_at g) (differ (offset_in g 0) 0))

@@ -12,6 +12,7 @@ pub mod Pairs
 pub mod Walk
 pub mod Reach
 pub mod Game
+pub mod Vertices
 pub mod Rows
 pub mod Faulty
 pub mod Refusal

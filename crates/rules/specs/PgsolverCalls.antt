@@ -5,7 +5,8 @@ use Rattle.rules.specs.declared.Answer.{Answer}
 use Rattle.rules.specs.declared.Answer.TheVariants.{Done, Refused}
 use Rattle.rules.specs.declared.Room.{Room}
 use Rattle.rules.specs.Lists.{word, zeros, In, once}
-use Rattle.rules.specs.Game.{vertex_count, edges_in, initial_in, owner_in, priority_in, offset_in, targets_in, counts_in, game_end}
+use Rattle.rules.specs.Game.{vertex_count, edges_in, initial_in, owner_in, priority_in, state_in, item_in, offset_in}
+use Rattle.rules.specs.Game.{targets_in, counts_in, game_end}
 use Rattle.rules.specs.Pgsolver.{SolverLine, SolverText, HasForm}
 use Rattle.rules.specs.PgsolverWriting.{text_in}
 use Rattle.rules.specs.FaultyText.{FaultyWriting, FirstFaultyWriting, FaultyReading, FirstFaultyReading}
@@ -39,8 +40,10 @@ pub record ReadsGame (t : SolverText) (a : Answer) (h : List ℕ) : Type 0 where
   pub owners : (l : SolverLine) → In l t.lines → owner_in h l.number ≡ l.owner
   pub priorities : (l : SolverLine) → In l t.lines → priority_in h l.number ≡ l.priority
   pub edges : (l : SolverLine) → In l t.lines → targets_in h l.number ≡ once eqb l.successors
-  -- "games read from text carry 0" (#102)
+  -- "games read from text carry 0" (#102), and "0 in both", state and item (#105)
   pub counts : (l : SolverLine) → In l t.lines → counts_in h l.number ≡ zeros (once eqb l.successors)
+  pub states : (l : SolverLine) → In l t.lines → state_in h l.number ≡ 0
+  pub items : (l : SolverLine) → In l t.lines → item_in h l.number ≡ 0
   -- and every vertex has a line
   pub given : (v : ℕ) → v < vertex_count h → (l : SolverLine) × In l t.lines × (l.number ≡ v)
   -- the words are a game

@@ -13,21 +13,26 @@ use Rattle.rules.specs.declared.Room.{Room}
 use Rattle.rules.specs.Lists.{from, has, once}
 use Rattle.rules.specs.Words.{game_length}
 use Rattle.rules.specs.Answers.{fault_if, and_then, first_fault}
-use Rattle.rules.specs.Game.{Vertex, edge_to, waiting_vertex, edge_count, game_of, padded}
+use Rattle.rules.specs.Game.{Vertex, edge_to, blank_vertex, edge_count, game_of, padded}
 use Rattle.rules.specs.Refusal.{differ, refusal1}
 use Rattle.rules.specs.Pgsolver.{SolverLine, SolverText}
 use Rattle.rules.specs.PgsolverParse.{parse}
 
 -- ---- the game that is read
 
+-- a vertex with owner o, priority p and edges to ts, as a text shows it: "games read from text carry 0" as counts (#102),
+-- and a game read "has 0 in both", state and item (#105)
+unfoldable pub text_vertex : (o p : ℕ) (ts : List ℕ) → Vertex
+text_vertex o p ts = record { owner = o; priority = p; state = 0; item = 0; edges = map edge_to ts }
+
 -- the vertex of a line: "a repeated successor kept once"; the name is ignored
 unfoldable pub vertex_of : SolverLine → Vertex
-vertex_of l = record { owner = l.owner; priority = l.priority; edges = map edge_to (once eqb l.successors) }
+vertex_of l = text_vertex l.owner l.priority (once eqb l.successors)
 
 -- the vertex that these lines give under a number; in a text that is not refused there is one for each, and the first
 -- clause is never reached
 unfoldable pub vertex_named : List SolverLine → ℕ → Vertex
-vertex_named [] v = waiting_vertex
+vertex_named [] v = blank_vertex
 vertex_named (l ∷ ls) v = let later = vertex_named ls v in cond (eqb l.number v) (vertex_of l) later
 
 -- "vertex lines in any order": the vertices in the order of their numbers

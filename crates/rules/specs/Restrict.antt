@@ -1,6 +1,7 @@
 -- The restriction (document 01, "Restriction": "From the initial vertex, breadth first, targets in order; the first met
 -- gets the next number; owners, priorities and edge order stay. The map holds 4,294,967,295 for a vertex not reached";
--- document 02, #102: "The restriction copies the counts"). Assumes nothing: these are definitions.
+-- document 02, #102: "The restriction copies the counts"; #105: "The restriction carries them along", states and
+-- items). Assumes nothing: these are definitions.
 use Rattle.std.specs.Prelude.{ℕ, zero, suc, cond, ◌||◌, List, [], ◌∷◌, map, length, get_or, eqb, ltb}
 use Rattle.rules.specs.declared.Answer.{Answer}
 use Rattle.rules.specs.declared.Answer.TheVariants.{Done, Refused}
@@ -9,7 +10,7 @@ use Rattle.std.specs.declared.result.Result.TheVariants.{Ok, Err}
 use Rattle.rules.specs.Lists.{from, zeros, has, position, insert_all}
 use Rattle.rules.specs.Answers.{fault_if, and_then}
 use Rattle.rules.specs.Game.{Edge, Vertex, edge_count, game_of, padded}
-use Rattle.rules.specs.Game.{vertex_count, initial_in, owner_in, priority_in, targets_in, edges_at}
+use Rattle.rules.specs.Game.{vertex_count, initial_in, owner_in, priority_in, state_in, item_in, targets_in, edges_at}
 use Rattle.rules.specs.Refusal.{differ}
 use Rattle.rules.specs.GameRefusal.{game_refusal}
 
@@ -41,7 +42,13 @@ kept_edge met e = record { target = new_number met e.target; count = e.count }
 
 unfoldable pub kept_vertex : List ℕ → List ℕ → ℕ → Vertex
 kept_vertex g met v =
-    record { owner = owner_in g v; priority = priority_in g v; edges = map (kept_edge met) (edges_at g v) }
+    record {
+      owner = owner_in g v;
+      priority = priority_in g v;
+      state = state_in g v;
+      item = item_in g v;
+      edges = map (kept_edge met) (edges_at g v);
+    }
 
 unfoldable pub kept_vertices : List ℕ → List ℕ → List Vertex
 kept_vertices g met = map (kept_vertex g met) met

@@ -6,9 +6,10 @@ use Rattle.rules.specs.declared.Answer.TheVariants.{Done, Refused}
 use Rattle.rules.specs.Lists.{word, zeros, In, Distinct}
 use Rattle.rules.specs.Answers.{Accepted}
 use Rattle.rules.specs.Reach.{Reachable}
-use Rattle.rules.specs.Game.{vertex_count, edges_in, initial_in, owner_in, priority_in, offset_in, targets_in, counts_in, game_end}
+use Rattle.rules.specs.Game.{vertex_count, edges_in, initial_in, owner_in, priority_in, state_in, item_in, offset_in}
+use Rattle.rules.specs.Game.{targets_in, counts_in, game_end}
 use Rattle.rules.specs.FaultyGame.{FaultyRestriction, FirstFaultyRestriction}
-use Rattle.rules.specs.Demands.{Numbers}
+use Rattle.rules.specs.Demands.{Numbers, Apart}
 
 -- "breadth first, targets in order; the first met gets the next number" as a relation: the vertices met once the first
 -- i of them have been gone through, the least number first
@@ -32,11 +33,16 @@ pub record Restricts (g : List ℕ) (a : Answer) (h ns met : List ℕ) : Type 0 
   pub mapped : length ns ≡ vertex_count g
   pub sends : (v : ℕ) → Reachable (targets_in g) (initial_in g) v → (word ns v < length met) × (get_or met (word ns v) 0 ≡ v)
   pub leaves : (v : ℕ) → v < vertex_count g → (¬ Reachable (targets_in g) (initial_in g) v) → word ns v ≡ 4_294_967_295
-  -- each new vertex has the owner, the priority and, in order, the mapped edges of its old one, with their counts
+  -- each new vertex has the owner, the priority, the state, the item and, in order, the mapped edges of its old one,
+  -- with their counts
   pub owners : (u : ℕ) → u < length met → owner_in h u ≡ owner_in g (get_or met u 0)
   pub priorities : (u : ℕ) → u < length met → priority_in h u ≡ priority_in g (get_or met u 0)
+  pub states : (u : ℕ) → u < length met → state_in h u ≡ state_in g (get_or met u 0)
+  pub items : (u : ℕ) → u < length met → item_in h u ≡ item_in g (get_or met u 0)
   pub edges : (u : ℕ) → u < length met → targets_in h u ≡ map (λ t. word ns t) (targets_in g (get_or met u 0))
   pub counts : (u : ℕ) → u < length met → counts_in h u ≡ counts_in g (get_or met u 0)
+  -- where no two vertices have the same state and item, no two of the new ones do
+  pub apart : Apart g → Apart h
   -- the words are a game, and nothing else stands in the slice
   pub begins : offset_in h 0 ≡ 0
   pub follows : (u : ℕ) → u < vertex_count h → offset_in h (suc u) ≡ offset_in h u + length (targets_in h u)

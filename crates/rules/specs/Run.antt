@@ -9,9 +9,10 @@ use Rattle.rules.specs.Lists.{zeros}
 use Rattle.rules.specs.declared.Room.{Room}
 use Rattle.rules.specs.Words.{Input}
 use Rattle.rules.specs.Depth.{Ranking}
-use Rattle.rules.specs.Pairs.{Pair, same_pair, initial_pair, owner, priority, targets, transitions_behind}
+use Rattle.rules.specs.Pairs.{Pair, same_pair, initial_pair, targets}
 use Rattle.rules.specs.Walk.{Stand, walk}
-use Rattle.rules.specs.Game.{Vertex, vertices, edge_count, game_of, padded}
+use Rattle.rules.specs.Game.{Vertex, edge_count, game_of, padded}
+use Rattle.rules.specs.Vertices.{vertices_of}
 use Rattle.rules.specs.Refusal.{refusal}
 
 -- the answer, and the game slice and the work slice as the call leaves them
@@ -20,13 +21,9 @@ pub record Outcome : Type 0 where
   pub game : List ℕ
   pub work : List ℕ
 
--- where the walk of k steps stands, and its vertices
+-- where the walk of k steps stands
 unfoldable pub walk_of : Input → ℕ → Stand Pair
 walk_of x k = walk same_pair (targets x) (initial_pair x) k
-
-unfoldable pub vertices_of : Ranking → Input → Stand Pair → List Vertex
-vertices_of rank x st =
-    vertices same_pair (targets x) (initial_pair x) (owner x) (priority rank x) (transitions_behind x) st
 
 -- "60: within the first k steps the vertices known exceed V or the edges, added self-loops included, exceed E". Neither
 -- ever falls, so it is told after k steps

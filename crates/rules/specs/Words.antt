@@ -44,7 +44,7 @@ most_vertices = 1_048_576
 abbrev pub most_edges : ℕ
 most_edges = 4_194_304
 
--- "A game slice has 4 + 3V + 2E words" (#102), "the work slice exactly 8V + 2E"
+-- "a game slice has 4 + 5V + 2E words" (#105), "the work slice exactly 8V + 2E"
 unfoldable pub game_length : Room → ℕ
 game_length r = game_words r.vertices r.edges
 

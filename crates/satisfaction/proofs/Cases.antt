@@ -173,11 +173,12 @@ case_wrong =
 abbrev pub alarm_run : Outcome
 alarm_run = run by_depth (on_loop alarm) (room_of 7 8) 64 (replicate (game_length (room_of 7 8)) 9) (replicate (work_length (room_of 7 8)) 9)
 
--- vertices 0 to 6 stand for X, Y as it is referred to, Y, the choice, X and Z as they are referred to, Z. Y's 3 beats
--- X's 2. There is no modality: each of the 8 edges has count 0
+-- vertices 0 to 6 stand for X, Y as it is referred to, Y, the choice, X and Z as they are referred to, Z: that is what
+-- their items say, and each has state 0. Y's 3 beats X's 2. There is no modality: each of the 8 edges has count 0
 abbrev alarm_game : List ℕ
 alarm_game =
     7 ∷ 8 ∷ 0 ∷ 0 ∷ 1 ∷ 1 ∷ 0 ∷ 1 ∷ 1 ∷ 0 ∷ 2 ∷ 0 ∷ 3 ∷ 0 ∷ 0 ∷ 0 ∷ 0
+    ∷ 0 ∷ 0 ∷ 0 ∷ 0 ∷ 0 ∷ 0 ∷ 0 ∷ 0 ∷ 3 ∷ 1 ∷ 4 ∷ 5 ∷ 6 ∷ 2
     ∷ 0 ∷ 1 ∷ 2 ∷ 3 ∷ 5 ∷ 6 ∷ 7 ∷ 8 ∷ 1 ∷ 2 ∷ 3 ∷ 4 ∷ 5 ∷ 0 ∷ 6 ∷ 1 ∷ 0 ∷ 0 ∷ 0 ∷ 0 ∷ 0 ∷ 0 ∷ 0 ∷ 0 ∷ []
 
 -- ---- computed

@@ -29,7 +29,7 @@ module _ (rank : Ranking) (x : Input) (r : Room) (k : ℕ) (game work : List ℕ
 
   pub verdict_exists : Finished (run rank x r k game work).answer → Satisfied x → Verdict (run rank x r k game work).game
   verdict_exists d satisfied =
-      let (ps, cut, enough) = done_cut rank x r k game work d in
+      let (cut, enough) = done_cut rank x r k game work d in
       let good : GoodInput x = done_good rank x r k game work d in
       let w : Written x = satisfied.0 in
       let holds : evaluate x w.row w.whole [] (initial_state x.system) ≡ true = (satisfied_exactly x good w).0 satisfied in
@@ -38,10 +38,10 @@ module _ (rank : Ranking) (x : Input) (r : Room) (k : ℕ) (game work : List ℕ
       let region = claimed_region rank x good sound w holds in
       let starts = initial_claims rank x good sound w holds in
       record {
-        region = region_at rank x k o.answer o.game ps cut enough claimed number region starts;
-        pick = pick_at rank x k o.answer o.game ps cut enough claimed number region starts;
-        number = number_at rank x k o.answer o.game ps cut enough claimed number region starts;
-        accepted = claims_accepted rank x k o.answer o.game ps cut enough claimed number region starts;
+        region = region_at rank x k o.answer o.game cut enough claimed number region starts;
+        pick = pick_at rank x k o.answer o.game cut enough claimed number region starts;
+        number = number_at rank x k o.answer o.game cut enough claimed number region starts;
+        accepted = claims_accepted rank x k o.answer o.game cut enough claimed number region starts;
       }
 
   -- Under a ranking that puts outer equations above inner ones, for every input, room, limit and content of the slices

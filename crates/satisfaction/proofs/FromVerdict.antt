@@ -6,7 +6,6 @@ use mathlib.Core.List.{List, [], ◌∷◌, ◌++◌, append-nil}
 use mathlib.Core.Logic.{inl, inr}
 use Prim.Native.Nat.{ℕ, ◌≤◌, ◌<◌}
 use native.Mathlib.Omega.{arith}
-use lib.ListN.{length, get_or}
 use Rattle.player.specs.Player.{player_index}
 use Rattle.player.specs.declared.Player.{Player}
 use Rattle.player.specs.declared.Player.TheVariants.{Even, Odd}
@@ -16,9 +15,11 @@ use Rattle.rules.specs.Words.{Input}
 use Rattle.rules.specs.Depth.{Ranking}
 use Rattle.rules.specs.Pairs.{Pair, same_pair, initial_pair, owner, priority, targets}
 use Rattle.rules.specs.Reach.{N}
-use Rattle.rules.specs.Game.{stuck_priority, vertex_count, owner_in, priority_in, targets_in}
+use Rattle.rules.specs.Game.{vertex_count, owner_in, priority_in, pair_in, pairs_in, targets_in}
+use Rattle.rules.specs.Vertices.{stuck_priority}
 use Rattle.rules.specs.Demands.{Stands, Lead, Totalised, SettledRow, CutTheorem}
-use Rattle.lists.proofs.Members.{in_at, distinct_positions, has_in, in_has, position_below, position_at, position-of}
+use Rattle.lists.proofs.Members.{has_in, in_has}
+use Rattle.theorems.proofs.Pairs.{lead_in, in_lead, lead_none, stands_in, in_stands, stands_once, stands_position}
 use Rattle.lists.proofs.Equalities.{pair_equality}
 use Rattle.lists.proofs.Tests.{and-true}
 use Rattle.satisfaction.specs.Ranks.{is_even}
@@ -28,27 +29,11 @@ use Rattle.satisfaction.proofs.Regions.{EvenBelow, Goes, Region}
 use Rattle.satisfaction.proofs.Measures.{measure, measure_falls}
 use Rattle.meaning.proofs.Tests.{both_true}
 
--- ---- edges by the rules and targets
-
-module _ (x : Input) (ps : List Pair) where
-  pub lead_in : (u : ℕ) (us : List ℕ) (qs : List Pair) → Lead x ps us qs → In u us → (q : Pair) × In q qs × Stands x ps u q
-  lead_in u [] qs l m = absurd m
-  lead_in u (w ∷ us) [] l m = absurd l
-  lead_in u (w ∷ us) (q ∷ qs) l (inl e) = (q, inl refl, subst (λ (v : ℕ). Stands x ps v q) (sym e) l.0)
-  lead_in u (w ∷ us) (q ∷ qs) l (inr m) = let (r, i, s) = lead_in u us qs l.1 m in (r, inr i, s)
-
-  pub in_lead : (q : Pair) (us : List ℕ) (qs : List Pair) → Lead x ps us qs → In q qs → (u : ℕ) × In u us × Stands x ps u q
-  in_lead q us [] l m = absurd m
-  in_lead q [] (r ∷ qs) l m = absurd l
-  in_lead q (u ∷ us) (r ∷ qs) l (inl e) = (u, inl refl, subst (λ (z : Pair). Stands x ps u z) (sym e) l.0)
-  in_lead q (u ∷ us) (r ∷ qs) l (inr m) = let (w, i, s) = in_lead q us qs l.1 m in (w, inr i, s)
-
-  pub lead_none : (qs : List Pair) → Lead x ps [] qs → qs ≡ []
-  lead_none [] l = refl
-  lead_none (q ∷ qs) l = absurd l
-
-module _ (rank : Ranking) (x : Input) (k : ℕ) (a : Answer) (g : List ℕ) (ps : List Pair) (cut : CutTheorem rank x k a g ps) (enough : N x ≤ k)
+module _ (rank : Ranking) (x : Input) (k : ℕ) (a : Answer) (g : List ℕ) (cut : CutTheorem rank x k a g) (enough : N x ≤ k)
     (region : ℕ → Bool) (pick : ℕ → ℕ) (number : ℕ → ℕ → ℕ) (accepted : AcceptedVerdict g region pick number) where
+  abbrev ps : List Pair
+  ps = pairs_in g
+
   abbrev vertex_of : Pair → ℕ
   vertex_of p = position same_pair p ps
 
@@ -63,42 +48,34 @@ module _ (rank : Ranking) (x : Input) (k : ℕ) (a : Answer) (g : List ℕ) (ps 
 
   -- the vertex v stands for the pair p and is claimed
   record At (p : Pair) (v : ℕ) : Type 0 where
-    below : v < length ps
-    at : get_or ps v (initial_pair x) ≡ p
     known : v < vertex_count g
     claimed : region v ≡ true
-    settled : SettledRow rank x g ps v p
+    settled : SettledRow rank x g v p
 
-  vertex_settled : (v : ℕ) → v < length ps → owner_in g v < 2
+  vertex_settled : (v : ℕ) → v < vertex_count g → owner_in g v < 2
   vertex_settled v h =
-      let p = get_or ps v (initial_pair x) in
-      let (u, (b, e), o) = cut.complete enough p (cut.reached p (in_at ps v (initial_pair x) h)) in
-      subst (λ (w : ℕ). owner_in g w < 2) (distinct_positions ps (initial_pair x) cut.distinct u v b h e) o
+      let (u, s, o) = cut.complete enough (pair_in g v) (cut.reached v h) in
+      subst (λ (w : ℕ). owner_in g w < 2) (stands_once g cut.distinct u v (pair_in g v) s (h, refl)) o
 
   pair-at : (p : Pair) → pair_region p ≡ true → At p (vertex_of p)
   unfolding pair_region
   pair-at p r =
       let (i, c) = and-true (has same_pair p ps) (region (vertex_of p)) r in
-      let m = has_in pair_equality p ps i in
-      let b = position_below pair_equality p ps m in
-      let e = position_at pair_equality p ps (initial_pair x) m in
-      let n : vertex_of p < vertex_count g = omega (arith, cut.paired) in
+      let (n, e) = in_stands g p (has_in pair_equality p ps i) in
       record {
-        below = b;
-        at = e;
         known = n;
         claimed = c;
-        settled = subst (λ (q : Pair). SettledRow rank x g ps (vertex_of p) q) e (cut.settled (vertex_of p) n (vertex_settled (vertex_of p) b));
+        settled = subst (λ (q : Pair). SettledRow rank x g (vertex_of p) q) e (cut.settled (vertex_of p) n (vertex_settled (vertex_of p) n));
       }
 
-  stands_vertex : (q : Pair) (w : ℕ) → Stands x ps w q → vertex_of q ≡ w
-  stands_vertex q w (b, e) = ap vertex_of (sym e) ∙ position-of pair_equality ps w (initial_pair x) cut.distinct b
+  stands_vertex : (q : Pair) (w : ℕ) → Stands g w q → vertex_of q ≡ w
+  stands_vertex q w s = stands_position g cut.distinct w q s
 
-  stands_claimed : (q : Pair) (w : ℕ) → Stands x ps w q → region w ≡ true → pair_region q ≡ true
+  stands_claimed : (q : Pair) (w : ℕ) → Stands g w q → region w ≡ true → pair_region q ≡ true
   unfolding pair_region
-  stands_claimed q w (b, e) r =
-      both_true (has same_pair q ps) (region (vertex_of q)) (in_has pair_equality q ps (subst (λ (z : Pair). In z ps) e (in_at ps w (initial_pair x) b)))
-      (ap region (stands_vertex q w (b, e)) ∙ r)
+  stands_claimed q w s r =
+      both_true (has same_pair q ps) (region (vertex_of q)) (in_has pair_equality q ps (stands_in g w q s))
+      (ap region (stands_vertex q w s) ∙ r)
 
   -- ---- a stuck vertex of Even is not claimed: its number for priority 1 would have to fall along its own loop
 
@@ -122,7 +99,7 @@ module _ (rank : Ranking) (x : Input) (k : ℕ) (a : Answer) (g : List ℕ) (ps 
 
   record Row (p : Pair) (v : ℕ) : Type 0 where
     edges : List ℕ
-    leads : Lead x ps edges (targets x p)
+    leads : Lead g edges (targets x p)
     ranked : priority_in g v ≡ priority rank x p
     -- every edge by the rules is there, and others only where Odd is stuck
     there : (w : ℕ) → In w edges → In w (targets_in g v)
@@ -140,13 +117,13 @@ module _ (rank : Ranking) (x : Input) (k : ℕ) (a : Answer) (g : List ℕ) (ps 
   row_at : (p : Pair) (v : ℕ) → At p v → Row p v
   row_at p v t = go t.settled.ruled t.settled.added t.settled.edges t.settled.leads t.settled.total
     where
-      go : (ruled added : List ℕ) → targets_in g v ≡ ruled ++ added → Lead x ps ruled (targets x p)
+      go : (ruled added : List ℕ) → targets_in g v ≡ ruled ++ added → Lead g ruled (targets x p)
           → Totalised v (owner x p) (priority rank x p) ruled (priority_in g v) added → Row p v
       go [] added e l (s, b) =
           record {
             edges = [];
             leads = l;
-            ranked = stuck-priority p v t (owner x p) refl (lead_none x ps (targets x p) l) (e ∙ b) s;
+            ranked = stuck-priority p v t (owner x p) refl (lead_none g (targets x p) l) (e ∙ b) s;
             there = λ w m. absurd m;
             chosen = λ o w m. absurd (stuck_owner p v t o (e ∙ b) s);
           }
@@ -162,7 +139,7 @@ module _ (rank : Ranking) (x : Input) (k : ℕ) (a : Answer) (g : List ℕ) (ps 
 
   -- ---- the region of pairs
 
-  goes_on : (p q : Pair) (v w : ℕ) → At p v → Row p v → vertex_of p ≡ v → Kept g region pick number v w → Stands x ps w q → region w ≡ true
+  goes_on : (p q : Pair) (v w : ℕ) → At p v → Row p v → vertex_of p ≡ v → Kept g region pick number v w → Stands g w q → region w ≡ true
       → Goes rank x pair_region pair_number EvenBelow p q
   goes_on p q v w t r e kept st c =
       let claimed = stands_claimed q w st c in
@@ -171,7 +148,7 @@ module _ (rank : Ranking) (x : Input) (k : ℕ) (a : Answer) (g : List ℕ) (ps 
       record {
         claimed = claimed;
         falls = λ n odd low.
-            let (y, z) = measure_falls g region pick number accepted v w kept (omega (arith, cut.paired, st.0)) n odd (λ h. let d = low (ap is_even (sym j) ∙ h) in omega arith) in
+            let (y, z) = measure_falls g region pick number accepted v w kept st.0 n odd (λ h. let d = low (ap is_even (sym j) ∙ h) in omega arith) in
             let ep : pair_number n p ≡ measure g region pick number accepted n v = ap (measure g region pick number accepted n) e in
             let eq : pair_number n q ≡ measure g region pick number accepted n w = ap (measure g region pick number accepted n) b in
             (omega arith, λ h. let f = z (j ∙ h) in omega arith);
@@ -186,7 +163,7 @@ module _ (rank : Ranking) (x : Input) (k : ℕ) (a : Answer) (g : List ℕ) (ps 
             let r = row_at p v t in
             let i : owner_in g v ≡ 0 = t.settled.owned ∙ ap player_index o in
             let (m, c) = accepted.picks v t.known t.claimed i in
-            let (q, n, s) = lead_in x ps (pick v) r.edges (targets x p) r.leads (r.chosen o (pick v) m) in
+            let (q, n, s) = lead_in g (pick v) r.edges (targets x p) r.leads (r.chosen o (pick v) m) in
             let kept : Kept g region pick number v (pick v) = record { known = t.known; claimed = t.claimed; edge = m; picked = λ z. refl } in
             (q, n, goes_on p q v (pick v) t r refl kept s c);
         odd = λ p q h o n.
@@ -194,7 +171,7 @@ module _ (rank : Ranking) (x : Input) (k : ℕ) (a : Answer) (g : List ℕ) (ps 
             let t = pair-at p h in
             let r = row_at p v t in
             let i : owner_in g v ≡ 1 = t.settled.owned ∙ ap player_index o in
-            let (w, m, s) = in_lead x ps q r.edges (targets x p) r.leads n in
+            let (w, m, s) = in_lead g q r.edges (targets x p) r.leads n in
             let e = r.there w m in
             let kept : Kept g region pick number v w = record { known = t.known; claimed = t.claimed; edge = e; picked = λ z. absurd (omega arith) } in
             goes_on p q v w t r refl kept s (accepted.stays v w t.known t.claimed i e);

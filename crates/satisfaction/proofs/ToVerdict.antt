@@ -6,7 +6,6 @@ use mathlib.Core.List.{List, [], ◌∷◌, ◌++◌, append-nil}
 use mathlib.Core.Logic.{◌⊎◌, inl, inr}
 use Prim.Native.Nat.{ℕ, ◌≤◌, ◌<◌}
 use native.Mathlib.Omega.{arith}
-use lib.ListN.{length, get_or}
 use Rattle.player.specs.Player.{player_index}
 use Rattle.player.specs.declared.Player.{Player}
 use Rattle.player.specs.declared.Player.TheVariants.{Even, Odd}
@@ -16,20 +15,23 @@ use Rattle.rules.specs.Words.{Input}
 use Rattle.rules.specs.Depth.{Ranking}
 use Rattle.rules.specs.Pairs.{Pair, same_pair, initial_pair, owner, priority, targets}
 use Rattle.rules.specs.Reach.{N}
-use Rattle.rules.specs.Game.{stuck_priority, vertex_count, owner_in, priority_in, targets_in}
+use Rattle.rules.specs.Game.{vertex_count, owner_in, priority_in, pair_in, pairs_in, targets_in}
+use Rattle.rules.specs.Vertices.{stuck_priority}
 use Rattle.rules.specs.Demands.{Stands, Lead, Totalised, SettledRow, CutTheorem}
-use Rattle.lists.proofs.Members.{in_left, in_at, distinct_positions, position-of}
-use Rattle.lists.proofs.Equalities.{pair_equality}
+use Rattle.lists.proofs.Members.{in_left}
+use Rattle.theorems.proofs.Pairs.{lead_in, in_lead, lead_none, stands_once, stands_position}
 use Rattle.satisfaction.specs.Ranks.{is_even}
 use Rattle.satisfaction.specs.Verdict.{Kept, AcceptedVerdict}
 use Rattle.satisfaction.proofs.Vertices.{none_plain}
 use Rattle.satisfaction.proofs.Regions.{BothBelow, Goes, Region}
-use Rattle.satisfaction.proofs.FromVerdict.{lead_in, in_lead, lead_none}
 
-module _ (rank : Ranking) (x : Input) (k : ℕ) (a : Answer) (g : List ℕ) (ps : List Pair) (cut : CutTheorem rank x k a g ps) (enough : N x ≤ k)
+module _ (rank : Ranking) (x : Input) (k : ℕ) (a : Answer) (g : List ℕ) (cut : CutTheorem rank x k a g) (enough : N x ≤ k)
     (claimed : Pair → Bool) (number : ℕ → Pair → ℕ) (region : Region rank x claimed number BothBelow) (starts : claimed (initial_pair x) ≡ true) where
+  abbrev ps : List Pair
+  ps = pairs_in g
+
   abbrev at : ℕ → Pair
-  at v = get_or ps v (initial_pair x)
+  at v = pair_in g v
 
   -- ---- the verdict
 
@@ -66,16 +68,15 @@ module _ (rank : Ranking) (x : Input) (k : ℕ) (a : Answer) (g : List ℕ) (ps 
 
   -- ---- a vertex and its pair
 
-  row_at : (v : ℕ) → v < vertex_count g → SettledRow rank x g ps v (at v)
+  row_at : (v : ℕ) → v < vertex_count g → SettledRow rank x g v (at v)
   row_at v h =
-      let b : v < length ps = omega (arith, cut.paired) in
-      let (u, (c, e), o) = cut.complete enough (at v) (cut.reached (at v) (in_at ps v (initial_pair x) b)) in
-      cut.settled v h (subst (λ (w : ℕ). owner_in g w < 2) (distinct_positions ps (initial_pair x) cut.distinct u v c b e) o)
+      let (u, s, o) = cut.complete enough (at v) (cut.reached v h) in
+      cut.settled v h (subst (λ (w : ℕ). owner_in g w < 2) (stands_once g cut.distinct u v (at v) s (h, refl)) o)
 
-  stands_vertex : (q : Pair) (w : ℕ) → Stands x ps w q → position same_pair q ps ≡ w
-  stands_vertex q w (b, e) = ap (λ (p : Pair). position same_pair p ps) (sym e) ∙ position-of pair_equality ps w (initial_pair x) cut.distinct b
+  stands_vertex : (q : Pair) (w : ℕ) → Stands g w q → position same_pair q ps ≡ w
+  stands_vertex q w s = stands_position g cut.distinct w q s
 
-  owner_of : (v : ℕ) (r : Player) → SettledRow rank x g ps v (at v) → owner_in g v ≡ player_index r → owner x (at v) ≡ r
+  owner_of : (v : ℕ) (r : Player) → SettledRow rank x g v (at v) → owner_in g v ≡ player_index r → owner x (at v) ≡ r
   owner_of v r row e = go (owner x (at v)) r (sym row.owned ∙ e)
     where
       go : (o r : Player) → player_index o ≡ player_index r → o ≡ r
@@ -85,37 +86,37 @@ module _ (rank : Ranking) (x : Input) (k : ℕ) (a : Answer) (g : List ℕ) (ps 
       go Odd Odd i = refl
 
   -- the priority shown is not below the rules'
-  row_priority : (v : ℕ) → SettledRow rank x g ps v (at v) → priority rank x (at v) ≤ priority_in g v
+  row_priority : (v : ℕ) → SettledRow rank x g v (at v) → priority rank x (at v) ≤ priority_in g v
   row_priority v row = go row.ruled row.added row.leads row.total
     where
-      go : (ruled added : List ℕ) → Lead x ps ruled (targets x (at v)) → Totalised v (owner x (at v)) (priority rank x (at v)) ruled (priority_in g v) added → priority rank x (at v) ≤ priority_in g v
-      go [] added l t = omega (arith, none_plain x rank (at v) (lead_none x ps (targets x (at v)) l))
+      go : (ruled added : List ℕ) → Lead g ruled (targets x (at v)) → Totalised v (owner x (at v)) (priority rank x (at v)) ruled (priority_in g v) added → priority rank x (at v) ≤ priority_in g v
+      go [] added l t = omega (arith, none_plain x rank (at v) (lead_none g (targets x (at v)) l))
       go (u ∷ us) added l (s, b) = omega arith
 
   -- ---- kept edges: by the rules, or an added loop of Odd
 
   abbrev Edge : ℕ → ℕ → Type 0
-  Edge v w = ((q : Pair) × In q (targets x (at v)) × Stands x ps w q × (priority_in g v ≡ priority rank x (at v))) ⊎ ((w ≡ v) × (targets x (at v) ≡ []) × (priority_in g v ≡ stuck_priority (owner x (at v))))
+  Edge v w = ((q : Pair) × In q (targets x (at v)) × Stands g w q × (priority_in g v ≡ priority rank x (at v))) ⊎ ((w ≡ v) × (targets x (at v) ≡ []) × (priority_in g v ≡ stuck_priority (owner x (at v))))
 
-  edge_at : (v w : ℕ) → SettledRow rank x g ps v (at v) → In w (targets_in g v) → Edge v w
+  edge_at : (v w : ℕ) → SettledRow rank x g v (at v) → In w (targets_in g v) → Edge v w
   edge_at v w row m = go row.ruled row.added row.leads row.total (subst (λ (l : List ℕ). In w l) row.edges m)
     where
-      go : (ruled added : List ℕ) → Lead x ps ruled (targets x (at v)) → Totalised v (owner x (at v)) (priority rank x (at v)) ruled (priority_in g v) added → In w (ruled ++ added) → Edge v w
-      go [] added l (s, b) i = inr (same (subst (λ (us : List ℕ). In w us) b i), lead_none x ps (targets x (at v)) l, s)
+      go : (ruled added : List ℕ) → Lead g ruled (targets x (at v)) → Totalised v (owner x (at v)) (priority rank x (at v)) ruled (priority_in g v) added → In w (ruled ++ added) → Edge v w
+      go [] added l (s, b) i = inr (same (subst (λ (us : List ℕ). In w us) b i), lead_none g (targets x (at v)) l, s)
         where
           same : {u : ℕ} → In w (u ∷ []) → w ≡ u
           same (inl e) = e
           same (inr e) = absurd e
       go (u ∷ us) added l (s, b) i =
-          let (q, n, st) = lead_in x ps w (u ∷ us) (targets x (at v)) l (subst (λ (es : List ℕ). In w es) (append-nil (u ∷ us)) (subst (λ (es : List ℕ). In w ((u ∷ us) ++ es)) b i)) in
+          let (q, n, st) = lead_in g w (u ∷ us) (targets x (at v)) l (subst (λ (es : List ℕ). In w es) (append-nil (u ∷ us)) (subst (λ (es : List ℕ). In w ((u ∷ us) ++ es)) b i)) in
           inl (q, n, st, s)
 
-  to_vertex : (v : ℕ) (q : Pair) → SettledRow rank x g ps v (at v) → In q (targets x (at v)) → In (position same_pair q ps) (targets_in g v) × Stands x ps (position same_pair q ps) q
+  to_vertex : (v : ℕ) (q : Pair) → SettledRow rank x g v (at v) → In q (targets x (at v)) → In (position same_pair q ps) (targets_in g v) × Stands g (position same_pair q ps) q
   to_vertex v q row m =
-      let (w, i, st) = in_lead x ps q row.ruled (targets x (at v)) row.leads m in
+      let (w, i, st) = in_lead g q row.ruled (targets x (at v)) row.leads m in
       let e = stands_vertex q w st in (
         subst (λ (l : List ℕ). In (position same_pair q ps) l) (sym row.edges) (in_left (position same_pair q ps) row.ruled row.added (subst (λ (u : ℕ). In u row.ruled) (sym e) i)),
-        subst (λ (u : ℕ). Stands x ps u q) (sym e) st,
+        subst (λ (u : ℕ). Stands g u q) (sym e) st,
       )
 
   -- ---- the verdict is accepted
@@ -128,7 +129,7 @@ module _ (rank : Ranking) (x : Input) (k : ℕ) (a : Answer) (g : List ℕ) (ps 
       (y, λ i. z (sym e ∙ i))
 
   -- along a kept edge by the rules
-  kept_goes : (v w : ℕ) (q : Pair) → Kept g region_at pick_at number_at v w → In q (targets x (at v)) → Stands x ps w q → GoesTo (at v) (at w)
+  kept_goes : (v w : ℕ) (q : Pair) → Kept g region_at pick_at number_at v w → In q (targets x (at v)) → Stands g w q → GoesTo (at v) (at w)
   unfolding region_at pick_at
   kept_goes v w q kept i st = go (owner x (at v)) refl
     where
@@ -153,8 +154,7 @@ module _ (rank : Ranking) (x : Input) (k : ℕ) (a : Answer) (g : List ℕ) (ps 
       → (number_at n w ≤ number_at n v) × (priority_in g v ≡ n → number_at n w < number_at n v)
   unfolding is_even region_at
   edge_falls v w n kept odd l m (inl (q, i, st, s)) =
-      let b : w < vertex_count g = omega (arith, cut.paired, st.0) in
-      numbers_fall v w n b (kept_goes v w q kept i st) s odd l m
+      numbers_fall v w n st.0 (kept_goes v w q kept i st) s odd l m
   edge_falls v w n kept odd l m (inr (e, t, s)) =
       let z = stuck-priority v kept.claimed t s in
       let y : number_at n w ≡ number_at n v = ap (number_at n) e in

@@ -10,7 +10,6 @@ use Rattle.rules.specs.declared.Room.{Room}
 use Rattle.rules.specs.Words.{Input}
 use Rattle.rules.specs.Answers.{Accepted}
 use Rattle.rules.specs.Depth.{Ranking}
-use Rattle.rules.specs.Pairs.{Pair}
 use Rattle.rules.specs.Reach.{N}
 use Rattle.rules.specs.Refusal.{refusal}
 use Rattle.rules.specs.Run.{Outcome, run}
@@ -47,11 +46,11 @@ module _ (rank : Ranking) (x : Input) (r : Room) (k : ℕ) (game work : List ℕ
   done_good d = accepted_words x r (length game) (length work) (done_passed d)
 
   -- its game is as the cut theorem says, and no pair waits
-  pub done_cut : Finished o.answer → (ps : List Pair) × CutTheorem rank x k o.answer o.game ps × (N x ≤ k)
+  pub done_cut : Finished o.answer → CutTheorem rank x k o.answer o.game × (N x ≤ k)
   done_cut d =
-      let (ps, cut) = demand3 rank x r k game work (done_accepted d) in
+      let cut = demand3 rank x r k game work (done_accepted d) in
       let (s, n, m, e) = d in
-      (ps, cut, done_enough rank x k o.answer o.game ps cut s n m e)
+      (cut, done_enough rank x k o.answer o.game cut s n m e)
 
   -- ---- the theorem
 
@@ -59,12 +58,12 @@ module _ (rank : Ranking) (x : Input) (r : Room) (k : ℕ) (game work : List ℕ
   -- greatest ones nested in them
   pub verdict_means : PassSound rank x → NoFalsePass x (run rank x r k game work).answer (run rank x r k game work).game
   verdict_means sound d v =
-      let (ps, cut, enough) = done_cut d in (
+      let (cut, enough) = done_cut d in (
         accepted_input_is_written x (accepted_input x r (length game) (length work) (done_passed d)),
         λ w. whole_satisfied rank x (done_good d) sound
-            (pair_region rank x k o.answer o.game ps cut enough v.region v.pick v.number v.accepted)
-            (pair_number rank x k o.answer o.game ps cut enough v.region v.pick v.number v.accepted)
-            (pair-region rank x k o.answer o.game ps cut enough v.region v.pick v.number v.accepted)
-            (initial_claimed rank x k o.answer o.game ps cut enough v.region v.pick v.number v.accepted)
+            (pair_region rank x k o.answer o.game cut enough v.region v.pick v.number v.accepted)
+            (pair_number rank x k o.answer o.game cut enough v.region v.pick v.number v.accepted)
+            (pair-region rank x k o.answer o.game cut enough v.region v.pick v.number v.accepted)
+            (initial_claimed rank x k o.answer o.game cut enough v.region v.pick v.number v.accepted)
             w,
       )

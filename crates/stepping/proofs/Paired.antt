@@ -11,11 +11,12 @@ use borrow.Author.Tests.{lt-ltb, le-ltb}
 use Rattle.rules.specs.Lists.{In, has}
 use Rattle.rules.specs.Words.{Input, room_of}
 use Rattle.rules.specs.Depth.{Ranking}
-use Rattle.rules.specs.Pairs.{Pair, same_pair, initial_pair, owner, priority, targets, transitions_behind}
+use Rattle.rules.specs.Pairs.{Pair, initial_pair, targets}
 use Rattle.rules.specs.Reach.{Reachable}
 use Rattle.rules.specs.Walk.{Stand, walk}
 use Rattle.rules.specs.Game.{edge_count}
-use Rattle.rules.specs.Run.{walk_of, vertices_of, exceeds}
+use Rattle.rules.specs.Run.{walk_of, exceeds}
+use Rattle.rules.specs.Vertices.{vertices_of}
 use Rattle.tables.specs.Good.{GoodInput}
 use Rattle.lists.proofs.Members.{in_at}
 use Rattle.lists.proofs.Equalities.{number_equality, pair_equality}
@@ -85,15 +86,10 @@ module _ (x : Input) (good : GoodInput x) where
 
   module _ (rank : Ranking) (k v e : ℕ) where
     edges_counted : edge_count (vertices_of rank x (walk_of x k)) ≡ sum_settled (edges_due (targets x)) (initial_pair x) (walk_of x k)
-    unfolding vertices_of
-    edges_counted =
-        count-edges same_pair (targets x) (initial_pair x) (owner x) (priority rank x) (transitions_behind x) (walk_of x k)
+    edges_counted = count-edges rank x (walk_of x k)
 
     vertices_counted : length (vertices_of rank x (walk_of x k)) ≡ length (walk_of x k).known
-    unfolding vertices_of
-    vertices_counted =
-        length_vertices same_pair (targets x) (initial_pair x) (owner x) (priority rank x) (transitions_behind x)
-        (walk_of x k)
+    vertices_counted = length_vertices rank x (walk_of x k)
 
     -- a walk that is full is refused for want of room
     pub full_exceeds : Exceeding (key_targets x) (root_key x) v e (walk eqb (key_targets x) (root_key x) k) → exceeds (room_of v e) (vertices_of rank x (walk_of x k)) ≡ true

@@ -6,7 +6,7 @@ use mathlib.Core.Logic.{◌⊎◌, inl, inr}
 use Prim.Native.Nat.{ℕ, zero, suc, ◌+◌, ◌≤◌, ◌<◌}
 use native.Mathlib.Omega.{arith}
 use lib.Dec.{eqb}
-use lib.ListN.{length, get_or, length-map}
+use lib.ListN.{length, length-map}
 use Rattle.player.specs.declared.Player.{Player}
 use Rattle.rules.specs.declared.Answer.{Answer}
 use Rattle.rules.specs.Lists.{word, In, sum, zeros, occurrences, once}
@@ -16,10 +16,10 @@ use Rattle.rules.specs.Actions.{Action}
 use Rattle.rules.specs.Formula.{Formula, truth, falsity, conjunction, disjunction, box, diamond, reference}
 use Rattle.rules.specs.Depth.{Ranking}
 use Rattle.rules.specs.Items.{Item, equation, subformula, item_number}
-use Rattle.rules.specs.Pairs.{Pair, initial_pair, item_at, owner, priority, matching_transitions, successors, leading_to}
+use Rattle.rules.specs.Pairs.{Pair, item_at, owner, priority, matching_transitions, successors, leading_to}
 use Rattle.rules.specs.Pairs.{formula_targets, item_targets}
 use Rattle.rules.specs.Pairs.{targets, formula_transitions, item_transitions, modal_transitions, transitions_behind}
-use Rattle.rules.specs.Game.{vertex_count, owner_in, priority_in, targets_in, counts_in}
+use Rattle.rules.specs.Game.{vertex_count, owner_in, priority_in, pair_in, targets_in, counts_in}
 use Rattle.rules.specs.Demands.{Lead, Totalised, SettledRow, CutTheorem}
 use Rattle.lists.proofs.Members.{in_map}
 use Rattle.lists.proofs.Inserts.{once_in}
@@ -151,19 +151,19 @@ no_targets x p q none =
     )
 
 -- a settled vertex that the rules give edges has no others
-none_added : (x : Input) (ps : List Pair) (v : ℕ) (o : Player) (n : ℕ) (ruled : List ℕ) (qs : List Pair) (shown : ℕ)
-    (added : List ℕ) (q : Pair) → In q qs → Lead x ps ruled qs → Totalised v o n ruled shown added → added ≡ []
-none_added x ps v o n ruled [] shown added q i l t = absurd i
-none_added x ps v o n [] (r ∷ qs) shown added q i l t = absurd l
-none_added x ps v o n (u ∷ ruled) (r ∷ qs) shown added q i l t = t.1
+none_added : (g : List ℕ) (v : ℕ) (o : Player) (n : ℕ) (ruled : List ℕ) (qs : List Pair) (shown : ℕ)
+    (added : List ℕ) (q : Pair) → In q qs → Lead g ruled qs → Totalised v o n ruled shown added → added ≡ []
+none_added g v o n ruled [] shown added q i l t = absurd i
+none_added g v o n [] (r ∷ qs) shown added q i l t = absurd l
+none_added g v o n (u ∷ ruled) (r ∷ qs) shown added q i l t = t.1
 
 -- the edges of pair p, one by one: those that the rules give lead to its targets, and where one is added there is no
 -- target
-module _ (x : Input) (ps : List Pair) (p : Pair) where
+module _ (x : Input) (g : List ℕ) (p : Pair) where
   abbrev behind : ℕ → ℕ
-  behind u = transitions_behind x p (get_or ps u (initial_pair x))
+  behind u = transitions_behind x p (pair_in g u)
 
-  ruled_count : (us : List ℕ) (qs : List Pair) → Lead x ps us qs → (i : ℕ) → i < length us
+  ruled_count : (us : List ℕ) (qs : List Pair) → Lead g us qs → (i : ℕ) → i < length us
       → word (map (transitions_behind x p) qs) i ≡ behind (word us i)
   ruled_count [] qs l i h = absurd (omega (arith, h))
   ruled_count (u ∷ us) [] l i h = absurd l
@@ -171,12 +171,12 @@ module _ (x : Input) (ps : List Pair) (p : Pair) where
   ruled_count (u ∷ us) (q ∷ qs) l (suc i) h = ruled_count us qs l.1 i (omega (arith, h))
 
   edge_count_at : (v : ℕ) (o : Player) (n : ℕ) (ruled : List ℕ) (qs : List Pair) (shown : ℕ) (added : List ℕ)
-      → Lead x ps ruled qs → Totalised v o n ruled shown added → (qs ≡ [] → (q : Pair) → transitions_behind x p q ≡ 0)
+      → Lead g ruled qs → Totalised v o n ruled shown added → (qs ≡ [] → (q : Pair) → transitions_behind x p q ≡ 0)
       → (i : ℕ) → i < length (ruled ++ added)
       → word (map (transitions_behind x p) qs ++ zeros added) i ≡ behind (word (ruled ++ added) i)
   unfolding zeros
   edge_count_at v o n [] [] shown added l t none i h =
-      zero_word added i ∙ sym (none refl (get_or ps (word added i) (initial_pair x)))
+      zero_word added i ∙ sym (none refl (pair_in g (word added i)))
   edge_count_at v o n [] (q ∷ qs) shown added l t none i h = absurd l
   edge_count_at v o n (u ∷ us) [] shown added l t none i h = absurd l
   edge_count_at v o n (u ∷ us) (q ∷ qs) shown added l t none i h =
@@ -189,13 +189,13 @@ module _ (x : Input) (ps : List Pair) (p : Pair) where
       ∙ ap (λ (ts : List ℕ). behind (word ts i)) (sym whole)
 
 -- a settled vertex of a game that a run leaves
-module _ {rank : Ranking} {x : Input} {k : ℕ} {a : Answer} {g : List ℕ} {ps : List Pair} (c : CutTheorem rank x k a g ps)
+module _ {rank : Ranking} {x : Input} {k : ℕ} {a : Answer} {g : List ℕ} (c : CutTheorem rank x k a g)
     (v : ℕ) (known : v < vertex_count g) (settled : owner_in g v < 2) where
-  -- its pair
+  -- its pair, as the game shows it
   abbrev pub pair : Pair
-  pair = get_or ps v (initial_pair x)
+  pair = pair_in g v
 
-  abbrev row : SettledRow rank x g ps v pair
+  abbrev row : SettledRow rank x g v pair
   row = c.settled v known settled
 
   -- its counts sum to its matching transitions; an added self-loop adds 0
@@ -211,12 +211,12 @@ module _ {rank : Ranking} {x : Input} {k : ℕ} {a : Answer} {g : List ℕ} {ps 
   -- the count of each of its edges, an added one too, is the number of transitions behind it: those that the rules have
   -- for its pair and that lead to the state of the target's pair
   pub vertex_edge_count : (i : ℕ) → i < length (targets_in g v)
-      → word (counts_in g v) i ≡ transitions_behind x pair (get_or ps (word (targets_in g v) i) (initial_pair x))
+      → word (counts_in g v) i ≡ transitions_behind x pair (pair_in g (word (targets_in g v) i))
   vertex_edge_count i h =
       ap (λ (ns : List ℕ). word ns i) row.counts
-      ∙ edge_count_at x ps pair v (owner x pair) (priority rank x pair) row.ruled (targets x pair) (priority_in g v)
+      ∙ edge_count_at x g pair v (owner x pair) (priority rank x pair) row.ruled (targets x pair) (priority_in g v)
       row.added row.leads row.total (λ none q. no_targets x pair q none) i (omega (arith, h, ap length row.edges))
-      ∙ ap (λ (ts : List ℕ). transitions_behind x pair (get_or ps (word ts i) (initial_pair x))) (sym row.edges)
+      ∙ ap (λ (ts : List ℕ). transitions_behind x pair (pair_in g (word ts i))) (sym row.edges)
 
   -- if it stands for a modality that has a target, each is 1 or more
   pub vertex_modal_counts : (f : Action) (b : Formula) → Modality x pair f b → (q : Pair) → In q (targets x pair)
@@ -225,7 +225,7 @@ module _ {rank : Ranking} {x : Input} {k : ℕ} {a : Answer} {g : List ℕ} {ps 
   vertex_modal_counts f b m q i n h =
       let counts : List ℕ = map (transitions_behind x pair) (targets x pair) in
       let none : row.added ≡ [] =
-      none_added x ps v (owner x pair) (priority rank x pair) row.ruled (targets x pair) (priority_in g v) row.added q i
+      none_added g v (owner x pair) (priority rank x pair) row.ruled (targets x pair) (priority_in g v) row.added q i
       row.leads row.total in
       let shown : counts_in g v ≡ counts =
       row.counts ∙ ap (λ (us : List ℕ). counts ++ zeros us) none ∙ append-nil counts in

@@ -15,23 +15,25 @@ use Rattle.rules.specs.declared.Answer.TheVariants.{Done, Cut}
 use Rattle.rules.specs.Lists.{In, zeros, position}
 use Rattle.rules.specs.Words.{Input}
 use Rattle.rules.specs.Depth.{Ranking}
-use Rattle.rules.specs.Pairs.{Pair, same_pair, initial_pair, owner, priority, targets, transitions_behind}
+use Rattle.rules.specs.Pairs.{Pair, same_pair, initial_pair, owner, priority, targets}
 use Rattle.rules.specs.Walk.{Stand}
 use Rattle.rules.specs.Reach.{Reachable, pair_count, reachable_pairs, N}
-use Rattle.rules.specs.Game.{Edge, Vertex, Ruled, waiting_vertex, totalised_by, totalised, settled_vertex, ruled_edge}
-use Rattle.rules.specs.Game.{ruled_vertex, edge_count, game_of, padded, vertex_count, edges_in, initial_in, owner_in}
-use Rattle.rules.specs.Game.{priority_in, targets_in}
-use Rattle.rules.specs.Run.{walk_of, vertices_of, built_answer, built_outcome}
-use Rattle.rules.specs.Demands.{After, Stands, Lead, Totalised, SettledRow, CutTheorem, settled_below}
+use Rattle.rules.specs.Game.{Edge, Vertex}
+use Rattle.rules.specs.Game.{edge_count, game_of, padded, vertex_count, edges_in, initial_in, owner_in}
+use Rattle.rules.specs.Game.{priority_in, pair_in, targets_in}
+use Rattle.rules.specs.Run.{walk_of, built_answer, built_outcome}
+use Rattle.rules.specs.Vertices.{Ruled, waiting_vertex, totalised_by, totalised, settled_vertex, ruled_edge, ruled_vertex, vertices_of}
+use Rattle.rules.specs.Demands.{After, Stands, Apart, Lead, Totalised, SettledRow, CutTheorem, settled_below}
 use Rattle.lists.specs.Shapes.{Falling}
-use Rattle.lists.proofs.Members.{position_below, position_at}
+use Rattle.lists.proofs.Members.{in_at, distinct_positions, position_below, position_at}
 use Rattle.lists.proofs.Equalities.{pair_equality}
 use Rattle.arena.specs.Arena.{Inside}
 use Rattle.walks.specs.Sums.{settled, Settled, sum_settled}
 use Rattle.walks.specs.Facts.{WalkFacts}
 use Rattle.games.proofs.Rewriting.{Whole}
 use Rattle.theorems.proofs.Vertices.{length_vertices, ruled_at}
-use Rattle.theorems.proofs.Read.{whole_game, count_word, row_waits, row_settled, owner-settled, settled-below, below_settled, settled_count}
+use Rattle.theorems.proofs.Read.{whole_game, count_word, row_waits, row_settled, pair_read, pairs_read, owner-settled}
+use Rattle.theorems.proofs.Read.{settled-below, below_settled, settled_count}
 
 -- the vertices that do not wait, in the order in which 01's steps settle them
 pub record Ordered (x : Input) (k : ℕ) (st : Stand Pair) : Type 0 where
@@ -42,10 +44,10 @@ pub record Ordered (x : Input) (k : ℕ) (st : Stand Pair) : Type 0 where
 
 -- ---- edges lead to the vertices that stand for the targets
 
-lead_all : (x : Input) (ps : List Pair) (edge : Pair → Edge) (ts : List Pair)
-    → ((q : Pair) → In q ts → Stands x ps (edge q).target q) → Lead x ps (map (λ e. e.target) (map edge ts)) ts
-lead_all x ps edge [] f = tt
-lead_all x ps edge (t ∷ ts) f = (f t (inl refl), lead_all x ps edge ts (λ q m. f q (inr m)))
+lead_all : (g : List ℕ) (edge : Pair → Edge) (ts : List Pair)
+    → ((q : Pair) → In q ts → Stands g (edge q).target q) → Lead g (map (λ e. e.target) (map edge ts)) ts
+lead_all g edge [] f = tt
+lead_all g edge (t ∷ ts) f = (f t (inl refl), lead_all g edge ts (λ q m. f q (inr m)))
 
 -- the rules' edges of a settled vertex, and those added
 added_edges : ℕ → List ℕ → List ℕ
@@ -55,10 +57,10 @@ added_edges v (e ∷ es) = []
 abbrev led_to : List Edge → List ℕ
 led_to es = map (λ e. e.target) es
 
-edges_split : (v : ℕ) (r : Ruled)
-    → led_to (settled_vertex (totalised v r)).edges ≡ led_to r.edges ++ added_edges v (led_to r.edges)
+edges_split : (v : ℕ) (p : Pair) (r : Ruled)
+    → led_to (settled_vertex p (totalised v r)).edges ≡ led_to r.edges ++ added_edges v (led_to r.edges)
 unfolding settled_vertex totalised totalised_by added_edges
-edges_split v r = go r.edges refl
+edges_split v p r = go r.edges refl
   where
     go : (es : List Edge) → r.edges ≡ es → led_to (totalised_by es v r).edges ≡ led_to es ++ added_edges v (led_to es)
     go [] e = refl
@@ -68,21 +70,21 @@ edges_split v r = go r.edges refl
 abbrev counted : List Edge → List ℕ
 counted es = map (λ e. e.count) es
 
-counts_split : (v : ℕ) (r : Ruled)
-    → counted (settled_vertex (totalised v r)).edges ≡ counted r.edges ++ zeros (added_edges v (led_to r.edges))
+counts_split : (v : ℕ) (p : Pair) (r : Ruled)
+    → counted (settled_vertex p (totalised v r)).edges ≡ counted r.edges ++ zeros (added_edges v (led_to r.edges))
 unfolding settled_vertex totalised totalised_by added_edges zeros
-counts_split v r = go r.edges refl
+counts_split v p r = go r.edges refl
   where
     go : (es : List Edge) → r.edges ≡ es
         → counted (totalised_by es v r).edges ≡ counted es ++ zeros (added_edges v (led_to es))
     go [] e = refl
     go (x ∷ es) e = ap counted e ∙ sym (append-nil (counted (x ∷ es)))
 
-total_row : (v : ℕ) (r : Ruled)
-    → Totalised v r.owner r.priority (led_to r.edges) (settled_vertex (totalised v r)).priority
+total_row : (v : ℕ) (p : Pair) (r : Ruled)
+    → Totalised v r.owner r.priority (led_to r.edges) (settled_vertex p (totalised v r)).priority
     (added_edges v (led_to r.edges))
 unfolding settled_vertex totalised totalised_by added_edges
-total_row v r = go r.edges
+total_row v p r = go r.edges
   where
     go : (es : List Edge)
         → Totalised v r.owner r.priority (led_to es) (totalised_by es v r).priority (added_edges v (led_to es))
@@ -100,9 +102,9 @@ done_or_cut [] k n s v m e = go (dec_lt k n)
 done_or_cut (w ∷ ws) k n s v m e = rw (lt-ltb k n (e.0 (omega arith))) refl
 
 -- a run that is done has made enough steps
-pub done_enough : (rank : Ranking) (x : Input) (k : ℕ) (a : Answer) (g : List ℕ) (ps : List Pair)
-    → CutTheorem rank x k a g ps → (s n m : ℕ) → a ≡ Done s n m → N x ≤ k
-done_enough rank x k a g ps c s n m e = go (ltb k (N x)) refl (sym c.answered ∙ e)
+pub done_enough : (rank : Ranking) (x : Input) (k : ℕ) (a : Answer) (g : List ℕ)
+    → CutTheorem rank x k a g → (s n m : ℕ) → a ≡ Done s n m → N x ≤ k
+done_enough rank x k a g c s n m e = go (ltb k (N x)) refl (sym c.answered ∙ e)
   where
     go : (t : Bool) → ltb k (N x) ≡ t
         → cond t (Cut (settled_below g (vertex_count g)) (vertex_count g) (edges_in g))
@@ -134,69 +136,73 @@ module _ (rank : Ranking) (x : Input) (k : ℕ) (facts : WalkFacts same_pair (ta
   a = (built_outcome st vs game work).answer
 
   long : length vs ≡ length st.known
-  unfolding vertices_of
-  long = length_vertices same_pair (targets x) (initial_pair x) (owner x) (priority rank x) (transitions_behind x) st
+  long = length_vertices rank x st
 
   counts : vertex_count g ≡ length st.known
-  unfolding vertices_of
-  counts =
-      count_word same_pair (targets x) (initial_pair x) (owner x) (priority rank x) (transitions_behind x) st
-      (length game)
+  counts = count_word rank x st (length game)
 
-  settled_row : (v : ℕ) → v < length st.known → (¬ In v st.waiting) → SettledRow rank x g st.known v (get_or st.known v (initial_pair x))
-  unfolding vertices_of walk_of ruled_vertex ruled_edge
+  -- the pair of vertex v, as the walk has it and as the game shows it
+  abbrev pair : ℕ → Pair
+  pair v = get_or st.known v (initial_pair x)
+
+  read : (v : ℕ) → v < length st.known → pair_in g v ≡ pair v
+  read = pair_read rank x st (length game)
+
+  stands : (v : ℕ) (q : Pair) → v < length st.known → pair v ≡ q → Stands g v q
+  stands v q h e = (omega (arith, counts), read v h ∙ e)
+
+  -- of the walk's pairs each is that of a vertex, and each vertex shows one of them
+  known_pair : (v : ℕ) → v < vertex_count g → In (pair_in g v) st.known
+  known_pair v h =
+      subst (λ (p : Pair). In p st.known) (sym (read v (omega (arith, counts))))
+      (in_at st.known v (initial_pair x) (omega (arith, counts)))
+
+  apart : Apart g
+  unfolding walk_of
+  apart u v h k e f =
+      let same : pair_in g u ≡ pair_in g v = λ j. (e j, f j) in
+      distinct_positions st.known (initial_pair x) facts.distinct u v (omega (arith, counts)) (omega (arith, counts))
+      (sym (read u (omega (arith, counts))) ∙ same ∙ read v (omega (arith, counts)))
+
+  settled_row : (v : ℕ) → v < length st.known → (¬ In v st.waiting) → SettledRow rank x g v (pair v)
+  unfolding walk_of ruled_vertex ruled_edge
   settled_row v h n =
-      let p : Pair = get_or st.known v (initial_pair x) in
-      let edge : Pair → Edge
-      = ruled_edge same_pair (targets x) (initial_pair x) (owner x) (priority rank x) (transitions_behind x) st p in
-      let r : Ruled
-      = ruled_at same_pair (targets x) (initial_pair x) (owner x) (priority rank x) (transitions_behind x) st v in
-      let row =
-      row_settled same_pair (targets x) (initial_pair x) (owner x) (priority rank x) (transitions_behind x) st
-      (length game) v h n in
+      let p : Pair = pair v in
+      let edge : Pair → Edge = ruled_edge x st p in
+      let r : Ruled = ruled_at rank x st v in
+      let row = row_settled rank x st (length game) v h n in
       record {
         ruled = led_to r.edges;
         added = added_edges v (led_to r.edges);
-        owned =
-            owner-settled same_pair (targets x) (initial_pair x) (owner x) (priority rank x) (transitions_behind x)
-            st (length game) v h n;
-        edges = row.leads ∙ edges_split v r;
-        leads = lead_all x st.known edge (targets x p) (facts.edges v (h, n));
+        owned = owner-settled rank x st (length game) v h n;
+        edges = row.targets ∙ edges_split v p r;
+        leads =
+            lead_all g edge (targets x p)
+            (λ q m. let f = facts.edges v (h, n) q m in stands (position same_pair q st.known) q f.0 f.1);
         counts =
-            row.counts ∙ counts_split v r
+            row.counts ∙ counts_split v p r
             ∙ ap (λ (cs : List ℕ). cs ++ zeros (added_edges v (led_to r.edges)))
             (map-map (λ (e : Edge). e.count) edge (targets x p));
         total =
             subst (λ (q : ℕ). Totalised v (owner x p) (priority rank x p) (led_to r.edges) q
-            (added_edges v (led_to r.edges))) (sym row.ranked) (total_row v r);
+            (added_edges v (led_to r.edges))) (sym row.priority) (total_row v p r);
       }
 
   waiting_row : (v : ℕ) → v < length st.known → In v st.waiting → (owner_in g v ≡ 2) × (priority_in g v ≡ 0) × (targets_in g v ≡ [])
-  unfolding vertices_of waiting_vertex
-  waiting_row v h m =
-      let row =
-      row_waits same_pair (targets x) (initial_pair x) (owner x) (priority rank x) (transitions_behind x) st
-      (length game) v h m in
-      (row.owned, row.ranked, row.leads)
+  unfolding waiting_vertex
+  waiting_row v h m = let row = row_waits rank x st (length game) v h m in (row.owner, row.priority, row.targets)
 
   shows : (v : ℕ) → v < length st.known → (¬ In v st.waiting) → owner_in g v < 2
-  unfolding vertices_of
-  shows =
-      settled-below same_pair (targets x) (initial_pair x) (owner x) (priority rank x) (transitions_behind x) st
-      (length game)
+  shows = settled-below rank x st (length game)
 
   shown : (v : ℕ) → v < length st.known → owner_in g v < 2 → ¬ In v st.waiting
-  unfolding vertices_of
-  shown =
-      below_settled same_pair (targets x) (initial_pair x) (owner x) (priority rank x) (transitions_behind x) st
-      (length game)
+  shown = below_settled rank x st (length game)
 
   counted-all : settled_below g (vertex_count g) ≡ settled st
-  unfolding vertices_of sum_settled walk_of
+  unfolding sum_settled walk_of
   counted-all =
       ap (settled_below g) counts
-      ∙ settled_count same_pair (targets x) (initial_pair x) (owner x) (priority rank x) (transitions_behind x) st
-      (length game) (length st.known) (omega arith)
+      ∙ settled_count rank x st (length game) (length st.known) (omega arith)
       ∙ facts.counted
 
   steps_many : length vs - length st.waiting ≡ settled_below g (vertex_count g)
@@ -216,13 +222,13 @@ module _ (rank : Ranking) (x : Input) (k : ℕ) (facts : WalkFacts same_pair (ta
       let (v, h, m) = first_waits (length st.known) st.waiting facts.falling (facts.cut.1 l) in
       (v, omega (arith, counts), (waiting_row v h m).0)
 
-  all_settled : N x ≤ k → (p : Pair) → Reachable (targets x) (initial_pair x) p → (v : ℕ) × Stands x st.known v p × (owner_in g v < 2)
+  all_settled : N x ≤ k → (p : Pair) → Reachable (targets x) (initial_pair x) p → (v : ℕ) × Stands g v p × (owner_in g v < 2)
   unfolding walk_of N reachable_pairs
   all_settled l p r =
       let m = facts.complete l p r in
       let b = position_below pair_equality p st.known m in (
         position same_pair p st.known,
-        (b, position_at pair_equality p st.known (initial_pair x) m),
+        stands (position same_pair p st.known) p b (position_at pair_equality p st.known (initial_pair x) m),
         shows (position same_pair p st.known) b (no_member st.waiting (facts.ended.1 l) (position same_pair p st.known)),
       )
 
@@ -257,21 +263,24 @@ module _ (rank : Ranking) (x : Input) (k : ℕ) (facts : WalkFacts same_pair (ta
       let s : settled_below g (vertex_count g) ≡ N x = omega (arith, steps_are) in
       answer_is ∙ rw (le-ltb k (N x) l) (ap (λ (n : ℕ). Done n (vertex_count g) (edges_in g)) s)
 
-  pub cut_theorem : CutTheorem rank x k a g st.known
+  pub cut_theorem : CutTheorem rank x k a g
   unfolding walk_of N reachable_pairs
   cut_theorem =
       record {
         counted = steps_are;
         answered = answer_is;
-        paired = sym counts;
-        inside = λ p m. inner p (facts.reached p m);
-        first = (initial_word, facts.first);
-        distinct = facts.distinct;
-        reached = facts.reached;
-        settled = λ v h l. settled_row v (omega (arith, counts)) (shown v (omega (arith, counts)) l);
+        inside = λ v h. inner (pair_in g v) (facts.reached (pair_in g v) (known_pair v h));
+        first = (initial_word, stands 0 (initial_pair x) facts.first.0 facts.first.1);
+        distinct = apart;
+        reached = λ v h. facts.reached (pair_in g v) (known_pair v h);
+        settled = λ v h l.
+            subst (λ (p : Pair). SettledRow rank x g v p) (sym (read v (omega (arith, counts))))
+            (settled_row v (omega (arith, counts)) (shown v (omega (arith, counts)) l));
         waiting = λ v h n. waiting_row v (omega (arith, counts)) (waiting_shows v (omega (arith, counts)) n);
         order = ordered.order;
-        walked = ordered.after;
+        walked =
+            subst (λ (ps : List Pair). After (targets x) (initial_pair x) k ps ordered.order)
+            (sym (pairs_read rank x st (length game))) ordered.after;
         taken = λ v h. (
           λ l. ⊎_elim (λ m. absurd (shown v (omega (arith, counts)) l m)) (λ o. o) (ordered.either v (omega (arith, counts))),
           λ o. shows v (omega (arith, counts)) (λ m. ordered.apart v m o),

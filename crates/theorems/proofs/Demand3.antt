@@ -18,7 +18,8 @@ use Rattle.rules.specs.Pairs.{Pair, same_pair, initial_pair, targets}
 use Rattle.rules.specs.Reach.{Reachable, pair_count}
 use Rattle.rules.specs.Game.{Vertex, game_of}
 use Rattle.rules.specs.Refusal.{refusal}
-use Rattle.rules.specs.Run.{Outcome, walk_of, vertices_of, exceeds, built_outcome, out_of_room, run}
+use Rattle.rules.specs.Run.{Outcome, walk_of, exceeds, built_outcome, out_of_room, run}
+use Rattle.rules.specs.Vertices.{vertices_of}
 use Rattle.rules.specs.Demands.{CutTheorem, Demand3}
 use Rattle.tables.specs.Good.{GoodInput}
 use Rattle.lists.proofs.Equalities.{pair_equality}
@@ -65,13 +66,11 @@ module _ (rank : Ranking) (x : Input) (r : Room) (k : ℕ) (game work : List ℕ
       omega (arith, length_read 0 vs, (accepted_lengths x r (length game) (length work) e).0)
 
   abbrev Claim : Outcome → Type 0
-  Claim o = Accepted o.answer → CutTheorem rank x k o.answer o.game (walk_of x k).known
+  Claim o = Accepted o.answer → CutTheorem rank x k o.answer o.game
 
-  -- the pairs of the walk satisfy the cut theorem
-  pub walk_cut : Accepted (run rank x r k game work).answer
-      → CutTheorem rank x k (run rank x r k game work).answer (run rank x r k game work).game (walk_of x k).known
+  pub demand3 : Demand3 rank x k (run rank x r k game work).answer (run rank x r k game work).game
   unfolding out_of_room built_outcome
-  walk_cut = go (refusal x r (length game) (length work)) refl (exceeds r vs) refl
+  demand3 = go (refusal x r (length game) (length work)) refl (exceeds r vs) refl
     where
       go : (c : Check) → refusal x r (length game) (length work) ≡ c → (t : Bool) → exceeds r vs ≡ t → Claim (run rank x r k game work)
       go (Err g) e t f = subst Claim (sym (run_refused rank x r k game work g.number g.place e)) (λ z. absurd z)
@@ -81,6 +80,3 @@ module _ (rank : Ranking) (x : Input) (r : Room) (k : ℕ) (game work : List ℕ
           subst Claim (sym (run_fits rank x r k game work e f))
           (λ z. cut_theorem rank x k (facts x good k) (ordered x good k) game work
           (λ p m. listed_inside x p (covered x good p m)) (fits_slice e f))
-
-  pub demand3 : Demand3 rank x k (run rank x r k game work).answer (run rank x r k game work).game
-  demand3 a = ((walk_of x k).known, walk_cut a)

@@ -1,5 +1,5 @@
--- A cut game is part of every later one: each vertex keeps its pair, and one that is settled after k steps has the same
--- owner, priority and edges, with their counts, after any more. Assumes nothing.
+-- A cut game is part of every later one: each vertex shows the same pair, and one that is settled after k steps the
+-- same owner, priority and edges, with their counts, after any more. Assumes nothing.
 use mathlib.Core.Path.{◌≡◌, refl, sym, ap, ◌∙◌, subst}
 use mathlib.Core.Bool.{Bool}
 use mathlib.Core.List.{List, [], ◌∷◌, map}
@@ -7,15 +7,15 @@ use mathlib.Core.Logic.{inl, inr, ⊎_elim}
 use Prim.Native.Nat.{ℕ, zero, suc, ◌+◌, ◌-◌, ◌≤◌, ◌<◌}
 use native.Mathlib.Omega.{arith}
 use lib.ListN.{length, get_or}
-use Rattle.player.specs.declared.Player.{Player}
 use Rattle.rules.specs.Lists.{In, position, insert_all}
 use Rattle.rules.specs.Words.{Input}
 use Rattle.rules.specs.Depth.{Ranking}
-use Rattle.rules.specs.Pairs.{same_pair, initial_pair, owner, priority, targets, transitions_behind}
+use Rattle.rules.specs.Pairs.{Pair, initial_pair, owner, priority, targets, transitions_behind}
 use Rattle.rules.specs.Walk.{Stand, walk, settle, step_from, step}
-use Rattle.rules.specs.Game.{Edge, Vertex, totalised, settled_vertex, ruled_edge, ruled_vertex, vertex_at, game_of, padded}
-use Rattle.rules.specs.Game.{vertex_count, owner_in, priority_in, targets_in, counts_in}
-use Rattle.rules.specs.Run.{walk_of, vertices_of}
+use Rattle.rules.specs.Game.{Edge, Vertex, game_of, padded}
+use Rattle.rules.specs.Game.{vertex_count, owner_in, priority_in, pair_in, targets_in, counts_in}
+use Rattle.rules.specs.Run.{walk_of}
+use Rattle.rules.specs.Vertices.{totalised, settled_vertex, ruled_edge, ruled_vertex, vertex_at, vertices_of}
 use Rattle.lists.specs.Shapes.{Begins, Equality}
 use Rattle.lists.proofs.Members.{position_begins}
 use Rattle.lists.proofs.Shapes.{begins-at, begins_length}
@@ -24,8 +24,8 @@ use Rattle.walks.specs.Sums.{Settled}
 use Rattle.walks.proofs.Steps.{sound, walk_step, begins_step, walk_later}
 use Rattle.walks.proofs.Facts.{walk_keeps}
 use Rattle.walks.proofs.Push.{push_only}
-use Rattle.theorems.proofs.Vertices.{vertex_settled}
-use Rattle.theorems.proofs.Read.{count_word, row_settled, below_settled}
+use Rattle.theorems.proofs.Vertices.{pair_at, vertex_settled}
+use Rattle.theorems.proofs.Read.{count_word, row_settled, pair_read, below_settled}
 
 module _ {A : Type 0} {same : A → A → Bool} (eq : Equality same) (next : A → List A) (root : A) where
   -- a step lets no settled vertex wait again
@@ -62,64 +62,82 @@ module _ {A : Type 0} {same : A → A → Bool} (eq : Equality same) (next : A �
       (position_begins eq t known more (f t (inl refl)) b)
       ∙ ap (λ (es : List Edge). edge count known t ∷ es) (edges_stay known more b count ts (λ q m. f q (inr m)))
 
-  module _ (owner' : A → Player) (priority' : A → ℕ) (behind : A → A → ℕ) (k j v : ℕ) (h : k ≤ j)
-      (s : Settled (walk same next root k) v) where
-    -- a vertex settled after k steps is shown alike after j
-    pub vertex_stays : vertex_at same next root owner' priority' behind (walk same next root j) v
-        ≡ vertex_at same next root owner' priority' behind (walk same next root k) v
-    unfolding ruled_vertex ruled_edge
-    vertex_stays =
-        let a = (walk same next root k).known in
-        let b = (walk same next root j).known in
-        let p : get_or b v root ≡ get_or a v root = begins-at a b root (walk_keeps eq next root k j h) v s.0 in
-        vertex_settled same next root owner' priority' behind (walk same next root j) v (settled_stays k j v h s).1
-        ∙ ap (λ (q : A). settled_vertex
-        (totalised v (ruled_vertex same next root owner' priority' behind (walk same next root j) q))) p
-        ∙ ap (λ (es : List Edge). settled_vertex
-        (totalised v (record { owner = owner' (get_or a v root); priority = priority' (get_or a v root); edges = es })))
-        (edges_stay a b (walk_keeps eq next root k j h) (behind (get_or a v root)) (next (get_or a v root))
-        ((sound eq next root k).edges v s.0 s.1))
-        ∙ sym (vertex_settled same next root owner' priority' behind (walk same next root k) v s.1)
+-- one vertex of two runs, of which the second makes more steps
+module _ (rank : Ranking) (x : Input) (k j v : ℕ) (h : k ≤ j) where
+  abbrev st : Stand Pair
+  st = walk_of x k
 
--- the same of the words of two runs' games, of which one makes more steps
-module _ (rank : Ranking) (x : Input) (k j n m v : ℕ) (h : k ≤ j) where
-  abbrev before : List ℕ
-  before = padded n (game_of 0 (vertices_of rank x (walk_of x k)))
+  abbrev later : Stand Pair
+  later = walk_of x j
 
-  abbrev after : List ℕ
-  after = padded m (game_of 0 (vertices_of rank x (walk_of x j)))
+  -- it keeps its pair, waiting or settled
+  keeps_pair : v < length st.known → pair_at rank x later v ≡ pair_at rank x st v
+  unfolding walk_of
+  keeps_pair l =
+      begins-at st.known later.known (initial_pair x) (walk_keeps pair_equality (targets x) (initial_pair x) k j h) v l
 
-  pub cut_game_stays : v < vertex_count before → owner_in before v < 2
-      → (owner_in after v ≡ owner_in before v) × (priority_in after v ≡ priority_in before v)
-      × (targets_in after v ≡ targets_in before v) × (counts_in after v ≡ counts_in before v)
-  unfolding vertices_of walk_of
-  cut_game_stays l o =
-      let s = walk same_pair (targets x) (initial_pair x) k in
-      let t = walk same_pair (targets x) (initial_pair x) j in
-      let many
-      = count_word same_pair (targets x) (initial_pair x) (owner x) (priority rank x) (transitions_behind x) s n in
-      let b : v < length s.known = omega (arith, many) in
-      let settled-k : Settled s v = (
-        b,
-        below_settled same_pair (targets x) (initial_pair x) (owner x) (priority rank x) (transitions_behind x) s n v b o,
-      ) in
-      let settled-j = settled_stays pair_equality (targets x) (initial_pair x) k j v h settled-k in
-      let p =
-      row_settled same_pair (targets x) (initial_pair x) (owner x) (priority rank x) (transitions_behind x) s n v b
-      settled-k.1 in
-      let q =
-      row_settled same_pair (targets x) (initial_pair x) (owner x) (priority rank x) (transitions_behind x) t m v
-      settled-j.0 settled-j.1 in
-      let e =
-      sym (vertex_settled same_pair (targets x) (initial_pair x) (owner x) (priority rank x) (transitions_behind x) t v
-      settled-j.1)
-      ∙ vertex_stays pair_equality (targets x) (initial_pair x) (owner x) (priority rank x) (transitions_behind x) k j
-      v h settled-k
-      ∙ vertex_settled same_pair (targets x) (initial_pair x) (owner x) (priority rank x) (transitions_behind x) s v
-      settled-k.1 in (
-        q.owned ∙ ap (λ (y : Vertex). y.owner) e ∙ sym p.owned,
-        q.ranked ∙ ap (λ (y : Vertex). y.priority) e
-            ∙ sym p.ranked,
-        q.leads ∙ ap (λ (y : Vertex). map (λ (z : Edge). z.target) y.edges) e ∙ sym p.leads,
-        q.counts ∙ ap (λ (y : Vertex). map (λ (z : Edge). z.count) y.edges) e ∙ sym p.counts,
-      )
+  still_settled : Settled st v → Settled later v
+  unfolding walk_of
+  still_settled s = settled_stays pair_equality (targets x) (initial_pair x) k j v h s
+
+  -- the edges of a pair whose targets are known by then
+  same_edges : Settled st v
+      → map (ruled_edge x later (pair_at rank x st v)) (targets x (pair_at rank x st v))
+      ≡ map (ruled_edge x st (pair_at rank x st v)) (targets x (pair_at rank x st v))
+  unfolding walk_of ruled_edge
+  same_edges s =
+      let p : Pair = pair_at rank x st v in
+      edges_stay pair_equality (targets x) (initial_pair x) st.known later.known
+      (walk_keeps pair_equality (targets x) (initial_pair x) k j h) (transitions_behind x p) (targets x p)
+      ((sound pair_equality (targets x) (initial_pair x) k).edges v s.0 s.1)
+
+  -- settled after k steps, it is shown alike after j
+  pub vertex_stays : Settled st v → vertex_at rank x later v ≡ vertex_at rank x st v
+  unfolding ruled_vertex
+  vertex_stays s =
+      let p : Pair = pair_at rank x st v in
+      vertex_settled rank x later v (still_settled s).1
+      ∙ ap (λ (q : Pair). settled_vertex q (totalised v (ruled_vertex rank x later q))) (keeps_pair s.0)
+      ∙ ap (λ (es : List Edge). settled_vertex p
+      (totalised v (record { owner = owner x p; priority = priority rank x p; edges = es }))) (same_edges s)
+      ∙ sym (vertex_settled rank x st v s.1)
+
+  -- the same of the words of the two runs' games
+  module _ (n m : ℕ) where
+    abbrev before : List ℕ
+    before = padded n (game_of 0 (vertices_of rank x st))
+
+    abbrev after : List ℕ
+    after = padded m (game_of 0 (vertices_of rank x later))
+
+    known : v < vertex_count before → v < length st.known
+    known l = omega (arith, count_word rank x st n)
+
+    known_later : v < vertex_count before → v < length later.known
+    unfolding walk_of
+    known_later l =
+        omega (
+          arith,
+          known l,
+          begins_length st.known later.known (walk_keeps pair_equality (targets x) (initial_pair x) k j h),
+        )
+
+    pub pair_stays : v < vertex_count before → pair_in after v ≡ pair_in before v
+    pair_stays l =
+        pair_read rank x later m v (known_later l) ∙ keeps_pair (known l) ∙ sym (pair_read rank x st n v (known l))
+
+    pub cut_game_stays : v < vertex_count before → owner_in before v < 2
+        → (owner_in after v ≡ owner_in before v) × (priority_in after v ≡ priority_in before v)
+        × (targets_in after v ≡ targets_in before v) × (counts_in after v ≡ counts_in before v)
+    cut_game_stays l o =
+        let s : Settled st v = (known l, below_settled rank x st n v (known l) o) in
+        let t : Settled later v = still_settled s in
+        let p = row_settled rank x st n v s.0 s.1 in
+        let q = row_settled rank x later m v t.0 t.1 in
+        let e =
+        sym (vertex_settled rank x later v t.1) ∙ vertex_stays s ∙ vertex_settled rank x st v s.1 in (
+          q.owner ∙ ap (λ (y : Vertex). y.owner) e ∙ sym p.owner,
+          q.priority ∙ ap (λ (y : Vertex). y.priority) e ∙ sym p.priority,
+          q.targets ∙ ap (λ (y : Vertex). map (λ (z : Edge). z.target) y.edges) e ∙ sym p.targets,
+          q.counts ∙ ap (λ (y : Vertex). map (λ (z : Edge). z.count) y.edges) e ∙ sym p.counts,
+        )

@@ -1,4 +1,5 @@
 pub mod Vertices
+pub mod Pairs
 pub mod Read
 pub mod Cut
 pub mod Unique

@@ -17,45 +17,48 @@ use Rattle.rules.specs.declared.Room.{Room}
 use Rattle.rules.specs.Words.{Input}
 use Rattle.rules.specs.Formula.{equation_count}
 use Rattle.rules.specs.Depth.{Ranking}
-use Rattle.rules.specs.Pairs.{Pair, same_pair, initial_pair, owner, priority, targets, transitions_behind}
+use Rattle.rules.specs.Pairs.{Pair, initial_pair, owner, priority, targets}
 use Rattle.rules.specs.Walk.{Stand}
-use Rattle.rules.specs.Game.{Edge, Vertex, totalised_by, totalised, settled_vertex, ruled_edge, ruled_vertex, edge_count}
-use Rattle.rules.specs.Game.{game_of, padded, vertex_count, edges_in, owner_in, priority_in, targets_in, counts_in}
+use Rattle.rules.specs.Game.{Edge, Vertex, edge_count}
+use Rattle.rules.specs.Game.{game_of, padded, vertex_count, edges_in, owner_in, priority_in, item_in, pair_in, targets_in}
+use Rattle.rules.specs.Game.{counts_in}
 use Rattle.rules.specs.Refusal.{refusal}
-use Rattle.rules.specs.Run.{Outcome, walk_of, vertices_of, exceeds, built_answer, built_outcome, out_of_room, run}
+use Rattle.rules.specs.Run.{Outcome, walk_of, exceeds, built_answer, built_outcome, out_of_room, run}
+use Rattle.rules.specs.Vertices.{totalised_by, totalised, settled_vertex, ruled_edge, ruled_vertex, vertices_of}
 use Rattle.lists.proofs.Members.{in_or}
 use Rattle.lists.proofs.Equalities.{number_equality}
 use native.Mathlib.Decide.{dec_lt}
 use Rattle.arena.proofs.Priorities.{other_priority}
-use Rattle.theorems.proofs.Read.{count_word, row_waits, row_settled}
+use Rattle.theorems.proofs.Read.{count_word, row_waits, row_settled, pair_read}
 use Rattle.theorems.proofs.Runs.{run_refused, run-exceeds, run_fits, vertices_many, edges_many}
 
 -- g and h show the same vertices, but for the priorities of equations
-pub record AlikeButRanks (x : Input) (k : ℕ) (g h : List ℕ) : Type 0 where
+pub record AlikeButRanks (x : Input) (g h : List ℕ) : Type 0 where
   pub count : vertex_count g ≡ vertex_count h
   pub edges : edges_in g ≡ edges_in h
   pub owners : (v : ℕ) → v < vertex_count g → owner_in g v ≡ owner_in h v
+  pub pairs : (v : ℕ) → v < vertex_count g → pair_in g v ≡ pair_in h v
   pub targets : (v : ℕ) → v < vertex_count g → targets_in g v ≡ targets_in h v
   pub counts : (v : ℕ) → v < vertex_count g → counts_in g v ≡ counts_in h v
   pub priorities : (v : ℕ) → v < vertex_count g
-      → (priority_in g v ≡ priority_in h v) ⊎ ((get_or (walk_of x k).known v (initial_pair x)).1 < equation_count x.formula)
+      → (priority_in g v ≡ priority_in h v) ⊎ (item_in g v < equation_count x.formula)
 
 -- the two outcomes differ in nothing else
-pub record SameButRanks (x : Input) (k : ℕ) (o p : Outcome) : Type 0 where
+pub record SameButRanks (x : Input) (o p : Outcome) : Type 0 where
   pub answers : o.answer ≡ p.answer
   pub works : o.work ≡ p.work
-  pub games : (o.game ≡ p.game) ⊎ AlikeButRanks x k o.game p.game
+  pub games : (o.game ≡ p.game) ⊎ AlikeButRanks x o.game p.game
 
 -- what a settled vertex shows, with one priority or another
-abbrev shown : ℕ → Player → ℕ → List Edge → Vertex
-shown v o p es = settled_vertex (totalised v (record { owner = o; priority = p; edges = es }))
+abbrev shown : Pair → ℕ → Player → ℕ → List Edge → Vertex
+shown at v o p es = settled_vertex at (totalised v (record { owner = o; priority = p; edges = es }))
 
-settled-alike : (v : ℕ) (o : Player) (p q : ℕ) (es : List Edge)
-    → ((shown v o p es).owner ≡ (shown v o q es).owner) × ((shown v o p es).edges ≡ (shown v o q es).edges)
-    × ((p ≡ q) → (shown v o p es).priority ≡ (shown v o q es).priority)
+settled-alike : (at : Pair) (v : ℕ) (o : Player) (p q : ℕ) (es : List Edge)
+    → ((shown at v o p es).owner ≡ (shown at v o q es).owner) × ((shown at v o p es).edges ≡ (shown at v o q es).edges)
+    × ((p ≡ q) → (shown at v o p es).priority ≡ (shown at v o q es).priority)
 unfolding settled_vertex totalised totalised_by
-settled-alike v o p q [] = (refl, refl, λ e. refl)
-settled-alike v o p q (e ∷ es) = (refl, refl, λ f. f)
+settled-alike at v o p q [] = (refl, refl, λ e. refl)
+settled-alike at v o p q (e ∷ es) = (refl, refl, λ f. f)
 
 -- the priorities of a pair agree unless its item is an equation
 priority_elsewhere : (a b : Ranking) (x : Input) (p : Pair) → (p.1 < equation_count x.formula) ⊎ (priority a x p ≡ priority b x p)
@@ -92,14 +95,10 @@ module _ (a b : Ranking) (x : Input) (r : Room) (k : ℕ) (game work : List ℕ)
   gb = padded (length game) (game_of 0 vb)
 
   counts : vertex_count ga ≡ length st.known
-  unfolding vertices_of
-  counts =
-      count_word same_pair (targets x) (initial_pair x) (owner x) (priority a x) (transitions_behind x) st (length game)
+  counts = count_word a x st (length game)
 
   counts_b : vertex_count gb ≡ length st.known
-  unfolding vertices_of
-  counts_b =
-      count_word same_pair (targets x) (initial_pair x) (owner x) (priority b x) (transitions_behind x) st (length game)
+  counts_b = count_word b x st (length game)
 
   edge_words : edges_in ga ≡ edges_in gb
   unfolding padded game_of
@@ -110,48 +109,49 @@ module _ (a b : Ranking) (x : Input) (r : Room) (k : ℕ) (game work : List ℕ)
       × ((priority_in ga v ≡ priority_in gb v) ⊎ ((get_or st.known v (initial_pair x)).1 < equation_count x.formula))
 
   rows : (v : ℕ) → v < length st.known → Rows v
-  unfolding vertices_of ruled_vertex ruled_edge
+  unfolding ruled_vertex
   rows v h = go (in_or number_equality v st.waiting)
     where
       p : Pair
       p = get_or st.known v (initial_pair x)
 
       es : List Edge
-      es =
-          map (ruled_edge same_pair (targets x) (initial_pair x) (owner x) (priority a x) (transitions_behind x) st p)
-          (targets x p)
+      es = map (ruled_edge x st p) (targets x p)
 
       go : In v st.waiting ⊎ (¬ In v st.waiting) → Rows v
       go (inl w) =
-          let ra =
-          row_waits same_pair (targets x) (initial_pair x) (owner x) (priority a x) (transitions_behind x) st
-          (length game) v h w in
-          let rb =
-          row_waits same_pair (targets x) (initial_pair x) (owner x) (priority b x) (transitions_behind x) st
-          (length game) v h w in (
-            ra.owned ∙ sym rb.owned,
-            ra.leads ∙ sym rb.leads,
+          let ra = row_waits a x st (length game) v h w in
+          let rb = row_waits b x st (length game) v h w in (
+            ra.owner ∙ sym rb.owner,
+            ra.targets ∙ sym rb.targets,
             ra.counts ∙ sym rb.counts,
-            inl (ra.ranked ∙ sym rb.ranked),
+            inl (ra.priority ∙ sym rb.priority),
           )
       go (inr n) =
-          let ra =
-          row_settled same_pair (targets x) (initial_pair x) (owner x) (priority a x) (transitions_behind x) st
-          (length game) v h n in
-          let rb =
-          row_settled same_pair (targets x) (initial_pair x) (owner x) (priority b x) (transitions_behind x) st
-          (length game) v h n in
-          let (o, e, q) = settled-alike v (owner x p) (priority a x p) (priority b x p) es in (
-            ra.owned ∙ o ∙ sym rb.owned,
-            ra.leads ∙ ap (map (λ (z : Edge). z.target)) e ∙ sym rb.leads,
+          let ra = row_settled a x st (length game) v h n in
+          let rb = row_settled b x st (length game) v h n in
+          let (o, e, q) = settled-alike p v (owner x p) (priority a x p) (priority b x p) es in (
+            ra.owner ∙ o ∙ sym rb.owner,
+            ra.targets ∙ ap (map (λ (z : Edge). z.target)) e ∙ sym rb.targets,
             ra.counts ∙ ap (map (λ (z : Edge). z.count)) e ∙ sym rb.counts,
-            ⊎_elim (λ l. inr l) (λ s. inl (ra.ranked ∙ q s ∙ sym rb.ranked)) (priority_elsewhere a b x p),
+            ⊎_elim (λ l. inr l) (λ s. inl (ra.priority ∙ q s ∙ sym rb.priority)) (priority_elsewhere a b x p),
           )
 
-  abbrev Claim : Outcome → Outcome → Type 0
-  Claim = SameButRanks x k
+  same_pairs : (v : ℕ) → v < length st.known → pair_in ga v ≡ pair_in gb v
+  same_pairs v h = pair_read a x st (length game) v h ∙ sym (pair_read b x st (length game) v h)
 
-  pub rankings : SameButRanks x k (run a x r k game work) (run b x r k game work)
+  -- an equation is told by the item that the game shows
+  ranked : (v : ℕ) → v < length st.known
+      → (priority_in ga v ≡ priority_in gb v) ⊎ (item_in ga v < equation_count x.formula)
+  ranked v h =
+      ⊎_elim (λ e. inl e)
+      (λ l. inr (subst (λ (p : Pair). p.1 < equation_count x.formula) (sym (pair_read a x st (length game) v h)) l))
+      (rows v h).3
+
+  abbrev Claim : Outcome → Outcome → Type 0
+  Claim = SameButRanks x
+
+  pub rankings : SameButRanks x (run a x r k game work) (run b x r k game work)
   unfolding built_outcome
   rankings = go (refusal x r (length game) (length work)) refl (exceeds r va) refl
     where
@@ -164,9 +164,10 @@ module _ (a b : Ranking) (x : Input) (r : Room) (k : ℕ) (game work : List ℕ)
               count = counts ∙ sym counts_b;
               edges = edge_words;
               owners = λ v l. (rows v (omega (arith, counts))).0;
+              pairs = λ v l. same_pairs v (omega (arith, counts));
               targets = λ v l. (rows v (omega (arith, counts))).1;
               counts = λ v l. (rows v (omega (arith, counts))).2;
-              priorities = λ v l. (rows v (omega (arith, counts))).3;
+              priorities = λ v l. ranked v (omega (arith, counts));
             });
           }
 

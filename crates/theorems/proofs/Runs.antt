@@ -16,12 +16,13 @@ use Rattle.rules.specs.declared.Room.{Room}
 use Rattle.rules.specs.Words.{Input}
 use Rattle.rules.specs.Answers.{Accepted}
 use Rattle.rules.specs.Depth.{Ranking}
-use Rattle.rules.specs.Pairs.{Pair, same_pair, initial_pair, owner, priority, targets, transitions_behind}
+use Rattle.rules.specs.Pairs.{Pair, initial_pair, targets}
 use Rattle.rules.specs.Walk.{Stand}
 use Rattle.rules.specs.Game.{Vertex, edge_count}
 use Rattle.rules.specs.Faulty.{FirstFaulty, Faultless}
 use Rattle.rules.specs.Refusal.{refusal}
-use Rattle.rules.specs.Run.{Outcome, walk_of, vertices_of, exceeds, built_answer, built_outcome, out_of_room, walk_outcome, refused_or, run}
+use Rattle.rules.specs.Run.{Outcome, walk_of, exceeds, built_answer, built_outcome, out_of_room, walk_outcome, refused_or, run}
+use Rattle.rules.specs.Vertices.{vertices_of}
 use Rattle.rules.specs.Demands.{Exceeded, edges_after, Demand1}
 use Rattle.lists.proofs.Equalities.{pair_equality}
 use Rattle.tables.proofs.Exact.{exact, exact_passed, faultless_or_first}
@@ -76,23 +77,16 @@ module _ (rank : Ranking) (x : Input) (r : Room) (k : ℕ) (game work : List ℕ
   -- ---- 60
 
   pub vertices_many : length vs ≡ length st.known
-  unfolding vertices_of
-  vertices_many =
-      length_vertices same_pair (targets x) (initial_pair x) (owner x) (priority rank x) (transitions_behind x) st
+  vertices_many = length_vertices rank x st
 
-  -- the edges that settling a pair gives
-  abbrev degree_of : Pair → ℕ
-  degree_of = edges_of same_pair (targets x) (initial_pair x) (owner x) (priority rank x) (transitions_behind x) st
-
-  pub edges_many : edge_count vs ≡ sum_settled degree_of (initial_pair x) st
-  unfolding vertices_of
-  edges_many = count-edges same_pair (targets x) (initial_pair x) (owner x) (priority rank x) (transitions_behind x) st
+  pub edges_many : edge_count vs ≡ sum_settled (edges_of x) (initial_pair x) st
+  edges_many = count-edges rank x st
 
   -- told after k steps, it is so within the first k steps, and the other way round
   pub exceeded : exceeds r vs ≡ true → Exceeded x r k
   unfolding exceeds walk_of edges_after
   exceeded e =
-      (exceeded_within pair_equality (targets x) (initial_pair x) degree_of r.vertices r.edges k).1
+      (exceeded_within pair_equality (targets x) (initial_pair x) (edges_of x) r.vertices r.edges k).1
       (⊎_elim (λ l. inl (subst (λ (n : ℕ). r.vertices < n) vertices_many l)) (λ l. inr (subst (λ (n : ℕ). r.edges < n) edges_many l))
       (either_exceeds r.vertices (length vs) r.edges (edge_count vs) e))
 
@@ -101,7 +95,7 @@ module _ (rank : Ranking) (x : Input) (r : Room) (k : ℕ) (game work : List ℕ
   not_exceeded e h =
       exceeds_either r.vertices (length vs) r.edges (edge_count vs) e
       (⊎_elim (λ l. inl (subst (λ (n : ℕ). r.vertices < n) (sym vertices_many) l)) (λ l. inr (subst (λ (n : ℕ). r.edges < n) (sym edges_many) l))
-      ((exceeded_within pair_equality (targets x) (initial_pair x) degree_of r.vertices r.edges k).0 h))
+      ((exceeded_within pair_equality (targets x) (initial_pair x) (edges_of x) r.vertices r.edges k).0 h))
 
   -- what fits
   pub fits : exceeds r vs ≡ false → (length vs ≤ r.vertices) × (edge_count vs ≤ r.edges)

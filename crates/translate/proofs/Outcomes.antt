@@ -21,7 +21,8 @@ use Rattle.rules.specs.Walk.{Stand}
 use Rattle.rules.specs.Pairs.{Pair}
 use Rattle.rules.specs.Game.{Vertex, edge_count, game_of, padded}
 use Rattle.rules.specs.Refusal.{refusal}
-use Rattle.rules.specs.Run.{Outcome, walk_of, vertices_of, exceeds, built_answer, built_outcome, out_of_room, run}
+use Rattle.rules.specs.Run.{Outcome, walk_of, exceeds, built_answer, built_outcome, out_of_room, run}
+use Rattle.rules.specs.Vertices.{vertices_of}
 use Rattle.rules.specs.Demands.{Demand1, Demand3}
 use Rattle.tables.specs.Good.{GoodInput}
 use Rattle.lists.proofs.Members.{in_or}

@@ -17,9 +17,9 @@ use Rattle.rules.specs.Depth.{Ranking}
 use Rattle.rules.specs.Pairs.{Pair, same_pair, initial_pair, owner, priority, targets, transitions_behind}
 use Rattle.rules.specs.Reach.{Reachable, onward}
 use Rattle.rules.specs.Walk.{Stand}
-use Rattle.rules.specs.Game.{Edge, Vertex, Ruled, waiting_vertex, stuck_priority, totalised_by, totalised, settled_vertex}
-use Rattle.rules.specs.Game.{ruled_edge, ruled_vertex, vertex_at, vertices}
-use Rattle.rules.specs.Run.{walk_of, vertices_of}
+use Rattle.rules.specs.Game.{Edge, Vertex}
+use Rattle.rules.specs.Run.{walk_of}
+use Rattle.rules.specs.Vertices.{Ruled, waiting_vertex, stuck_priority, totalised_by, totalised, settled_vertex, ruled_edge, ruled_vertex, vertex_at, vertices_of}
 use Rattle.tables.specs.Good.{GoodInput}
 use Rattle.lists.specs.Shapes.{positions}
 use Rattle.lists.proofs.Members.{map_at, in_at, in_or, position_at}
@@ -28,7 +28,7 @@ use Rattle.arena.proofs.SelfTargets.{no_self_target}
 use Rattle.walks.proofs.Steps.{sound}
 use Rattle.walks.proofs.Rename.{positions-map}
 use Rattle.theorems.proofs.Vertices.{vertex_waits, vertex_settled, settled-degree}
-use Rattle.pairs.specs.Table.{key_at, state_at, keys_of}
+use Rattle.pairs.specs.Table.{key_at, state_at, item_at, keys_of}
 use Rattle.pairs.proofs.Uses.{key_same, key-pair, key_item_below, key_word, length-keys}
 use Rattle.settling.specs.declared.Counters.{Counters}
 use Rattle.settling.specs.Keys.{pair_key, key_targets, key_behind, root_key}
@@ -36,7 +36,7 @@ use Rattle.settling.specs.Stand.{waiting_of, edges_of, counts_of, edges_for, cou
 use Rattle.settling.specs.Good.{Good, Stretch}
 use Rattle.item_table.specs.Entries.{ShownAt, ItemTable, Ranks, kind_owner}
 use Rattle.item_table.proofs.Steps.{entry_owner, ranks_priority}
-use Rattle.game_writer.specs.Shown.{item_in, first_target, loops_in, shown_player, shown_owner, shown_priority, shown_edges, shown_vertex, shown_vertices}
+use Rattle.game_writer.specs.Shown.{first_target, loops_in, shown_player, shown_owner, shown_priority, shown_edges, shown_vertex, shown_vertices}
 use Rattle.game_writer.proofs.Vertices.{owner-settled, edges_settled, first_edge, shown_waiting}
 use Rattle.theorems.proofs.Read.{settled-owner}
 use Rattle.stepping.proofs.Keys.{reached_inside, item_fits, alike, moved, behind_moved}
@@ -85,11 +85,12 @@ module _ (rank : Ranking) (x : Input) (good : GoodInput x) (k : ℕ) (kinds left
   word_at : (u : ℕ) → u < c.known → word (keys_of w v c.known) u ≡ pair_key (pair u)
   word_at u h = ap (λ (l : List ℕ). get_or l u 0) same_known ∙ map_at pair_key st.known u (initial_pair x) 0 (omega (arith, known_many))
 
-  item-at : (u : ℕ) → u < c.known → item_in w v u ≡ (pair u).1
-  item-at u h =
-      (key_same (state_at w v u) (item_in w v u) (pair u).0 (pair u).1 (key_item_below (key_at w v u))
+  -- the state and the item of a vertex are those of its pair
+  pair-at : (u : ℕ) → u < c.known → (state_at w v u ≡ (pair u).0) × (item_at w v u ≡ (pair u).1)
+  pair-at u h =
+      key_same (state_at w v u) (item_at w v u) (pair u).0 (pair u).1 (key_item_below (key_at w v u))
       (item_fits x good (pair u) (reached_inside x good (pair u) (pair_reached u h)))
-      (sym (key-pair (key_at w v u)) ∙ sym (key_word w v c.known u h) ∙ word_at u h)).1
+      (sym (key-pair (key_at w v u)) ∙ sym (key_word w v c.known u h) ∙ word_at u h)
 
   targets_at : (u : ℕ) → u < c.known → key_targets x (get_or (keys_of w v c.known) u (root_key x)) ≡ map pair_key (targets x (pair u))
   targets_at u h = ap (λ (n : ℕ). key_targets x n) (key-at u h) ∙ moved x good (pair u) (pair_reached u h)
@@ -109,14 +110,14 @@ module _ (rank : Ranking) (x : Input) (good : GoodInput x) (k : ℕ) (kinds left
 
   -- the edge that the rules give the pair of vertex u to this target
   abbrev edge : ℕ → Pair → Edge
-  edge u = ruled_edge same_pair (targets x) (initial_pair x) (owner x) (priority rank x) (transitions_behind x) st (pair u)
+  edge u = ruled_edge x st (pair u)
 
   -- the vertex of a pair with these targets
   abbrev ruled_of : ℕ → Player → ℕ → List Pair → Ruled
   ruled_of u o p ts = record { owner = o; priority = p; edges = map (edge u) ts }
 
   abbrev settled : ℕ → Player → ℕ → List Pair → Vertex
-  settled u o p ts = settled_vertex (totalised u (ruled_of u o p ts))
+  settled u o p ts = settled_vertex (pair u) (totalised u (ruled_of u o p ts))
 
   abbrev target_words : Vertex → List ℕ
   target_words y = map (λ (d : Edge). d.target) y.edges
@@ -173,7 +174,7 @@ module _ (rank : Ranking) (x : Input) (good : GoodInput x) (k : ℕ) (kinds left
       let y : Vertex = settled u o 0 (targets x (pair u)) in
       let long : length part ≡ max 1 (length (ruled_of u o 0 (targets x (pair u))).edges)
       = ap length (part_targets u h n o 0) ∙ length-map y.edges (λ (d : Edge). d.target)
-      ∙ settled-degree u (ruled_of u o 0 (targets x (pair u))) in
+      ∙ settled-degree u (pair u) (ruled_of u o 0 (targets x (pair u))) in
       omega (arith, part_length (degree_in w v u) (drop (start_in w v u) (edges_of w v e c.edges)))
 
   waits_unsettled : (u : ℕ) → u < c.known → In u st.waiting → settled_in w v u ≡ false
@@ -186,11 +187,11 @@ module _ (rank : Ranking) (x : Input) (good : GoodInput x) (k : ℕ) (kinds left
   player_at : (u : ℕ) → u < c.known → shown_player kinds w v u ≡ owner x (pair u)
   unfolding shown_player
   player_at u h =
-      ap (λ (q : ℕ). kind_owner (word kinds q)) (item-at u h)
+      ap (λ (q : ℕ). kind_owner (word kinds q)) (pair-at u h).1
       ∙ sym (entry_owner x (pair u).1 (word kinds (pair u).1) (word lefts (pair u).1) (word rights (pair u).1) (pair u).0 (entry_at u h))
 
-  priority_at : (u : ℕ) → u < c.known → word priorities (item_in w v u) ≡ priority rank x (pair u)
-  priority_at u h = ap (word priorities) (item-at u h) ∙ ranks_priority rank x priorities ranks (pair u).0 (pair u).1
+  priority_at : (u : ℕ) → u < c.known → word priorities (item_at w v u) ≡ priority rank x (pair u)
+  priority_at u h = ap (word priorities) (pair-at u h).1 ∙ ranks_priority rank x priorities ranks (pair u).0 (pair u).1
 
   -- the first edge of a vertex with targets leads to another vertex
   first-other : (u : ℕ) → u < c.known → (¬ In u st.waiting) → (t : Pair) → In t (targets x (pair u)) → ¬ (position same_pair t st.known ≡ u)
@@ -220,7 +221,7 @@ module _ (rank : Ranking) (x : Input) (good : GoodInput x) (k : ℕ) (kinds left
   ruled u = settled u (owner x (pair u)) (priority rank x (pair u)) (targets x (pair u))
 
   shown_settled : (u : ℕ) → u < c.known → (¬ In u st.waiting) → shown_vertex kinds priorities w v e u ≡ ruled u
-  unfolding shown_vertex shown_priority
+  unfolding shown_vertex shown_priority settled_vertex
   shown_settled u h n =
       let s = stretch_at u h n in
       let some : settled_in w v u ≡ true = s.settled in
@@ -229,20 +230,23 @@ module _ (rank : Ranking) (x : Input) (good : GoodInput x) (k : ℕ) (kinds left
       let led = part_targets u h n o p in
       let a : shown_owner kinds w v u ≡ (ruled u).owner
       = owner-settled kinds w v u some ∙ ap player_index (player_at u h)
-      ∙ sym (settled-owner u (ruled_of u o p (targets x (pair u)))) in
+      ∙ sym (settled-owner u (pair u) (ruled_of u o p (targets x (pair u)))) in
       let b : shown_priority kinds priorities w v e u ≡ (ruled u).priority
       = rw (some, player_at u h, priority_at u h)
       (settled-priority u o p (targets x (pair u)) (some_edge u h n) s.inside led (first-other u h n)) in
       let d : shown_edges w v e u ≡ (ruled u).edges
       = edges_settled w v e u c.edges s.inside (ruled u).edges led (part_counts u h n o p) in
-      λ i. record { owner = a i; priority = b i; edges = d i }
+      let m = pair-at u h in
+      λ i. record { owner = a i; priority = b i; state = m.0 i; item = m.1 i; edges = d i }
 
-  shown_waits : (u : ℕ) → u < c.known → In u st.waiting → shown_vertex kinds priorities w v e u ≡ waiting_vertex
-  shown_waits u h m = shown_waiting kinds priorities w v e u (waits_unsettled u h m)
+  shown_waits : (u : ℕ) → u < c.known → In u st.waiting → shown_vertex kinds priorities w v e u ≡ waiting_vertex (pair u)
+  shown_waits u h m =
+      let s = pair-at u h in
+      shown_waiting kinds priorities w v e u (waits_unsettled u h m) ∙ (λ i. waiting_vertex (s.0 i, s.1 i))
 
   -- what the rules give vertex u
   abbrev at : ℕ → Vertex
-  at = vertex_at same_pair (targets x) (initial_pair x) (owner x) (priority rank x) (transitions_behind x) st
+  at = vertex_at rank x st
 
   shown-vertex : (u : ℕ) → u < c.known → shown_vertex kinds priorities w v e u ≡ at u
   unfolding ruled_vertex
@@ -250,17 +254,13 @@ module _ (rank : Ranking) (x : Input) (good : GoodInput x) (k : ℕ) (kinds left
     where
       go : In u st.waiting ⊎ (¬ In u st.waiting) → shown_vertex kinds priorities w v e u ≡ at u
       go (inl m) =
-          shown_waits u h m
-          ∙ sym
-          (vertex_waits same_pair (targets x) (initial_pair x) (owner x) (priority rank x) (transitions_behind x) st u m)
+          shown_waits u h m ∙ sym (vertex_waits rank x st u m)
       go (inr n) =
-          shown_settled u h n
-          ∙ sym
-          (vertex_settled same_pair (targets x) (initial_pair x) (owner x) (priority rank x) (transitions_behind x) st u n)
+          shown_settled u h n ∙ sym (vertex_settled rank x st u n)
 
   -- the vertices shown are those of the rules
   pub shown_all : shown_vertices kinds priorities w v e c.known ≡ vertices_of rank x (walk_of x k)
-  unfolding shown_vertices vertices_of vertices
+  unfolding shown_vertices vertices_of
   shown_all =
       map-from (shown_vertex kinds priorities w v e) at 0 c.known (λ u a b. shown-vertex u (omega arith))
       ∙ ap (λ (n : ℕ). map at (from 0 n)) (sym known_many)

@@ -142,7 +142,7 @@ fn run_lent(
 // - `equals` gives the answer and both slices afterwards by the rules' run;
 // - `coded`: the answer's words (`said`) are those of the rules' answer;
 // - `demand1` says when a run is refused, by which number and place, and what it leaves;
-// - `demand3` is the cut theorem, of the answer and the words in the game slice;
+// - `demand3` is the cut theorem, of the answer and the words in the game slice, which show the pair of each vertex;
 // - `no_false_pass`: where the run is Done and a verdict on the game slice's words is accepted with its reasons, the
 //   initial state satisfies the formula (after Bradfield and Stirling's mu-calculus).
 // Kept (rule): the parameters are those of the C interface; the numbers are made a `Bounds` at once.

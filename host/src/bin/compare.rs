@@ -3,7 +3,7 @@
 //! formulas mean with what they meant over regular formulas.
 use hingrezh::check::call::{Call, LIBRARY, Outcome, PLAIN, perform, show, unlawful};
 use hingrezh::check::cases::{self, Case};
-use hingrezh::check::counts;
+use hingrezh::check::columns::{self, Columns, carried, misplaced};
 use hingrezh::check::damage::damage;
 use hingrezh::check::expansion::call::{self as expansion, Input};
 use hingrezh::check::expansion::{
@@ -15,7 +15,7 @@ use hingrezh::check::generate::{
 };
 use hingrezh::check::meaning;
 use hingrezh::check::options::{self, Options};
-use hingrezh::check::oracle::{Oracle, Reply, Request};
+use hingrezh::check::oracle::{Oracle, Reply, Request, as_original, original_words};
 use hingrezh::check::pgsolver::{call as pgsolver, cases as text_cases, damage as text_damage};
 use hingrezh::check::pgsolver::{generate as drafts, large};
 use hingrezh::check::places;
@@ -30,13 +30,14 @@ const USAGE: &str = "\
 usage: compare [--oracle PROGRAM] [--seed N] [--times N] [--only TEXT]
 
 Runs the library and the plain Rust implementation on the same inputs and compares every word and byte that they leave,
-those around the lent slices included. The transitions behind each edge, of which the Rust original knows nothing, are
-counted from system and formula, too. Formulas over regular formulas are read by the paths of small models, too, and
-must hold where the expanded ones do; with an oracle, the original expands them, too, where it follows the document
-(docs/DIFFERENCES.md), and its games must be those of the expanded formulas. Then solves small games of the library's
-(Even wins if the largest priority seen for ever is even) and compares who wins with the formula itself, read directly
-on the model. The ranking of fixpoints is the Rust original's: it gives false alarms (the formula holds, but Even does
-not win), which are counted. A false pass (Even wins, but the formula does not hold) is a difference.
+those around the lent slices included. What the Rust original knows nothing of, state and item of each vertex and the
+transitions behind each edge, is found from system and formula, too, and no two vertices of a run's game have the same
+state and item. Formulas over regular formulas are read by the paths of small models, too, and must hold where the
+expanded ones do; with an oracle, the original expands them, too, where it follows the document (docs/DIFFERENCES.md),
+and its games must be those of the expanded formulas. Then solves small games of the library's (Even wins if the largest
+priority seen for ever is even) and compares who wins with the formula itself, read directly on the model. The ranking
+of fixpoints is the Rust original's: it gives false alarms (the formula holds, but Even does not win), which are
+counted. A false pass (Even wins, but the formula does not hold) is a difference.
 
 --oracle PROGRAM  asks PROGRAM, which runs the Rust original, too; without it there is no third opinion
 --seed N          other random inputs (1)
@@ -179,10 +180,10 @@ impl Comparison {
         }
     }
 
-    /// Writes a game into slices of several lengths, with other counts to the same effect; then reads its text back
-    /// into a room that just holds it.
+    /// Writes a game into slices of several lengths, with other states, items and counts to the same effect; then reads
+    /// its text back into a room that just holds it.
     fn round_trip(&mut self, game: &[u32]) {
-        let other = drafts::recounted(&mut self.random, game);
+        let other = drafts::rewritten(&mut self.random, game);
         for call in drafts::lengths(&mut self.random, game) {
             let written = self.text(&call);
             self.inputs += 1;
@@ -192,7 +193,7 @@ impl Comparison {
                 // A refusal leaves what was there, which is not the same in two calls.
                 let same = again.answer == written.answer && (again.answer[0] == 2 || again.text == written.text);
                 if !same {
-                    self.text_differs(&call, &format!("with other counts: {}", written.show()));
+                    self.text_differs(&call, &format!("with other states, items and counts: {}", written.show()));
                 }
             }
             if let [0, bytes, ..] = written.answer {
@@ -260,8 +261,7 @@ impl Comparison {
             let outcome = self.expand(&call);
             let (Some(formula), Some(reply)) = (outcome.formula(), reply) else { continue };
             let game = finish(&input.model(system, formula));
-            let (without_counts, _) = game.split_at(game.len() - game[1] as usize);
-            if reply != Reply::Words(without_counts.to_vec()) {
+            if reply != Reply::Words(as_original(&game)) {
                 let what = format!("system {}: the oracle says {reply:?}\nplain {}", show(system), show(&game));
                 self.expansion_differs(&call, &what);
             }
@@ -311,8 +311,8 @@ impl Comparison {
         Ok(oracle.ask(requests)?.into_iter().map(Some).collect())
     }
 
-    /// Models that are accepted: the finished game comes from the oracle, its counts from the model; other rooms and
-    /// limits follow from it.
+    /// Models that are accepted: the finished game comes from the oracle, its states, items and counts from the model;
+    /// other rooms and limits follow from it.
     fn accepted(&mut self, models: Vec<Model>, tries: usize) -> Result<(), String> {
         for models in models.chunks(5_000) {
             let requests: Vec<Request> = models.iter().map(Request::Translate).collect();
@@ -325,16 +325,19 @@ impl Comparison {
                         self.differs(&Call::build(model.clone(), 1, 1, 1), &format!("the oracle says {reply:?}"));
                         continue;
                     }
-                    None => finish(model),
+                    None => as_original(&finish(model)),
                 };
-                let game = match counts::completed(model, &game) {
+                let game = match columns::completed(model, &game) {
                     Ok(game) => game,
                     Err(what) => {
                         self.differs(&Call::build(model.clone(), 1, 1, 1), &what);
                         continue;
                     }
                 };
-                let (_, counts) = game.split_at(game.len() - game[1] as usize);
+                if let Some(what) = misplaced(model, &game) {
+                    self.differs(&Call::build(model.clone(), 1, 1, 1), &what);
+                }
+                let counts = Columns::shown(&game).counts;
                 counts.iter().for_each(|&count| self.counts[count.min(2) as usize] += 1);
                 self.rooms(model, &game, tries);
                 if self.random.chance(20) {
@@ -380,14 +383,14 @@ impl Comparison {
                 match reply {
                     Some(Reply::Words(words)) => {
                         let (n, m) = (words[0], words[1]);
-                        let (new, map) = words.split_at(4 + 3 * n as usize + m as usize);
-                        let new = [new, &counts::carried(game, map)].concat();
+                        let (new, map) = words.split_at(original_words(n as usize, m as usize));
+                        let new = carried(game, map).into_game(new);
                         self.known(&call, &Expected { answer: [0, n, n, m], game: new }, Some(map));
                     }
                     Some(reply) => self.differs(&call, &format!("the oracle says {reply:?}")),
                     None => {
                         let got = self.both(&call);
-                        if let Some(what) = wrong_counts(&call, &got) {
+                        if let Some(what) = wrong_columns(&call, &got) {
                             self.differs(&call, &what);
                         }
                     }
@@ -405,7 +408,7 @@ impl Comparison {
                 self.inputs += 1;
                 let got = self.both(call);
                 let other = reply.and_then(|reply| disagreement(call, &got, &reply));
-                if let Some(what) = other.or_else(|| wrong_counts(call, &got)) {
+                if let Some(what) = other.or_else(|| wrong_columns(call, &got)) {
                     self.differs(call, &what);
                 }
             }
@@ -479,29 +482,34 @@ fn disagreement(call: &Call, got: &Outcome, reply: &Reply) -> Option<String> {
         (2, Reply::NotValid) => None,
         (1, Reply::Words(_)) => None,
         (0, Reply::Words(words)) => {
-            // It knows no counts.
-            let end = 4 + 3 * n as usize + m as usize;
+            let game = as_original(&got.game[..game_words(n as usize, m as usize)]);
             let map = if matches!(call, Call::Build { .. }) { &[] } else { &got.map[..] };
-            let same = words.len() == end + map.len() && words[..end] == got.game[..end] && words[end..] == *map;
+            let same = *words == [&game[..], map].concat();
             (!same).then(|| format!("the oracle's words {}\nplain's            {}", show(words), show(&got.game)))
         }
         _ => Some(format!("answer {:?}, but the oracle says {reply:?}", got.answer)),
     }
 }
 
-/// The counts of a game that was built, against those of system and formula; of one that was restricted, against those
-/// that it had.
-fn wrong_counts(call: &Call, got: &Outcome) -> Option<String> {
+/// States, items and counts of a game that was built, against those of system and formula, and each other; of one that
+/// was restricted, against those that it had.
+fn wrong_columns(call: &Call, got: &Outcome) -> Option<String> {
     let [0 | 1, _, n, m] = got.answer else { return None };
+    let game = &got.game[..game_words(n as usize, m as usize)];
     let wanted = match call {
-        Call::Build { model, .. } => counts::counts(model, &got.game),
-        Call::Restrict { game, .. } => Ok(counts::carried(game, &got.map)),
+        Call::Build { model, .. } => match misplaced(model, game) {
+            Some(what) => Err(what),
+            None => columns::columns(model, &as_original(game)),
+        },
+        Call::Restrict { game, .. } => Ok(carried(game, &got.map)),
     };
-    let end = game_words(n as usize, m as usize);
     match wanted {
         Err(what) => Some(what),
-        Ok(counts) if counts == got.game[end - m as usize..end] => None,
-        Ok(counts) => Some(format!("expected counts {}\nplain's game    {}", show(&counts), show(&got.game))),
+        Ok(wanted) if wanted == Columns::shown(game) => None,
+        Ok(Columns { states, items, counts }) => {
+            let [states, items, counts] = [states, items, counts].map(|column| show(&column));
+            Some(format!("expected states {states}, items {items}, counts {counts}\nplain's game {}", show(game)))
+        }
     }
 }
 

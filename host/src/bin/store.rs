@@ -2,20 +2,20 @@
 //! `pgsolver_runs` and `expansions`, `stdout` of `restricts`. These are calls as records and the lines that they must
 //! print (the formats are in check/record.rs), inputs of the thin program and their texts (check/texts.rs), PGSolver
 //! texts written and read (check/pgsolver/stored.rs), and formulas expanded (check/expansion/stored.rs). The answers of
-//! accepted words are the oracle's, given their counts by check/counts.rs, cut and given their room by
-//! check/finished.rs; those of refused words follow the rules' refusals as the plain implementation states them. Of
+//! accepted words are the oracle's, given their states, items and counts by check/columns.rs, cut and given their room
+//! by check/finished.rs; those of refused words follow the rules' refusals as the plain implementation states them. Of
 //! PGSolver text the oracle knows nothing, and of expanded formulas only their games: there the outcomes are the plain
 //! implementation's, and those of the cases are written down by hand, too. The library is not asked.
 use hingrezh::check::call::{Call, LIBRARY, Outcome, PLAIN, perform, show, unlawful};
 use hingrezh::check::cases;
-use hingrezh::check::counts;
+use hingrezh::check::columns;
 use hingrezh::check::damage::damage;
 use hingrezh::check::expansion::{call as expansion, kinds as expansion_kinds, stored as expansions};
 use hingrezh::check::finished::expected;
 use hingrezh::check::generate::{Random, Sizes, all_formulas, random_game, random_model, table};
 use hingrezh::check::kinds::{self, KINDS, NOT_IN_RECORDS};
 use hingrezh::check::options;
-use hingrezh::check::oracle::{Oracle, Reply, Request};
+use hingrezh::check::oracle::{Oracle, Reply, Request, original_words};
 use hingrezh::check::pgsolver::{call as pgsolver, stored};
 use hingrezh::check::places;
 use hingrezh::check::record::{self, RECORD, line, record};
@@ -121,7 +121,7 @@ fn outcome(call: &Call, reply: &Reply, fill: u32) -> Result<Outcome, String> {
         (_, _) if refused && [1, 2, 12, 22, 32, 42].contains(&plain.answer[1]) => Ok(plain),
         (Reply::NotValid, _) if refused => Ok(plain),
         (Reply::Words(words), Call::Build { model, vertices, edges, limit, game, work }) => {
-            let finished = counts::completed(model, words)?;
+            let finished = columns::completed(model, words)?;
             let expected = expected(&finished, *vertices, *edges, *limit).ok_or("numbers of no walk")?;
             let mut slice = expected.game;
             slice.resize(*game, 0);
@@ -129,8 +129,8 @@ fn outcome(call: &Call, reply: &Reply, fill: u32) -> Result<Outcome, String> {
         }
         (Reply::Words(words), Call::Restrict { game, out, work, .. }) => {
             let (n, m) = (words[0], words[1]);
-            let (new, map) = words.split_at(4 + 3 * n as usize + m as usize);
-            let mut slice = [new, &counts::carried(game, map)].concat();
+            let (new, map) = words.split_at(original_words(n as usize, m as usize));
+            let mut slice = columns::carried(game, map).into_game(new);
             slice.resize(*out, 0);
             Ok(Outcome { answer: [0, n, n, m], game: slice, map: map.to_vec(), work: vec![0; *work], intact: true })
         }

@@ -51,6 +51,7 @@ fn refused(name: &'static str, model: Model, number: u32, place: u32) -> Case {
 
 pub fn all() -> Vec<Case> {
     let mut cases = worked();
+    cases.extend(alike());
     cases.extend(counted());
     cases.extend(wide());
     cases.extend(limited());
@@ -58,6 +59,7 @@ pub fn all() -> Vec<Case> {
     cases.extend(sizes());
     cases.extend(readings());
     cases.extend(restrictions());
+    cases.extend(no_games());
     cases.extend(lent());
     cases
 }
@@ -65,30 +67,42 @@ pub fn all() -> Vec<Case> {
 /// The small games to check by.
 fn worked() -> Vec<Case> {
     vec![
-        whole("1", model(LOOP, CASE_1), "3 3 0  0 0 1  0 0 0  0 1 2 3  1 2 0  0 1 0"),
-        whole("2", model(STUCK, "2 5 0 0 0"), "2 2 0  1 0  1 1  0 1 2  1 1  0 0"),
-        whole("3", model(STUCK, "2 4 0 0 0"), "2 2 0  1 1  1 0  0 1 2  1 1  0 0"),
-        whole("4", model(LOOP, "3 2 0 0 2 0 0"), "3 4 0  1 1 1  1 0 0  0 1 3 4  1 2 2 2  0 0 0 0"),
+        whole("1", model(LOOP, CASE_1), "3 3 0  0 0 1  0 0 0  0 0 0  0 1 2  0 1 2 3  1 2 0  0 1 0"),
+        whole("2", model(STUCK, "2 5 0 0 0"), "2 2 0  1 0  1 1  0 0  0 1  0 1 2  1 1  0 0"),
+        whole("3", model(STUCK, "2 4 0 0 0"), "2 2 0  1 1  1 0  0 0  0 1  0 1 2  1 1  0 0"),
+        whole("4", model(LOOP, "3 2 0 0 2 0 0"), "3 4 0  1 1 1  1 0 0  0 0 0  0 1 2  0 1 3 4  1 2 2 2  0 0 0 0"),
         whole(
             "5",
             model(LOOP, CASE_5),
-            "6 8 0  1 0 0 1 0 1  1 0 0 0 1 0  0 1 3 4 6 7 8  1 2 3 5 4 5 4 5  0 0 0 1 0 0 0 0",
+            "6 8 0  1 0 0 1 0 1  1 0 0 0 1 0  0 0 0 0 0 0  0 1 2 4 5 3  0 1 3 4 6 7 8
+             1 2 3 5 4 5 4 5  0 0 0 1 0 0 0 0",
         ),
         // Depths 3, 3, 1, 0: X, Y, Z, W are the vertices 0, 2, 6, 8 with priorities 2, 3, 0, 1.
         whole(
             "8",
             model(LOOP, "9 7 6 3 5 8 7 6 5 8 0 0 5 0 0 0 0 0 1"),
-            "11 12 0  0 1 1 0 0 1 0 1 1 0 1  2 0 3 0 0 0 0 0 1 0 0  0 1 2 3 5 6 7 8 9 10 11 12
+            "11 12 0  0 1 1 0 0 1 0 1 1 0 1  2 0 3 0 0 0 0 0 1 0 0
+             0 0 0 0 0 0 0 0 0 0 0  0 4 1 5 6 8 2 9 3 10 7  0 1 2 3 5 6 7 8 9 10 11 12
              1 2 3 4 5 10 6 7 8 9 1 0  0 0 0 0 0 1 0 0 0 0 1 0",
         ),
         // X has depth 2.
-        whole("9", model(LOOP, "4 7 6 7 8 0 0 0 2"), "5 5 0  0 1 1 1 0  2 0 1 0 0  0 1 2 3 4 5  1 2 3 4 3  0 0 0 0 0"),
+        whole(
+            "9",
+            model(LOOP, "4 7 6 7 8 0 0 0 2"),
+            "5 5 0  0 1 1 1 0  2 0 1 0 0  0 0 0 0 0  0 3 1 4 2  0 1 2 3 4 5  1 2 3 4 3  0 0 0 0 0",
+        ),
         // Two transitions behind the diamond's edge.
-        whole("12", model("1 2 0 2 0 0 0 0", CASE_1), "3 3 0  0 0 1  0 0 0  0 1 2 3  1 2 0  0 2 0"),
+        whole("12", model("1 2 0 2 0 0 0 0", CASE_1), "3 3 0  0 0 1  0 0 0  0 0 0  0 1 2  0 1 2 3  1 2 0  0 2 0"),
+    ]
+}
+
+/// Parts that are alike: one item each.
+fn alike() -> Vec<Case> {
+    vec![
         whole(
             "an inner fixpoint and its references are one item",
             model(LOOP, "4 7 6 5 8 0 0 0 1"),
-            "4 4 0  0 1 1 0  0 0 1 0  0 1 2 3 4  1 2 3 1  0 0 0 1",
+            "4 4 0  0 1 1 0  0 0 1 0  0 0 0 0  0 2 1 3  0 1 2 3 4  1 2 3 1  0 0 0 1",
         ),
         whole(
             "labels tau, 7 with 7, and 7",
@@ -98,46 +112,54 @@ fn worked() -> Vec<Case> {
                 actions: words("5 5 3 2 2 0 0 3 0 1 0"),
                 formula: words("6 2 5 0 4 5 0 3 0 0 4 0 0"),
             },
-            "6 8 0  1 1 0 1 0 1  1 0 0 0 1 0  0 1 3 4 6 7 8  1 2 3 5 4 2 4 5  0 0 0 1 2 1 0 0",
+            "6 8 0  1 1 0 1 0 1  1 0 0 0 1 0  0 0 0 0 1 1  0 1 2 4 2 3  0 1 3 4 6 7 8
+             1 2 3 5 4 2 4 5  0 0 0 1 2 1 0 0",
         ),
     ]
 }
 
-/// Games whose edges have several transitions behind them.
-fn counted() -> Vec<Case> {
-    // From state 0 by label 0 to 1, 2, 1 and 0; between them by label 1 to 2 and 1. Node 0 of the actions is label 0,
-    // node 1 is its negation.
-    let several = |formula: &str| Model {
+/// From state 0 by label 0 to 1, 2, 1 and 0; between them by label 1 to 2 and 1. Node 0 of the actions is label 0, node
+/// 1 is its negation.
+fn several(formula: &str) -> Model {
+    Model {
         labels: words("2 2 0 1 7 8"),
         system: words("3 6 0  6 0 0  0 1 0 1 0 0  1 2 2 1 1 0"),
         actions: words("3 2 5 2 0 0 0"),
         formula: words(formula),
-    };
+    }
+}
+
+/// Games whose edges have several transitions behind them.
+fn counted() -> Vec<Case> {
     let diamond = "2 5 0 0 0";
     let first = Case {
-        game: Some(words("5 4 0  1 0 2 2 2  1 0 0 0 0  0 1 4 4 4 4  1 2 3 4  0 2 1 1")),
+        game: Some(words("5 4 0  1 0 2 2 2  1 0 0 0 0  0 0 1 2 0  0 1 2 2 2  0 1 4 4 4 4  1 2 3 4  0 2 1 1")),
         ..case("cut behind a diamond", Call::build(several(diamond), 16, 32, 2), [1, 2, 5, 4])
     };
     vec![
         whole(
             "several targets",
             several(diamond),
-            "5 7 0  1 0 1 1 1  1 0 0 0 0  0 1 4 5 6 7  1 2 3 4 2 3 4  0 2 1 1 0 0 0",
+            "5 7 0  1 0 1 1 1  1 0 0 0 0  0 0 1 2 0  0 1 2 2 2  0 1 4 5 6 7  1 2 3 4 2 3 4  0 2 1 1 0 0 0",
         ),
-        whole("the other label", several("2 5 0 1 0"), "4 5 0  1 0 1 1  1 0 0 0  0 1 3 4 5  1 2 3 2 3  0 1 1 0 0"),
+        whole(
+            "the other label",
+            several("2 5 0 1 0"),
+            "4 5 0  1 0 1 1  1 0 0 0  0 0 2 1  0 1 2 2  0 1 3 4 5  1 2 3 2 3  0 1 1 0 0",
+        ),
         first,
         // A box in state 0; it is stuck in the others, where the loop is an added one.
         whole(
             "a box and added loops",
             several("3 7 4 8 0 0 0"),
-            "9 11 0  0 1 1 1 1 0 1 0 1  0 0 0 0 0 0 0 0 0  0 1 4 5 6 7 8 9 10 11
-             1 2 3 4 7 5 0 6 6 8 8  0 2 1 1 0 0 0 0 0 0 0",
+            "9 11 0  0 1 1 1 1 0 1 0 1  0 0 0 0 0 0 0 0 0  0 0 1 2 0 2 2 1 1  0 1 2 2 2 0 1 0 1
+             0 1 4 5 6 7 8 9 10 11  1 2 3 4 7 5 0 6 6 8 8  0 2 1 1 0 0 0 0 0 0 0",
         ),
         // The same targets twice: each modality counts for itself.
         whole(
             "two modalities to one vertex",
             several("5 2 5 0 5 0 3 0 0 1 0"),
-            "7 11 0  1 1 0 0 1 1 1  1 0 0 0 0 0 0  0 1 3 6 8 9 10 11
+            "7 11 0  1 1 0 0 1 1 1  1 0 0 0 0 0 0  0 0 0 0 2 1 0  0 1 2 4 3 3 3  0 1 3 6 8 9 10 11
              1 2 3 5 4 6 4 5 4 5 6  0 0 0 2 1 1 1 1 0 0 0",
         ),
     ]
@@ -152,7 +174,8 @@ fn wide() -> Vec<Case> {
         model(&format!("{states} 6 0  6 {degrees}  0 0 0 0 0 0  {targets}"), formula)
     };
     let once = |v, e, k| Call::build(wide(8, "1 2 1 7 2 1", "2 5 0 0 0"), v, e, k);
-    let game = || Some(words("5 7 0  1 0 1 1 1  1 0 0 0 0  0 1 4 5 6 7  1 2 3 4 2 3 4  0 3 2 1 0 0 0"));
+    let game = "5 7 0  1 0 1 1 1  1 0 0 0 0  0 0 1 2 7  0 1 2 2 2  0 1 4 5 6 7  1 2 3 4 2 3 4  0 3 2 1 0 0 0";
+    let game = || Some(words(game));
     // A second such step follows in state 0.
     let twice = |v, e| Call::build(wide(12, "1 0 1 7 0 1", "3 5 5 0 0 0 0"), v, e, 99);
     vec![
@@ -170,7 +193,7 @@ fn wide() -> Vec<Case> {
 /// Step limits and room around case 5, which needs 6 vertices, 8 edges and 6 steps.
 fn limited() -> Vec<Case> {
     let five = |v, e, k| Call::build(model(LOOP, CASE_5), v, e, k);
-    let cut = "4 3 0  1 0 2 2  1 0 0 0  0 1 3 3 3  1 2 3  0 0 0";
+    let cut = "4 3 0  1 0 2 2  1 0 0 0  0 0 0 0  0 1 2 4  0 1 3 3 3  1 2 3  0 0 0";
     vec![
         Case { game: Some(words(cut)), ..case("6", five(16, 32, 2), [1, 2, 4, 3]) },
         case("7", five(6, 8, 6), [0, 6, 6, 8]),
@@ -257,7 +280,12 @@ fn readings() -> Vec<Case> {
         ),
         run("B4", Model { actions: words("4 0 3 0 0 0 3 0 0"), formula: twice, ..base() }, [0, 5, 5, 6]),
         run("B5", model(LOOP, "5 2 7 0 7 0 3 0 0 0 0"), [0, 7, 7, 8]),
-        whole("F1", model(STUCK, CASE_1), "2 2 0  0 0  0 1  0 1 2  1 1  0 0"),
+        whole("F1", model(STUCK, CASE_1), "2 2 0  0 0  0 1  0 0  0 1  0 1 2  1 1  0 0"),
+        whole(
+            "B1",
+            model(STUCK, "5 2 0 2 0 1 2 0 4 0 0"),
+            "5 7 0  1 1 1 1 0  1 0 0 0 1  0 0 0 0 0  0 1 2 3 4  0 1 3 4 6 7  1 2 3 2 2 4 4  0 0 0 0 0 0 0",
+        ),
         run(
             "no labels, no actions",
             Model { labels: words("0 0"), actions: words("0"), ..model(STUCK, "1 1 0") },
@@ -267,32 +295,56 @@ fn readings() -> Vec<Case> {
 }
 
 fn restrictions() -> Vec<Case> {
-    let refused = |name, game: &str, number, place| case(name, Call::restrict(words(game)), [2, number, place, 0]);
     let done = |name, game: &str, result: &str, map: &str| {
         let (game, result) = (words(game), words(result));
         let answer = [0, result[0], result[0], result[1]];
         Case { game: Some(result), map: Some(words(map)), ..case(name, Call::restrict(game), answer) }
     };
     vec![
-        done("C1", "1 0 0 1 0 0 0", "1 0 0 1 0 0 0", "0"),
-        done("C3", "2 1 1 0 0 0 0 0 0 1 1 9", "1 1 0 0 0 0 1 0 9", "4294967295 0"),
-        done("C7", "1 2 0 0 0 0 2 0 0 3 4", "1 2 0 0 0 0 2 0 0 3 4", "0"),
-        done("a new number and a priority", "2 2 1 0 1 5 6 0 1 2 0 1 7 8", "1 1 0 1 6 0 1 0 8", "4294967295 0"),
+        done("C1", "1 0 0  1  0  0  0  0 0", "1 0 0  1  0  0  0  0 0", "0"),
+        done("C3", "2 1 1  0 0  0 0  5 6  7 8  0 0 1  1  9", "1 1 0  0  0  6  8  0 1  0  9", "4294967295 0"),
+        done("C7", "1 2 0  0  0  3  4  0 2  0 0  3 4", "1 2 0  0  0  3  4  0 2  0 0  3 4", "0"),
+        done(
+            "a new number and a priority",
+            "2 2 1  0 1  5 6  1 2  3 4  0 1 2  0 1  7 8",
+            "1 1 0  1  6  2  4  0 1  0  8",
+            "4294967295 0",
+        ),
         done(
             "breadth first",
-            "3 4 0 0 1 0 4 5 6 0 2 3 4 2 1 0 1 10 11 12 13",
-            "3 4 0 0 0 1 4 6 5 0 2 3 4 1 2 2 0 10 11 13 12",
+            "3 4 0  0 1 0  4 5 6  1 2 3  7 8 9  0 2 3 4  2 1 0 1  10 11 12 13",
+            "3 4 0  0 0 1  4 6 5  1 3 2  7 9 8  0 2 3 4  1 2 2 0  10 11 13 12",
             "0 2 1",
         ),
-        done("no count is wrong", "1 2 0 0 0 0 2 0 0 4294967295 0", "1 2 0 0 0 0 2 0 0 4294967295 0", "0"),
-        refused("C4", "1 1 0 0 0 0 1 0 0 0", 51, 0),
-        refused("C5", "1 0 0 2 0 0 0", 53, 3),
-        refused("C6", "2 2 0 0 0 0 0 0 5 2 0 0 0 0", 52, 9),
-        refused("a game without counts", "1 1 0 0 0 0 1 0", 51, 0),
-        refused("offsets begin at 1", "1 1 0 0 0 1 1 0 0", 52, 5),
-        refused("offsets end at 2", "1 1 0 0 0 0 2 0 0", 52, 6),
-        refused("a target", "1 1 0 0 0 0 1 1 0", 53, 7),
-        refused("an initial vertex and an owner", "1 1 1 2 0 0 1 0 0", 53, 2),
+        done(
+            "no state, item or count is wrong",
+            "1 2 0  0  0  4294967295  65535  0 2  0 0  4294967295 0",
+            "1 2 0  0  0  4294967295  65535  0 2  0 0  4294967295 0",
+            "0",
+        ),
+        done(
+            "two vertices with the same state and item",
+            "2 2 1  0 1  5 6  9 9  9 9  0 1 2  0 0  7 8",
+            "2 2 0  1 0  6 5  9 9  9 9  0 1 2  1 1  8 7",
+            "1 0",
+        ),
+    ]
+}
+
+fn no_games() -> Vec<Case> {
+    let refused = |name, game: &str, number, place| case(name, Call::restrict(words(game)), [2, number, place, 0]);
+    vec![
+        refused("C4", "1 1 0  0  0  0  0  0 1  0  0  0", 51, 0),
+        refused("C5", "1 0 0  2  0  0  0  0 0", 53, 3),
+        refused("C6", "2 2 0  0 0  0 0  0 0  0 0  0 5 2  0 0  0 0", 52, 13),
+        refused("a game without states and items", "1 1 0  0  0  0 1  0  0", 51, 0),
+        refused("a game without counts, too", "1 1 0  0  0  0 1  0", 51, 0),
+        refused("a game without counts", "1 1 0  0  0  0  0  0 1  0", 51, 0),
+        refused("a game without items", "1 1 0  0  0  0  0 1  0  0", 51, 0),
+        refused("offsets begin at 1", "1 1 0  0  0  0  0  1 1  0  0", 52, 7),
+        refused("offsets end at 2", "1 1 0  0  0  0  0  0 2  0  0", 52, 8),
+        refused("a target", "1 1 0  0  0  0  0  0 1  1  0", 53, 9),
+        refused("an initial vertex and an owner", "1 1 1  2  0  0  0  0 1  0  0", 53, 2),
         refused("no words", "", 51, 0),
         refused("two words", "0 0", 51, 0),
         refused("no vertex", "0 0 0 0", 51, 0),
@@ -312,27 +364,30 @@ fn lent() -> Vec<Case> {
     let lent_to_restrict = |name, game: &str, out, map, work, answer| {
         case(name, Call::Restrict { game: words(game), out, map, work }, answer)
     };
-    let game = "1 1 0 0 0 0 1 0 1";
+    let game = "1 1 0  0  0  5  6  0 1  0  1";
     vec![
-        lengths("game one longer", one(), 117, 192),
-        lengths("game one shorter", one(), 115, 192),
-        lengths("game without room for counts", one(), 84, 192),
-        lengths("work one longer", one(), 116, 193),
-        lengths("work one shorter", one(), 116, 191),
-        lengths("A10: game longer and empty labels", Model { labels: vec![], ..one() }, 117, 192),
+        lengths("game one longer", one(), 149, 192),
+        lengths("game one shorter", one(), 147, 192),
+        lengths("game without room for states and items, or for counts", one(), 116, 192),
+        lengths("game without room for items", one(), 132, 192),
+        lengths("game without room for states, items and counts", one(), 84, 192),
+        lengths("work one longer", one(), 148, 193),
+        lengths("work one shorter", one(), 148, 191),
+        lengths("A10: game longer and empty labels", Model { labels: vec![], ..one() }, 149, 192),
         room("1 before 2 and 11: V = 0", 0, 1),
         room("V too large", (1 << 20) + 1, 1),
         room("E = 0", 1, 0),
         room("E too large", 1, (1 << 22) + 1),
         room("both beyond all memory", u32::MAX, u32::MAX),
-        lent_to_restrict("C2", "1 1 1 0 0 0 1 0 0", 0, 0, 0, [2, 53, 2, 0]),
-        lent_to_restrict("output shorter", game, 8, 1, 1, [2, 2, 0, 0]),
-        lent_to_restrict("output longer", game, 10, 1, 1, [2, 2, 0, 0]),
-        lent_to_restrict("map shorter", game, 9, 0, 1, [2, 2, 0, 0]),
-        lent_to_restrict("map longer", game, 9, 2, 1, [2, 2, 0, 0]),
-        lent_to_restrict("work shorter", game, 9, 1, 0, [2, 2, 0, 0]),
-        lent_to_restrict("work longer", game, 9, 1, 2, [2, 2, 0, 0]),
-        lent_to_restrict("all right", game, 9, 1, 1, [0, 1, 1, 1]),
+        lent_to_restrict("C2", "1 1 1  0  0  0  0  0 1  0  0", 0, 0, 0, [2, 53, 2, 0]),
+        lent_to_restrict("output shorter", game, 10, 1, 1, [2, 2, 0, 0]),
+        lent_to_restrict("output longer", game, 12, 1, 1, [2, 2, 0, 0]),
+        lent_to_restrict("output without room for states and items", game, 9, 1, 1, [2, 2, 0, 0]),
+        lent_to_restrict("map shorter", game, 11, 0, 1, [2, 2, 0, 0]),
+        lent_to_restrict("map longer", game, 11, 2, 1, [2, 2, 0, 0]),
+        lent_to_restrict("work shorter", game, 11, 1, 0, [2, 2, 0, 0]),
+        lent_to_restrict("work longer", game, 11, 1, 2, [2, 2, 0, 0]),
+        lent_to_restrict("all right", game, 11, 1, 1, [0, 1, 1, 1]),
     ]
 }
 
@@ -353,7 +408,7 @@ pub fn at_limits() -> Vec<Case> {
         let t = 262_144 + more;
         let transitions = [vec![1, t, 0, t], vec![0; 2 * t as usize]].concat();
         let diamond = Model { system: transitions, ..model(LOOP, "2 5 0 0 0") };
-        let counted = words(&format!("3 3 0  1 0 1  1 0 0  0 1 2 3  1 2 2  0 {t} 0"));
+        let counted = words(&format!("3 3 0  1 0 1  1 0 0  0 0 0  0 1 2  0 1 2 3  1 2 2  0 {t} 0"));
         let all_to_one = run("transitions", diamond, past(over, 22, [0, 3, 3, 3]));
         cases.push(Case { game: (!over).then_some(counted), ..all_to_one });
         let m = 1_024 + more;
@@ -366,9 +421,9 @@ pub fn at_limits() -> Vec<Case> {
         let (v, e) = ((1 << 20) + more, (1 << 22) + more);
         cases.push(case("vertices", Call::build(base(), v, 9, 9), past(over, 1, [0, 2, 2, 2])));
         cases.push(case("edges", Call::build(base(), 9, e, 9), past(over, 1, [0, 2, 2, 2])));
-        let lonely = [vec![v, 0, v - 1], vec![0; 3 * v as usize + 1]].concat();
+        let lonely = [vec![v, 0, v - 1], vec![0; 5 * v as usize + 1]].concat();
         cases.push(case("vertices of a game", Call::restrict(lonely), past(over, 51, [0, 1, 1, 0])));
-        let loops = [vec![1, e, 0, 0, 0, 0, e], vec![0; e as usize], vec![u32::MAX; e as usize]].concat();
+        let loops = [vec![1, e, 0, 0, 0, 0, 0, 0, e], vec![0; e as usize], vec![u32::MAX; e as usize]].concat();
         cases.push(case("edges of a game", Call::restrict(loops), past(over, 51, [0, 1, 1, e])));
     }
     cases

@@ -1,7 +1,7 @@
 //! Damaged calls: words, lengths, room and lent slices changed at random, once or several times.
 use super::call::Call;
-use super::generate::Random;
-use crate::Model;
+use super::generate::{Random, any_word};
+use crate::{Layout, Model};
 
 /// Numbers next to the limits of some size, and next to nothing.
 const NUMBERS: [u32; 22] = [
@@ -81,10 +81,23 @@ fn damage_states(random: &mut Random, words: &mut Vec<u32>) {
     words[0] = s as u32;
 }
 
-/// A game as it was before edges had counts.
-fn drop_counts(game: &mut Vec<u32>) {
-    let counts = game.get(1).map_or(0, |&edges| edges as usize);
-    game.truncate(game.len().saturating_sub(counts));
+/// A game as it was before vertices had states and items, or before edges had counts, too.
+fn drop_columns(random: &mut Random, game: &mut Vec<u32>) {
+    let Some(&[n, m]) = game.first_chunk() else { return };
+    let layout = Layout { vertices: n as usize, edges: m as usize };
+    let [states, offsets] = [layout.states().start, layout.offsets().start].map(|at| at.min(game.len()));
+    game.drain(states..offsets);
+    if random.chance(50) {
+        game.truncate(game.len().saturating_sub(layout.edges));
+    }
+}
+
+/// Any words in the place of states and items: none is wrong.
+fn damage_places(random: &mut Random, game: &mut [u32]) {
+    let Some(&[n, m]) = game.first_chunk() else { return };
+    let layout = Layout { vertices: n as usize, edges: m as usize };
+    let both = game.get_mut(layout.states().start..layout.offsets().start).unwrap_or_default();
+    both.iter_mut().for_each(|word| *word = any_word(random));
 }
 
 fn damage_lent(random: &mut Random, length: &mut usize) {
@@ -117,7 +130,9 @@ pub fn damage(random: &mut Random, call: &mut Call) {
                 let length = one_of(random, [out, map, work]);
                 damage_lent(random, length)
             } else if random.chance(4) {
-                drop_counts(game)
+                drop_columns(random, game)
+            } else if random.chance(4) {
+                damage_places(random, game)
             } else {
                 let sizes: Vec<u32> = game.iter().take(2).copied().collect();
                 damage_words(random, game, &sizes)

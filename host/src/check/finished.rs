@@ -1,8 +1,10 @@
-//! What a run must answer with any room and step limit, read off the finished game and its counts alone.
+//! What a run must answer with any room and step limit, read off the finished game alone.
 //!
 //! The walk numbers vertices as it meets them and settles the one numbered last, so the finished game's numbers and
 //! edges say in which order it was made. This is a second way to cut games, independent of the two implementations;
-//! a vertex that is settled has the counts that it has in the finished game.
+//! a vertex that is settled has the counts that it has in the finished game, and every one its state and item.
+use crate::Layout;
+use std::ops::Range;
 
 /// The answer's words, and the game's without those past its end.
 #[derive(Clone, Debug, PartialEq, Eq)]
@@ -11,15 +13,9 @@ pub struct Expected {
     pub game: Vec<u32>,
 }
 
-/// What a vertex's edges have in the column that begins at a word: the targets' or the counts'.
-fn column(game: &[u32], vertex: usize, begin: usize) -> &[u32] {
-    let n = game[0] as usize;
-    let (from, to) = (game[3 + 2 * n + vertex] as usize, game[4 + 2 * n + vertex] as usize);
-    &game[begin + from..begin + to]
-}
-
 fn targets(game: &[u32], vertex: usize) -> &[u32] {
-    column(game, vertex, 4 + 3 * game[0] as usize)
+    let layout = Layout::of(game);
+    &game[layout.targets()][layout.edges_of(game, vertex)]
 }
 
 /// `None` if the game's numbers are not those of a walk from vertex 0.
@@ -54,19 +50,26 @@ pub fn expected(game: &[u32], vertices: u32, edges: u32, limit: u32) -> Option<E
     Some(Expected { answer, game: known_part(game, known, &settled) })
 }
 
-/// The game on the first `known` vertices, those not settled with owner 2 and without edges.
+/// The game on the first `known` vertices, those not settled with owner 2, priority 0 and without edges. What they
+/// stand for is known of all of them.
 fn known_part(game: &[u32], known: usize, settled: &[bool]) -> Vec<u32> {
-    let (n, m) = (game[0] as usize, game[1] as usize);
-    let shown = |vertex: usize, from: usize, waiting: u32| if settled[vertex] { game[from + vertex] } else { waiting };
+    let layout = Layout::of(game);
+    let shown = |column: Range<usize>, waiting: u32| {
+        let words = game[column].iter().zip(settled).take(known);
+        words.map(move |(&word, &settled)| if settled { word } else { waiting })
+    };
     let mut words = vec![known as u32, 0, 0];
-    words.extend((0..known).map(|vertex| shown(vertex, 3, 2)));
-    words.extend((0..known).map(|vertex| shown(vertex, 3 + n, 0)));
+    words.extend(shown(layout.owners(), 2));
+    words.extend(shown(layout.priorities(), 0));
+    for column in [layout.states(), layout.items()] {
+        words.extend(&game[column][..known]);
+    }
     let (mut edges, mut counts): (Vec<u32>, Vec<u32>) = (Vec::new(), Vec::new());
     for (vertex, settled) in settled[..known].iter().enumerate() {
         words.push(edges.len() as u32);
         if *settled {
-            edges.extend(column(game, vertex, 4 + 3 * n));
-            counts.extend(column(game, vertex, 4 + 3 * n + m));
+            edges.extend(targets(game, vertex));
+            counts.extend(&game[layout.counts()][layout.edges_of(game, vertex)]);
         }
     }
     words.push(edges.len() as u32);

@@ -367,7 +367,8 @@ fn flatten(tree: &Tree, nodes: &mut Vec<(u32, u32)>, places: &mut Vec<(u32, u32)
     }
 }
 
-/// A game for the restriction; it may have vertices without edges, repeated edges, any initial vertex and any counts.
+/// A game for the restriction; it may have vertices without edges, repeated edges, any initial vertex, and any states,
+/// items and counts.
 pub fn random_game(random: &mut Random, most: usize) -> Vec<u32> {
     let some = random.within(1, most);
     let n = random.pick(&[1, 2, 3, some]);
@@ -378,6 +379,7 @@ pub fn random_game(random: &mut Random, most: usize) -> Vec<u32> {
     let mut words = vec![n as u32, m as u32, random.pick(&[0, any])];
     words.extend((0..n).map(|_| random.below(2) as u32));
     words.extend((0..n).map(|_| random.within(0, top) as u32));
+    words.extend((0..2 * n).map(|_| any_word(random)));
     let mut offset = 0;
     words.push(0);
     words.extend(degrees.iter().map(|&degree| {
@@ -385,12 +387,12 @@ pub fn random_game(random: &mut Random, most: usize) -> Vec<u32> {
         offset
     }));
     words.extend((0..m).map(|_| random.below(n) as u32));
-    words.extend((0..m).map(|_| count(random)));
+    words.extend((0..m).map(|_| any_word(random)));
     words
 }
 
-/// The count of an edge: no number is wrong.
-pub fn count(random: &mut Random) -> u32 {
+/// A state, an item or a count: no number is wrong.
+pub fn any_word(random: &mut Random) -> u32 {
     let any = random.word() as u32;
     random.pick(&[0, 1, 2, any, u32::MAX])
 }

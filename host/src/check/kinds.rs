@@ -1,7 +1,7 @@
 //! The kinds of place at which refusals arise, and which kind a refused call shows.
 use super::call::{Call, PLAIN, perform};
 use super::places::base;
-use crate::{Model, game_words};
+use crate::{Layout, Model, game_words};
 
 /// Every kind of place by number.
 pub const KINDS: [(u32, &[&str]); 24] = [
@@ -121,7 +121,7 @@ pub const KINDS: [(u32, &[&str]); 24] = [
             "two words",
             "too few for n and m",
             "too many for n and m",
-            "4 + 3n + 2m wraps to the length",
+            "4 + 5n + 2m wraps to the length",
             "no vertex",
             "n too large",
             "m too large",
@@ -217,10 +217,10 @@ pub fn kind(call: &Call, number: u32, place: u32) -> String {
         (_, 21) => length(&words, 3, 3, &[(0, 1), (1, 2)], "S and T"),
         (_, 31) => length(&words, 1, 1, &[(0, 2)], "m"),
         (_, 41) => length(&words, 1, 1, &[(0, 2)], "n"),
-        (_, 51) if words.len() >= 3 && total(&words, 4, &[(0, 3), (1, 2)]) == words.len() as u64 => {
+        (_, 51) if words.len() >= 3 && total(&words, 4, &[(0, 5), (1, 2)]) == words.len() as u64 => {
             size(number, &words)
         }
-        (_, 51) => length(&words, 3, 4, &[(0, 3), (1, 2)], "n and m"),
+        (_, 51) => length(&words, 3, 4, &[(0, 5), (1, 2)], "n and m"),
         (_, 12 | 22 | 32 | 42) => size(number, &words),
         (_, 13) => label_number(&words, at),
         (_, 23) => "initial state is S or more".to_string(),
@@ -280,7 +280,7 @@ pub(super) fn length(words: &[u32], least: usize, head: u64, sizes: &[(usize, u6
     }
     let right = total(words, head, sizes);
     if right as u32 as usize == found {
-        let sum = ["2 + 2A", "3 + S + 2T", "1 + 2m", "1 + 2n", "1 + 2r", "4 + 3n + 2m"];
+        let sum = ["2 + 2A", "3 + S + 2T", "1 + 2m", "1 + 2n", "1 + 2r", "4 + 5n + 2m"];
         let at = ["A", "S and T", "m", "n", "r", "n and m"].iter().position(|name| *name == of).unwrap_or(0);
         return format!("{} wraps to the length", sum[at]);
     }
@@ -392,11 +392,10 @@ fn reference(kinds: &[u32], to: usize, node: usize) -> String {
 }
 
 fn offset(words: &[u32], at: usize) -> String {
-    let n = words[0] as usize;
-    let (first, last) = (3 + 2 * n, 3 + 3 * n);
+    let offsets = Layout::of(words).offsets();
     match at {
-        _ if at == first => "first offset is not 0",
-        _ if at < last => "a middle offset falls",
+        _ if at == offsets.start => "first offset is not 0",
+        _ if at < offsets.end - 1 => "a middle offset falls",
         _ if words[at] < words[at - 1] => "the last offset falls",
         _ if words[at] < words[1] => "the last is below m",
         _ => "the last is above m",
@@ -405,12 +404,12 @@ fn offset(words: &[u32], at: usize) -> String {
 }
 
 fn game_word(words: &[u32], at: usize) -> String {
-    let n = words[0] as usize;
+    let layout = Layout::of(words);
     match at {
         2 => "initial vertex",
-        3 => "owner of vertex 0",
-        _ if at < 3 + n => "owner of a later vertex",
-        _ if at == 4 + 3 * n => "target of edge 0",
+        _ if at == layout.owners().start => "owner of vertex 0",
+        _ if layout.owners().contains(&at) => "owner of a later vertex",
+        _ if at == layout.targets().start => "target of edge 0",
         _ => "target of a later edge",
     }
     .to_string()
@@ -429,11 +428,10 @@ fn step(call: &Call) -> String {
     let after = run(k);
     let cut = k == *limit && after.answer[0] == 1;
     let (before, new) = (run(k - 1).game, &after.game);
-    let n = new[0] as usize;
-    let owner = |game: &[u32], v: usize| if v < game[0] as usize { game[3 + v] } else { 2 };
-    let settled = (0..n).find(|&v| owner(new, v) != 2 && owner(&before, v) == 2).unwrap_or(0);
-    let from = new[3 + 2 * n + settled] as usize;
-    let looped = new[4 + 3 * n + from] as usize == settled;
+    let owner = |game: &[u32], v: usize| game[Layout::of(game).owners()].get(v).copied().unwrap_or(2);
+    let layout = Layout::of(new);
+    let settled = (0..layout.vertices).find(|&v| owner(new, v) != 2 && owner(&before, v) == 2).unwrap_or(0);
+    let looped = new[layout.targets()][layout.edges_of(new, settled).start] as usize == settled;
     let what = match over(k) {
         (true, true) => return "vertices and edges in one step".to_string(),
         (true, false) if k == 1 => return "vertices in step 1".to_string(),

@@ -121,7 +121,7 @@ fn matches(model: &Model, multisets: &[Vec<u32>], node: usize, label: usize) -> 
 }
 
 /// The actions of each label in order of their numbers, repeats included.
-fn multisets(model: &Model) -> Vec<Vec<u32>> {
+pub(super) fn multisets(model: &Model) -> Vec<Vec<u32>> {
     let mut multisets = vec![Vec::new(); model.labels[0] as usize];
     let (labels, actions) = model.labels[2..].split_at(model.labels[1] as usize);
     labels.iter().zip(actions).for_each(|(&label, &action)| multisets[label as usize].push(action));

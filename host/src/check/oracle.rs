@@ -1,8 +1,9 @@
-//! Talks to the oracle, the Rust original behind the same words: many requests to a process. It knows no counts: they
-//! are taken off a game that it is asked about, and its games end with their targets.
+//! Talks to the oracle, the Rust original behind the same words: many requests to a process. It knows no states, items
+//! and counts: they are taken out of a game that it is asked about, and its own games are without them.
 use super::expansion::call::Input;
-use crate::{Model, bytes_of, words_of};
+use crate::{Layout, Model, bytes_of, words_of};
 use std::io::{self, Error, Read, Write};
+use std::ops::Range;
 use std::path::PathBuf;
 use std::process::{Command, Stdio};
 
@@ -68,8 +69,8 @@ fn encode(request: &Request) -> Vec<u8> {
         // Request 1: the actions of a formula's multi-actions are sorted first, so that they are alike by multiset.
         Request::Translate(model) => [bytes_of(&[1]), model.to_bytes()].concat(),
         Request::Restrict(game) => {
-            let game = without_counts(game);
-            [bytes_of(&[2, game.len() as u32]), bytes_of(game)].concat()
+            let game = as_original(game);
+            [bytes_of(&[2, game.len() as u32]), bytes_of(&game)].concat()
         }
         // Request 5: the original's wrapper, which expands regular formulas; multi-actions stay as they are listed.
         Request::TranslateRegular(Input { labels, actions, regulars, formula }, system) => {
@@ -80,10 +81,24 @@ fn encode(request: &Request) -> Vec<u8> {
     }
 }
 
-/// A game without the last m words, its counts. Words that have the wrong length with them have it without them, too.
-fn without_counts(game: &[u32]) -> &[u32] {
-    let counts = game.get(1).map_or(0, |&edges| edges as usize);
-    &game[..game.len().saturating_sub(counts)]
+/// How many words a game has that the original writes.
+pub fn original_words(vertices: usize, edges: usize) -> usize {
+    4 + 3 * vertices + edges
+}
+
+/// The numbers of a vertex's edges in a game that the original writes: the offsets stand behind the priorities.
+pub fn original_edges(game: &[u32], vertex: usize) -> Range<usize> {
+    let at = Layout::of(game).priorities().end + vertex;
+    game[at] as usize..game[at + 1] as usize
+}
+
+/// A game as the original writes it. Words that have a wrong length have a wrong one then, too.
+pub fn as_original(game: &[u32]) -> Vec<u32> {
+    let Some(&[n, m]) = game.first_chunk() else { return game.to_vec() };
+    let layout = Layout { vertices: n as usize, edges: m as usize };
+    let with_targets = game.len().saturating_sub(layout.edges);
+    let [states, offsets] = [layout.states().start, layout.offsets().start].map(|at| at.min(with_targets));
+    [&game[..states], &game[offsets..with_targets]].concat()
 }
 
 fn decode(mut words: &[u32]) -> Vec<Reply> {

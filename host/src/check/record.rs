@@ -14,7 +14,7 @@
 //! | 12 to 75 | the slices one after the other, zeros past them | the same |
 //!
 //! The slices have at most 64 words in all, V is at most 16 and E at most 32, and no lent slice is longer than
-//! 4 + 3 * 16 + 2 * 32 + 1 = 117 (game or output), 65 (map) or 8 * 16 + 2 * 32 + 1 = 193 words (work): the lengths that
+//! 4 + 5 * 16 + 2 * 32 + 1 = 149 (game or output), 65 (map) or 8 * 16 + 2 * 32 + 1 = 193 words (work): the lengths that
 //! V and E ask for, and one more.
 //!
 //! A line has the answer as the thin program prints it, `|`, the words of the game slice (or the output), `|`, the

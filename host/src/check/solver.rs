@@ -2,7 +2,7 @@
 //!
 //! The largest priority that a play sees for ever decides: Even wins if it is even, Odd if it is odd. So a priority's
 //! parity is the player that it is good for, and players are numbers as in the owners: 0 is Even, 1 is Odd.
-use crate::game_words;
+use crate::Layout;
 
 pub const EVEN: u32 = 0;
 pub const ODD: u32 = 1;
@@ -18,13 +18,16 @@ pub struct Arena {
 impl Arena {
     /// From a game's words, without words past its end. A game that is cut has no winner, so it is not taken.
     pub fn of_words(game: &[u32]) -> Result<Arena, String> {
-        let &[n, m, ..] = game else { return Err(format!("{} words are no game", game.len())) };
-        let (n, m) = (n as usize, m as usize);
-        if n == 0 || game.len() != game_words(n, m) {
+        if game.len() < 2 {
+            return Err(format!("{} words are no game", game.len()));
+        }
+        let layout = Layout::of(game);
+        let Layout { vertices: n, edges: m } = layout;
+        if n == 0 || game.len() != layout.words() {
             return Err(format!("{} words are no game of {n} vertices and {m} edges", game.len()));
         }
-        let (owners, priorities) = (game[3..3 + n].to_vec(), game[3 + n..3 + 2 * n].to_vec());
-        let (offsets, targets) = game[3 + 2 * n..4 + 3 * n + m].split_at(n + 1);
+        let [owners, priorities] = [layout.owners(), layout.priorities()].map(|column| game[column].to_vec());
+        let [offsets, targets] = [layout.offsets(), layout.targets()].map(|column| &game[column]);
         let mut arena = Arena { owners, priorities, successors: vec![vec![]; n], predecessors: vec![vec![]; n] };
         for vertex in 0..n {
             let edges = targets.get(offsets[vertex] as usize..offsets[vertex + 1] as usize).unwrap_or(&[]);
@@ -98,7 +101,7 @@ mod tests {
 
     fn arena(owners: &[u32], priorities: &[u32], successors: &[Vec<usize>]) -> Arena {
         let mut words = vec![owners.len() as u32, successors.iter().map(Vec::len).sum::<usize>() as u32, 0];
-        words.extend([owners, priorities].concat());
+        words.extend([owners, priorities, &vec![0; 2 * owners.len()]].concat());
         let mut offset = 0;
         words.push(0);
         words.extend(successors.iter().map(|targets| {
@@ -106,7 +109,7 @@ mod tests {
             offset
         }));
         words.extend(successors.iter().flatten().map(|&target| target as u32));
-        words.resize(game_words(words[0] as usize, words[1] as usize), 0);
+        words.resize(Layout::of(&words).words(), 0);
         Arena::of_words(&words).expect("a game")
     }
 
@@ -185,12 +188,12 @@ mod tests {
     fn words_that_are_not_solved() {
         let fault = |words: &[u32]| Arena::of_words(words).err().unwrap_or_default();
         assert_eq!(fault(&[]), "0 words are no game");
-        assert_eq!(fault(&[1, 1, 0, 0, 0, 0, 1, 0]), "8 words are no game of 1 vertices and 1 edges");
+        assert_eq!(fault(&[1, 1, 0, 0, 0, 0, 1, 0, 0]), "9 words are no game of 1 vertices and 1 edges");
         let vertex = "vertex 0 has no owner, no edge, or an edge that leads nowhere";
         // Waiting as in a cut game, no edge, an edge to vertex 1, offsets beyond the targets.
-        assert_eq!(fault(&[1, 1, 0, 2, 0, 0, 1, 0, 0]), vertex);
-        assert_eq!(fault(&[1, 0, 0, 0, 0, 0, 0]), vertex);
-        assert_eq!(fault(&[1, 1, 0, 0, 0, 0, 1, 1, 0]), vertex);
-        assert_eq!(fault(&[1, 1, 0, 0, 0, 9, 1, 0, 0]), vertex);
+        assert_eq!(fault(&[1, 1, 0, 2, 0, 0, 0, 0, 1, 0, 0]), vertex);
+        assert_eq!(fault(&[1, 0, 0, 0, 0, 0, 0, 0, 0]), vertex);
+        assert_eq!(fault(&[1, 1, 0, 0, 0, 0, 0, 0, 1, 1, 0]), vertex);
+        assert_eq!(fault(&[1, 1, 0, 0, 0, 0, 0, 9, 1, 0, 0]), vertex);
     }
 }

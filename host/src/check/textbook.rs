@@ -70,6 +70,8 @@ fn words(vertices: &[Vertex], initial: u32) -> Vec<u32> {
     let mut words = vec![vertices.len() as u32, edges as u32, initial];
     words.extend(vertices.iter().map(|vertex| vertex.owner));
     words.extend(vertices.iter().map(|vertex| vertex.priority));
+    // Nobody asks here which state and item a vertex has.
+    words.extend(vec![0; 2 * vertices.len()]);
     let mut offset = 0;
     words.push(0);
     words.extend(vertices.iter().map(|vertex| {

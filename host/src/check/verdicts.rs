@@ -164,6 +164,7 @@ fn tree_ends(kinds: &[u32], operands: &[u32]) -> Vec<usize> {
 #[cfg(test)]
 mod tests {
     use super::*;
+    use crate::Layout;
 
     #[test]
     fn the_known_false_alarm_is_one() {
@@ -195,9 +196,9 @@ mod tests {
 
     /// Turns the order of the priorities round and keeps their parities, so that the smallest decides.
     fn turned(game: &[u32]) -> Vec<u32> {
-        let n = game[0] as usize;
         let mut turned = game.to_vec();
-        turned[3 + n..3 + 2 * n].iter_mut().for_each(|priority| *priority = 4_096 - *priority / 2 * 2 + *priority % 2);
+        let priorities = &mut turned[Layout::of(game).priorities()];
+        priorities.iter_mut().for_each(|priority| *priority = 4_096 - *priority / 2 * 2 + *priority % 2);
         turned
     }
 

@@ -2,7 +2,7 @@
 use super::input::{Input, STREAM, name, open};
 use super::options::Given;
 use super::{CUT, DONE, Failure, NO_WORDS, REFUSED, no_room, output, status_of, told};
-use crate::explain::lacks_counts;
+use crate::explain::lacking;
 use crate::regular::model_and_formulas;
 use crate::{Answer, Game, Player, Room};
 use std::io::{self, BufWriter, Write};
@@ -11,7 +11,8 @@ use std::io::{self, BufWriter, Write};
 const SMALL: Room = Room { vertices: 1_000, edges: 4_000 };
 
 const HEAD: &str = "\
-// Diamonds are Even's vertices, boxes Odd's, dashed ones still wait; inside is the priority, beside the vertex.
+// Diamonds are Even's vertices, boxes Odd's, dashed ones still wait; inside is the priority. Beside it, 5: s1 i3 means
+// vertex 5, which stands for state 1 and item 3; hingrezh show lists the items.
 // The largest priority seen for ever decides, an even one for Even; the formula holds if Even wins vertex 0.
 // A number at an edge says how many transitions are behind it, where there are several.
 digraph game {
@@ -59,7 +60,7 @@ fn game_of(given: &Given, room: Room) -> Result<(Vec<u32>, u8), Failure> {
             Ok((words, status))
         }
         (_, Ok((model, formulas))) => built(Input::new(model, formulas, &given.files)?, given, room),
-        (Err(fault), _) if fault.number == 51 && !lacks_counts(&words) => {
+        (Err(fault), _) if fault.number == 51 && lacking(&words).is_none() => {
             let message = "neither the words of a game nor four lengths (five with regular formulas) and their words";
             Err(Failure::new(NO_WORDS, format!("{}: {message}", name(file))))
         }
@@ -76,13 +77,19 @@ fn built(input: Input, given: &Given, room: Room) -> Result<(Vec<u32>, u8), Fail
 }
 
 fn draw(out: &mut impl Write, game: Game) -> io::Result<()> {
+    let lacking = game.lacks_states();
+    // The vertex and what it stands for, if the game says so.
+    let beside = |vertex: u32| match lacking {
+        true => vertex.to_string(),
+        false => format!("\"{vertex}: s{} i{}\"", game.state(vertex), game.item(vertex)),
+    };
     writeln!(out, "{HEAD}\n  start -> {};", game.initial())?;
     for vertex in 0..game.vertices() {
-        let priority = game.priority(vertex);
+        let (priority, beside) = (game.priority(vertex), beside(vertex));
         match game.owner(vertex) {
-            Some(Player::Even) => writeln!(out, "  {vertex} [shape=diamond, label={priority}, xlabel={vertex}];")?,
-            Some(Player::Odd) => writeln!(out, "  {vertex} [shape=box, label={priority}, xlabel={vertex}];")?,
-            None => writeln!(out, "  {vertex} [shape=ellipse, style=dashed, label=\"?\", xlabel={vertex}];")?,
+            Some(Player::Even) => writeln!(out, "  {vertex} [shape=diamond, label={priority}, xlabel={beside}];")?,
+            Some(Player::Odd) => writeln!(out, "  {vertex} [shape=box, label={priority}, xlabel={beside}];")?,
+            None => writeln!(out, "  {vertex} [shape=ellipse, style=dashed, label=\"?\", xlabel={beside}];")?,
         }
         for (target, &count) in game.successors(vertex).iter().zip(game.counts(vertex)) {
             match count {

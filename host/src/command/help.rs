@@ -9,6 +9,7 @@ usage: hingrezh build INPUT [--vertices N] [--edges N] [--limit N] [--format F] 
        hingrezh restrict GAME [--map] [--format F] [--counts] [-o OUT]
        hingrezh expand INPUT [-o OUT]
        hingrezh show INPUT [--all]
+       hingrezh where GAME VERTEX [--model MODEL --formula FORMULA]
        hingrezh dot GAME|INPUT [--vertices N] [--edges N] [--limit N] [-o OUT]
        hingrezh COMMAND --help, hingrezh --version
 
@@ -18,6 +19,7 @@ read      a game from PGSolver text, as words, lines or the text that build writ
 restrict  the part of a game that its initial vertex reaches
 expand    a formula without regular formulas in the place of one with them
 show      labels, system, formula and items as text
+where     what a vertex of a game stands for: its state and its part of the formula
 dot       a small game as a Graphviz graph
 
 INPUT is one file of little-endian 32-bit words: four lengths, then labels, system, action formulas and formula; or
@@ -52,7 +54,7 @@ standard output the answer goes to standard error.
 
 A box or diamond has one edge to a state however many matching transitions lead there. --counts says how many: `2*3` is
 an edge to vertex 2 with three transitions behind it, `2*1` one with a single transition; other edges are written as
-without the option. Words always have the counts, PGSolver text has none.
+without the option. Words always have the counts, and state and item of each vertex; PGSolver text has neither.
 
 PGSolver text: `parity 2;` with the highest vertex, then for each vertex a line `2 0 1 0,1;` with its number, priority,
 owner and successors, equal ones once. A cut game has no such text: nothing is written, and the exit status is 3.
@@ -65,8 +67,9 @@ A refusal writes nothing and leaves an old OUT as it is. exit status: 0 done, 2 
 pub const READ: &str = "\
 usage: hingrezh read TEXT [--vertices N] [--edges N] [--format F] [-o OUT]
 
-Reads a game from PGSolver text and gives its words, as restrict and dot take them. The game begins at vertex 0, and its
-edges have the count 0: how many transitions are behind them is not in the text.
+Reads a game from PGSolver text and gives its words, as restrict and dot take them. The game begins at vertex 0, its
+vertices have state 0 and item 0, and its edges the count 0: what a vertex stands for and how many transitions are
+behind an edge is not in the text.
 
 TEXT begins with the line `parity 2;`, which has the highest vertex. Then there is a line for each vertex, in any order,
 `2 0 1 0,1;` or `2 0 1 0,1 \"a name\";`: number, priority, owner (0 Even, 1 Odd), successors, of which equal ones count
@@ -85,8 +88,8 @@ exit status: 0 done, 2 refused.";
 pub const RESTRICT: &str = "\
 usage: hingrezh restrict GAME [--map] [--format F] [--counts] [-o OUT]
 
-The part of a game that its initial vertex reaches, numbered breadth first. Edges keep their counts. GAME holds a game's
-words, as build, night and read write them; a cut game is refused.
+The part of a game that its initial vertex reaches, numbered breadth first. Vertices keep their states and items, edges
+their counts. GAME holds a game's words, as build, night and read write them; a cut game is refused.
 
 --map       adds a line with the new number of each old vertex (4294967295: not reached)
 --format F  pgsolver, words or lines (see `hingrezh build --help`); by default words where -o is given, otherwise lines.
@@ -166,7 +169,8 @@ usage: hingrezh show INPUT [--all]
 
 Labels, system, formula and items as text. Action 7 is a7, a label's actions are joined by bars, tau has none; the
 variable of equation 1 is X1; mu is a least fixpoint, nu a greatest, [a] a box, <a> a diamond. Items are what a vertex
-pairs with a state: equations first, then the subformulas of their bodies, alike ones once.
+pairs with a state, by the numbers that a game's words show (`hingrezh where`): equations first, then the subformulas of
+their bodies, alike ones once.
 
 A formula over regular formulas is shown as it was written, where a point is a sequence, + between two a choice, * or +
 behind something its repetition; then the regular formulas, each by its first node; then the expanded formula, whose
@@ -175,13 +179,35 @@ variables are numbered anew, and its items.
 --all  lists every label, transition and item, up to 4000 characters of each; otherwise the first 20, up to 100
        characters. The formula is shown whole, in it a label of more than 8 actions by its number, as in label3.";
 
+pub const WHERE: &str = "\
+usage: hingrezh where GAME VERTEX [--model MODEL --formula FORMULA]
+
+What a vertex of a game stands for. VERTEX is its number, GAME holds a game's words, as `hingrezh build INPUT -o GAME`
+and a night with --format words write them.
+
+Two lines: the numbers of its state and its item; owner (0 Even, 1 Odd, 2 still waiting), priority and number of edges.
+With the model and the formula that the game was built of also the item as `hingrezh show` writes it, an equation or a
+subformula, of a formula over regular formulas one of the expanded formula; then the state's transitions, the first 20.
+
+--model MODEL      two lengths, then labels and system
+--formula FORMULA  two lengths, then actions and formula; or three, with regular formulas
+
+With both the game must fit them: vertex 0 has the initial state and item 0, every state is one of the model's, every
+item one of the formula's, with the vertex's owner. A game of another formula of the same form is not found out. A game
+that was read from PGSolver text has state 0 and item 0 everywhere, which is said, and fits no model. A restricted game
+has the states and items of the game that it was made of.
+
+exit status: 0 done; 2 refused: no game, no such vertex, or no game of this model and formula; 3 the game is cut (what
+is known is written all the same).";
+
 pub const DOT: &str = "\
 usage: hingrezh dot GAME|INPUT [--vertices N] [--edges N] [--limit N] [-o OUT]
 
-A game as a Graphviz graph: diamonds are Even's vertices, boxes Odd's; inside is the priority, beside the vertex's
-number. A vertex that still waits in a cut game is dashed. An edge with several transitions behind it has their number
-beside it. GAME holds a game's words (`hingrezh read` makes them of PGSolver text); an INPUT, as build takes it, is
-built first.
+A game as a Graphviz graph: diamonds are Even's vertices, boxes Odd's; inside is the priority, beside it stand the
+vertex's number, its state and its item, as in 5: s1 i3 (see `hingrezh where --help`); of a game that was read from
+PGSolver text the number alone. A vertex that still waits in a cut game is dashed. An edge with several transitions
+behind it has their number beside it. GAME holds a game's words (`hingrezh read` makes them of PGSolver text); an INPUT,
+as build takes it, is built first.
 
 --vertices N, --edges N  no larger game is drawn; by default 1000 and 4000
 --limit N                at most N steps for an INPUT

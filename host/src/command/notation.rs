@@ -2,7 +2,7 @@
 //! action is `a` with its number, the actions of a label are joined by bars. In a regular formula, `(a1 + a2)* . a3+`,
 //! a point is a sequence, `+` between two a choice, a star or a `+` behind something its repetition.
 use crate::nodes::Nodes;
-use crate::{Formulas, Model};
+use crate::{Formulas, Model, Player};
 use std::collections::HashMap;
 use std::fmt::{self, Write};
 
@@ -76,7 +76,8 @@ impl<'a> Notation<'a> {
         match *item {
             Item::Equation(None) => {
                 out.write_str("mu X0 = ")?;
-                self.state(out, 0, LOOSE, true)
+                self.state(out, 0, LOOSE, true)?;
+                out.write_str("  (placeholder: the formula is no fixpoint)")
             }
             Item::Equation(Some(node)) => {
                 write!(out, "{} {} = ", self.operator(node), self.variable(node))?;
@@ -211,6 +212,23 @@ impl<'a> Notation<'a> {
             bar = "|";
         }
         Ok(())
+    }
+
+    /// Whose the vertices of an item are: of whoever has to choose or is stuck there; where nothing is to be chosen,
+    /// Odd's, but Even's at a greatest fixpoint.
+    pub fn owner(&self, item: &Item) -> Player {
+        match *item {
+            Item::Equation(Some(node)) if self.formula.kind(node) == 7 => Player::Even,
+            Item::Subformula(node) if matches!(self.formula.kind(node), 1 | 3 | 5) => Player::Even,
+            _ => Player::Odd,
+        }
+    }
+
+    /// A transition, as it leaves its state.
+    pub fn transition(&self, out: &mut dyn Write, source: usize, label: usize, target: u32) -> fmt::Result {
+        write!(out, "{source} -")?;
+        self.label(out, label)?;
+        write!(out, "-> {target}")
     }
 
     /// The items in order: equations, then subformulas by the lowest node that carries them, alike ones once.

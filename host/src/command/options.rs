@@ -21,6 +21,8 @@ pub const FORMAT: Choice = Choice { names: &["--format"], takes_value: true };
 pub const COUNTS: Choice = Choice { names: &["--counts"], takes_value: false };
 pub const MAP: Choice = Choice { names: &["--map"], takes_value: false };
 pub const ALL: Choice = Choice { names: &["--all"], takes_value: false };
+pub const MODEL: Choice = Choice { names: &["--model"], takes_value: true };
+pub const FORMULA: Choice = Choice { names: &["--formula"], takes_value: true };
 const HELP: Choice = Choice { names: &["--help", "-h"], takes_value: false };
 
 /// What was given to a command.
@@ -78,6 +80,15 @@ impl Given {
     pub fn output_apart(&self) -> Result<(), Failure> {
         let output = self.output().filter(|&output| output != STREAM);
         apart(output.map(Path::new), &self.files)
+    }
+
+    /// The files of a model and of a formula, both or neither.
+    pub fn model_and_formula(&self) -> Result<Option<[String; 2]>, Failure> {
+        match (self.value(&MODEL), self.value(&FORMULA)) {
+            (Some(model), Some(formula)) => Ok(Some([model.to_string(), formula.to_string()])),
+            (None, None) => Ok(None),
+            _ => Err(usage("--model and --formula are wanted both, or neither".to_string())),
+        }
     }
 
     fn number(&self, choice: &Choice, otherwise: u32) -> Result<u32, Failure> {

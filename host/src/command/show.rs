@@ -1,10 +1,10 @@
 //! An input as people read it.
 use super::input::Input;
-use super::notation::{Item, LOOSE, Notation};
+use super::notation::{LOOSE, Notation};
 use super::options::{ALL, Given};
 use super::{DONE, Failure};
 use crate::{Model, Room};
-use std::fmt::{self, Write as _};
+use std::fmt;
 use std::io::{self, BufWriter, Write};
 
 /// So many labels, transitions and items are listed, and so many characters of each.
@@ -51,7 +51,7 @@ impl Shown<'_> {
         formula(out, &self.notation)?;
         let items = self.notation.items();
         writeln!(out, "items: {}", items.len())?;
-        self.list(out, 0..items.len(), |text, item| self.item(text, &items[item]))
+        self.list(out, 0..items.len(), |text, item| self.notation.item(text, &items[item]))
     }
 
     fn system(&self, out: &mut impl Write) -> io::Result<()> {
@@ -61,9 +61,8 @@ impl Shown<'_> {
         let (labels, targets) = rest.split_at(transitions);
         let mut sources = degrees.iter().enumerate().flat_map(|(state, &degree)| (0..degree).map(move |_| state));
         self.list(out, 0..transitions, |text, transition| {
-            write!(text, "{} -", sources.next().unwrap_or(0))?;
-            self.notation.label(text, labels[transition] as usize)?;
-            write!(text, "-> {}", targets[transition])
+            let source = sources.next().unwrap_or(0);
+            self.notation.transition(text, source, labels[transition] as usize, targets[transition])
         })
     }
 
@@ -74,14 +73,6 @@ impl Shown<'_> {
         let first = before.regulars();
         writeln!(out, "regular formulas: {}", first.len())?;
         self.list(out, first.into_iter(), |text, node| before.regular(text, node, LOOSE))
-    }
-
-    fn item(&self, text: &mut dyn fmt::Write, item: &Item) -> fmt::Result {
-        self.notation.item(text, item)?;
-        match item {
-            Item::Equation(None) => text.write_str("  (placeholder: the formula is no fixpoint)"),
-            _ => Ok(()),
-        }
     }
 
     /// The first lines, and how many there are beside them.

@@ -1,5 +1,6 @@
 //! The refusals: a function for each group of words, its faults in the order of their numbers.
 use super::{MOST_EDGES, MOST_NODES, MOST_VERTICES, NONE};
+use crate::{Layout, game_words};
 
 /// A refusal's number and place.
 pub type Fault = (u32, u32);
@@ -17,14 +18,10 @@ pub fn sizes(vertices: u32, edges: u32) -> Result<(), Fault> {
     unless((1..=MOST_VERTICES).contains(&vertices) && (1..=MOST_EDGES).contains(&edges), 1, 0)
 }
 
-/// The length of a game slice for a room: a target and a count for each edge.
-pub fn game_words(vertices: u32, edges: u32) -> usize {
-    4 + 3 * vertices as usize + 2 * edges as usize
-}
-
 pub fn room(vertices: u32, edges: u32, game: usize, work: usize) -> Result<(), Fault> {
     sizes(vertices, edges)?;
-    unless(game == game_words(vertices, edges) && work == 8 * vertices as usize + 2 * edges as usize, 2, 0)
+    let (v, e) = (vertices as usize, edges as usize);
+    unless(game == game_words(v, e) && work == 8 * v + 2 * e, 2, 0)
 }
 
 /// Of accepted words: for each node of the formula the one just past its tree.
@@ -170,17 +167,17 @@ fn finished(ends: &[u32]) -> bool {
 }
 
 pub fn game(words: &[u32]) -> Result<(), Fault> {
-    unless(words.len() >= 3 && words.len() as u64 == 4 + 3 * words[0] as u64 + 2 * words[1] as u64, 51, 0)?;
-    unless((1..=MOST_VERTICES).contains(&words[0]) && words[1] <= MOST_EDGES, 51, 0)?;
-    let (n, m) = (words[0] as usize, words[1]);
-    let (first, last) = (3 + 2 * n, 3 + 3 * n);
-    none_of(first..last + 1, 52, |at| {
-        let wrong_start = at == first && words[at] != 0;
-        wrong_start || at > first && words[at] < words[at - 1] || at == last && words[at] != m
+    unless(words.len() >= 3 && words.len() == Layout::of(words).words(), 51, 0)?;
+    let (n, m, layout) = (words[0], words[1], Layout::of(words));
+    unless((1..=MOST_VERTICES).contains(&n) && m <= MOST_EDGES, 51, 0)?;
+    let offsets = layout.offsets();
+    none_of(offsets.clone(), 52, |at| {
+        let wrong_start = at == offsets.start && words[at] != 0;
+        wrong_start || at > offsets.start && words[at] < words[at - 1] || at + 1 == offsets.end && words[at] != m
     })?;
-    unless((words[2] as usize) < n, 53, 2)?;
-    none_of(3..3 + n, 53, |at| words[at] > 1)?;
-    none_of(4 + 3 * n..4 + 3 * n + m as usize, 53, |at| words[at] as usize >= n)
+    unless(words[2] < n, 53, 2)?;
+    none_of(layout.owners(), 53, |at| words[at] > 1)?;
+    none_of(layout.targets(), 53, |at| words[at] >= n)
 }
 
 /// The slices lent to the restriction.

@@ -2,6 +2,7 @@
 //! vectors; then its vertices are judged and put in order.
 use super::checks::{self, Fault, unless};
 use super::{NONE, targets};
+use crate::{Layout, game_words};
 
 /// A number in a text of this size or above counts as this size. What numbers are compared with is smaller: priorities
 /// have 32 bits, and a highest vertex beyond 32 bits is refused, since no text has so many lines.
@@ -56,7 +57,7 @@ fn text_length(game: &[u32], successors: &[u32]) -> usize {
     let n = game[0] as usize;
     let header = "parity ;\n".len() + digits(game[0] - 1);
     let numbers: usize = (0..game[0]).map(digits).sum();
-    let priorities: usize = game[3 + n..3 + 2 * n].iter().map(|&priority| digits(priority)).sum();
+    let priorities: usize = game[Layout::of(game).priorities()].iter().map(|&priority| digits(priority)).sum();
     let lists: usize = successors.iter().map(|&successor| digits(successor)).sum();
     header + numbers + priorities + lists + 6 * n + (successors.len() - n)
 }
@@ -93,7 +94,8 @@ impl Writer<'_> {
 }
 
 fn write_text(game: &[u32], successors: &[u32], ends: &[usize], text: &mut [u8]) {
-    let n = game[0] as usize;
+    let layout = Layout::of(game);
+    let [owners, priorities] = [layout.owners(), layout.priorities()].map(|column| &game[column]);
     let mut writer = Writer { text, at: 0 };
     writer.bytes(b"parity ");
     writer.number(game[0] - 1);
@@ -102,8 +104,8 @@ fn write_text(game: &[u32], successors: &[u32], ends: &[usize], text: &mut [u8])
     for (vertex, &end) in ends.iter().enumerate() {
         writer.number(vertex as u32);
         writer.bytes(b" ");
-        writer.number(game[3 + n + vertex]);
-        writer.bytes(if game[3 + vertex] == 0 { b" 0 " } else { b" 1 " });
+        writer.number(priorities[vertex]);
+        writer.bytes(if owners[vertex] == 0 { b" 0 " } else { b" 1 " });
         writer.list(&successors[from..end]);
         writer.bytes(b";\n");
         from = end;
@@ -115,7 +117,7 @@ fn write_text(game: &[u32], successors: &[u32], ends: &[usize], text: &mut [u8])
 /// The numbers of vertices and edges of the game that was read.
 pub fn read(text: &[u8], vertices: u32, edges: u32, game: &mut [u32]) -> Result<(usize, usize), Fault> {
     checks::sizes(vertices, edges)?;
-    unless(game.len() == checks::game_words(vertices, edges), 2, 0)?;
+    unless(game.len() == game_words(vertices as usize, edges as usize), 2, 0)?;
     let Some(mut parsed) = parse(text) else { return Err((91, 0)) };
     let Some(places) = parsed.places() else { return Err((92, 0)) };
     parsed.drop_repeats();
@@ -270,23 +272,24 @@ impl Parsed {
 
     /// Writes the game; every priority fits a word.
     fn assemble(&self, places: &[u32], game: &mut [u32]) {
-        let (n, m) = (places.len(), self.successors.len());
-        let (words, past) = game.split_at_mut(4 + 3 * n + m);
-        let (columns, written) = words.split_at_mut(4 + 3 * n);
+        let layout = Layout { vertices: places.len(), edges: self.successors.len() };
+        let (owners, priorities) = (layout.owners().start, layout.priorities().start);
+        let (offsets, targets) = (layout.offsets(), layout.targets());
+        game[..3].copy_from_slice(&[places.len() as u32, self.successors.len() as u32, 0]);
+        game[layout.states().start..layout.items().end].fill(0);
         let mut edges = 0;
         for (vertex, &place) in places.iter().enumerate() {
             let place = place as usize;
             let line = &self.lines[place];
             let from = if place == 0 { 0 } else { self.lines[place - 1].end };
             let successors = &self.successors[from..line.end];
-            columns[3 + vertex] = line.owner;
-            columns[3 + n + vertex] = line.priority as u32;
-            columns[3 + 2 * n + vertex] = edges as u32;
-            written[edges..edges + successors.len()].copy_from_slice(successors);
+            game[owners + vertex] = line.owner;
+            game[priorities + vertex] = line.priority as u32;
+            game[offsets.start + vertex] = edges as u32;
+            game[targets.start + edges..][..successors.len()].copy_from_slice(successors);
             edges += successors.len();
         }
-        columns[3 + 3 * n] = m as u32;
-        columns[..3].copy_from_slice(&[n as u32, m as u32, 0]);
-        past.fill(0);
+        game[offsets.end - 1] = edges as u32;
+        game[targets.end..].fill(0);
     }
 }

@@ -4,6 +4,7 @@
 use super::checks::{self, Fault, unless};
 use super::pgsolver::{Reader, Writer, digits};
 use super::targets;
+use crate::{Layout, game_words};
 
 /// So many numbers have a bit.
 const NUMBERS: usize = 1 << 20;
@@ -52,11 +53,10 @@ pub fn write(game: &[u32], text: &mut [u8]) -> Result<usize, Fault> {
 }
 
 fn text_length(game: &[u32], met: &mut Bitmap) -> usize {
-    let n = game[0] as usize;
     let mut length = "parity ;\n".len() + digits(game[0] - 1);
-    for vertex in 0..n {
+    for (vertex, &priority) in game[Layout::of(game).priorities()].iter().enumerate() {
         // Two spaces, an owner, a semicolon and a newline; before each successor there is a space or a comma.
-        length += digits(vertex as u32) + digits(game[3 + n + vertex]) + 5;
+        length += digits(vertex as u32) + digits(priority) + 5;
         let list = targets(game, vertex);
         length += list.iter().map(|&to| if met.meet(to) { digits(to) + 1 } else { 0 }).sum::<usize>();
         met.wipe(list);
@@ -65,16 +65,17 @@ fn text_length(game: &[u32], met: &mut Bitmap) -> usize {
 }
 
 fn write_text(game: &[u32], met: &mut Bitmap, text: &mut [u8]) {
-    let n = game[0] as usize;
+    let layout = Layout::of(game);
+    let [owners, priorities] = [layout.owners(), layout.priorities()].map(|column| &game[column]);
     let mut writer = Writer { text, at: 0 };
     writer.bytes(b"parity ");
     writer.number(game[0] - 1);
     writer.bytes(b";\n");
-    for vertex in 0..n {
+    for vertex in 0..layout.vertices {
         writer.number(vertex as u32);
         writer.bytes(b" ");
-        writer.number(game[3 + n + vertex]);
-        writer.bytes(if game[3 + vertex] == 0 { b" 0" } else { b" 1" });
+        writer.number(priorities[vertex]);
+        writer.bytes(if owners[vertex] == 0 { b" 0" } else { b" 1" });
         let list = targets(game, vertex);
         let mut before = b" ";
         for &to in list {
@@ -94,7 +95,7 @@ fn write_text(game: &[u32], met: &mut Bitmap, text: &mut [u8]) {
 /// The numbers of vertices and edges of the game that was read.
 pub fn read(text: &[u8], vertices: u32, edges: u32, game: &mut [u32]) -> Result<(usize, usize), Fault> {
     checks::sizes(vertices, edges)?;
-    unless(game.len() == checks::game_words(vertices, edges), 2, 0)?;
+    unless(game.len() == game_words(vertices as usize, edges as usize), 2, 0)?;
     let mut met = Bitmap::empty();
     let Some(found) = survey(text, &mut met) else { return Err((91, 0)) };
     unless(found.numbered(&mut met), 92, 0)?;
@@ -103,9 +104,11 @@ pub fn read(text: &[u8], vertices: u32, edges: u32, game: &mut [u32]) -> Result<
     unless(fits && (found.listed <= edges as usize || found.different(&mut met) <= edges as usize), 93, 0)?;
     let n = found.highest as usize + 1;
     let m = if found.ordered { found.in_order(n, &mut met, game) } else { found.by_places(n, &mut met, game) };
-    game[3 + 3 * n] = m as u32;
+    let layout = Layout { vertices: n, edges: m };
+    game[layout.states().start..layout.items().end].fill(0);
+    game[layout.offsets().end - 1] = m as u32;
     game[..3].copy_from_slice(&[n as u32, m as u32, 0]);
-    game[4 + 3 * n + m..].fill(0);
+    game[layout.targets().end..].fill(0);
     Ok((n, m))
 }
 
@@ -223,29 +226,38 @@ impl Found<'_> {
     fn by_places(&self, n: usize, met: &mut Bitmap, game: &mut [u32]) -> usize {
         let lines = self.lines.rest;
         let mut reader = self.lines;
+        let [owners, priorities] = vertex_columns(n);
         while !reader.rest.is_empty() {
             let place = lines.len() - reader.rest.len();
             let vertex = reader.number().unwrap_or(0) as usize;
-            game[3 + vertex] = place as u32;
-            game[3 + n + vertex] = (place >> 32) as u32;
+            game[owners + vertex] = place as u32;
+            game[priorities + vertex] = (place >> 32) as u32;
             skip_line(&mut reader);
         }
         let mut edges = 0;
         for vertex in 0..n {
-            let place = game[3 + vertex] as usize + ((game[3 + n + vertex] as usize) << 32);
+            let place = game[owners + vertex] as usize + ((game[priorities + vertex] as usize) << 32);
             edges = put_vertex(&mut Reader { rest: &lines[place..] }, n, vertex, edges, met, game);
         }
         edges
     }
 }
 
+/// Where owners and priorities of so many vertices begin; that goes by the vertices alone, as where the offsets do.
+fn vertex_columns(n: usize) -> [usize; 2] {
+    let layout = Layout { vertices: n, edges: 0 };
+    [layout.owners().start, layout.priorities().start]
+}
+
 /// Writes a vertex from its line; `edges` are there before. How many there are then.
 fn put_vertex(reader: &mut Reader, n: usize, vertex: usize, edges: usize, met: &mut Bitmap, game: &mut [u32]) -> usize {
-    let (columns, targets) = game.split_at_mut(4 + 3 * n);
+    let offsets = Layout { vertices: n, edges: 0 }.offsets();
+    let (columns, targets) = game.split_at_mut(offsets.end);
     let Some((_, priority, owner)) = reader.fields() else { return edges };
-    columns[3 + vertex] = owner;
-    columns[3 + n + vertex] = priority as u32;
-    columns[3 + 2 * n + vertex] = edges as u32;
+    let [owners, priorities] = vertex_columns(n);
+    columns[owners + vertex] = owner;
+    columns[priorities + vertex] = priority as u32;
+    columns[offsets.start + vertex] = edges as u32;
     let mut end = edges;
     each_successor(reader, met, |to, new| {
         if new {

@@ -251,6 +251,8 @@ fn write_game<const FACTOR: u32>(walk: &Walk<FACTOR>, items: &[Item], game: &mut
     let (head, rest) = game.split_at_mut(3);
     let (owners, rest) = rest.split_at_mut(n);
     let (priorities, rest) = rest.split_at_mut(n);
+    let (states, rest) = rest.split_at_mut(n);
+    let (item_numbers, rest) = rest.split_at_mut(n);
     let (offsets, rest) = rest.split_at_mut(n + 1);
     let (targets, rest) = rest.split_at_mut(m);
     let (counts, past) = rest.split_at_mut(m);
@@ -258,6 +260,8 @@ fn write_game<const FACTOR: u32>(walk: &Walk<FACTOR>, items: &[Item], game: &mut
     let mut offset = 0;
     for vertex in 0..n {
         offsets[vertex] = offset as u32;
+        let (state, item) = (walk.pairs[vertex] / 2_048, walk.pairs[vertex] % 2_048);
+        (states[vertex], item_numbers[vertex]) = (state, item);
         let degree = walk.degrees[vertex] as usize;
         // A settled vertex has an edge.
         if degree == 0 {
@@ -266,8 +270,7 @@ fn write_game<const FACTOR: u32>(walk: &Walk<FACTOR>, items: &[Item], game: &mut
         }
         let start = walk.starts[vertex] as usize;
         let edges = &walk.edges[start..][..degree];
-        let item = &items[walk.pairs[vertex] as usize % 2_048];
-        (owners[vertex], priorities[vertex]) = owner_and_priority(item, vertex, edges);
+        (owners[vertex], priorities[vertex]) = owner_and_priority(&items[item as usize], vertex, edges);
         targets[offset..offset + degree].copy_from_slice(edges);
         counts[offset..offset + degree].copy_from_slice(&walk.counts[start..][..degree]);
         offset += degree;

@@ -1,6 +1,6 @@
 use mathlib.Core.Path.{ap, ◌∙◌}
 use Rattle.player.specs.Player.{player_index}
-use Rattle.rules.specs.Game.{stuck_priority}
+use Rattle.rules.specs.Vertices.{stuck_priority}
 use Rattle.game_writer.proofs.stuck_priority.Goals as goal
 
 pub returns : goal.returns

@@ -2,7 +2,7 @@
 //! around them.
 use crate::check::call::show;
 use crate::check::lent::Lent;
-use crate::{game_words, plain};
+use crate::{Layout, game_words, plain};
 
 /// A call that writes a text: game; text, answer.
 pub type Write = fn(&[u32], &mut [u8], &mut [u32; 4]);
@@ -144,8 +144,8 @@ pub fn perform(call: &Call, by: Implementation, fill: u8) -> Outcome {
     Outcome { answer: answer.read().try_into().expect("four words"), text, game, intact }
 }
 
-/// What holds after every call, whatever it was handed: zeros past what was written, a game that is read has no counts,
-/// and a refusal alters nothing.
+/// What holds after every call, whatever it was handed: zeros past what was written, a game that is read has states,
+/// items and counts 0, and a refusal alters nothing.
 pub fn unlawful(outcome: &Outcome, fill: u8) -> Option<&'static str> {
     let Outcome { answer, text, game, intact } = outcome;
     if !intact {
@@ -159,8 +159,11 @@ pub fn unlawful(outcome: &Outcome, fill: u8) -> Option<&'static str> {
         // The other slice is empty; a game that was read counts its vertices as steps.
         [0, bytes, 0, 0] => zero_from(bytes as usize),
         [0, steps, n, m] if steps == n => {
-            let end = game_words(n as usize, m as usize);
-            zero_from(end).or_else(|| zero_from(end - m as usize).map(|_| "a game that was read has a count"))
+            let layout = Layout { vertices: n as usize, edges: m as usize };
+            let shown = || [layout.states(), layout.items(), layout.counts()].into_iter().flatten();
+            let set = || shown().any(|at| game[at] != 0);
+            zero_from(layout.words())
+                .or_else(|| set().then_some("a game that was read has a state, an item or a count"))
         }
         [2, _, 0, 0] | [2, 52 | 53, _, 0] => {
             let same = text.iter().all(|&byte| byte == fill) && game.iter().all(|&word| word == fill as u32);

@@ -2,8 +2,8 @@
 use super::call::Call;
 use crate::check::call;
 use crate::check::cases::words;
+use crate::check::columns::Columns;
 use crate::check::places;
-use crate::game_words;
 
 pub struct Case {
     pub name: &'static str,
@@ -36,24 +36,28 @@ pub fn all() -> Vec<Case> {
 
 /// Games and their texts.
 const WRITTEN: [(&str, &str, &str); 7] = [
-    ("case 1", "3 3 0 0 0 1 0 0 0 0 1 2 3 1 2 0 0 1 0", "parity 2;\n0 0 0 1;\n1 0 0 2;\n2 0 1 0;\n"),
-    ("a loop", "1 1 0 0 0 0 1 0 0", "parity 0;\n0 0 0 0;\n"),
-    ("a game that starts elsewhere", "2 2 1 0 0 0 0 0 1 2 0 1 0 0", "parity 1;\n0 0 0 0;\n1 0 0 1;\n"),
+    ("case 1", "3 3 0  0 0 1  0 0 0  0 0 0  0 1 2  0 1 2 3  1 2 0  0 1 0", "parity 2;\n0 0 0 1;\n1 0 0 2;\n2 0 1 0;\n"),
+    ("a loop", "1 1 0  0  0  0  0  0 1  0  0", "parity 0;\n0 0 0 0;\n"),
+    ("a game that starts elsewhere", "2 2 1  0 0  0 0  3 4  5 6  0 1 2  0 1  0 0", "parity 1;\n0 0 0 0;\n1 0 0 1;\n"),
     (
         "case 4, two equal edges",
-        "3 4 0 1 1 1 1 0 0 0 1 3 4 1 2 2 2 0 0 0 0",
+        "3 4 0  1 1 1  1 0 0  0 0 0  0 1 2  0 1 3 4  1 2 2 2  0 0 0 0",
         "parity 2;\n0 1 1 1;\n1 0 1 2;\n2 0 1 2;\n",
     ),
     (
         "successors by first appearance",
-        "3 8 0 0 1 0 5 10 0 0 5 7 8 2 0 2 1 0 1 1 0 1 2 3 4 5 6 7 8",
+        "3 8 0  0 1 0  5 10 0  0 0 0  0 0 0  0 5 7 8  2 0 2 1 0 1 1 0  1 2 3 4 5 6 7 8",
         "parity 2;\n0 5 0 2,0,1;\n1 10 1 1;\n2 0 0 0;\n",
     ),
-    ("the largest priority and count", "1 1 0 1 4294967295 0 1 0 4294967295", "parity 0;\n0 4294967295 1 0;\n"),
+    (
+        "the largest words",
+        "1 1 0  1  4294967295  4294967295  4294967295  0 1  0  4294967295",
+        "parity 0;\n0 4294967295 1 0;\n",
+    ),
     (
         "numbers of several digits",
-        "11 12 0 0 0 0 0 0 0 0 0 0 0 1 9 9 10 99 100 1000 0 0 0 0 0 0 2 3 4 5 6 7 8 9 10 11 12 \
-         10 9 0 1 2 3 4 5 6 7 8 9 0 0 0 0 0 0 0 0 0 0 0 0",
+        "11 12 0  0 0 0 0 0 0 0 0 0 0 1  9 9 10 99 100 1000 0 0 0 0 0  0 0 0 0 0 0 0 0 0 0 0 \
+         1 2 3 4 5 6 7 8 9 10 11  0 2 3 4 5 6 7 8 9 10 11 12  10 9 0 1 2 3 4 5 6 7 8 9 0 0 0 0 0 0 0 0 0 0 0 0",
         "parity 10;\n0 9 0 10,9;\n1 9 0 0;\n2 10 0 1;\n3 99 0 2;\n4 100 0 3;\n5 1000 0 4;\n6 0 0 5;\n7 0 0 6;\n\
          8 0 0 7;\n9 0 0 8;\n10 0 1 9;\n",
     ),
@@ -76,15 +80,16 @@ fn written() -> Vec<Case> {
 /// Games that have no text, each into a slice that is long enough and into an empty one, which is refused later.
 fn not_written() -> Vec<Case> {
     let games = [
-        ("a vertex alone, without successors", "1 0 0 0 0 0 0", 98, 0),
-        ("vertex 0 has no successors", "2 1 0 0 0 0 0 0 0 1 1 0", 98, 0),
-        ("vertex 1 has no successors", "2 1 0 1 1 0 0 0 1 1 1 0", 98, 0),
-        ("a vertex in the middle has no successors", "3 2 0 0 0 0 0 0 0 0 1 1 2 1 1 0 0", 98, 0),
-        ("no successors, and a target too large", "2 1 0 0 0 0 0 0 1 1 2 0", 53, 10),
-        ("no successors, and the first offset is not 0", "2 1 0 0 0 0 0 1 1 1 1 0", 52, 7),
-        ("a cut game", "1 0 0 2 0 0 0", 53, 3),
-        ("a game and a word more", "1 1 0 0 0 0 1 0 0 0", 51, 0),
-        ("a game without counts", "1 1 0 0 0 0 1 0", 51, 0),
+        ("a vertex alone, without successors", "1 0 0  0  0  0  0  0 0", 98, 0),
+        ("vertex 0 has no successors", "2 1 0  0 0  0 0  0 0  0 0  0 0 1  1  0", 98, 0),
+        ("vertex 1 has no successors", "2 1 0  1 1  0 0  0 0  0 0  0 1 1  1  0", 98, 0),
+        ("a vertex in the middle has no successors", "3 2 0  0 0 0  0 0 0  0 0 0  0 0 0  0 1 1 2  1 1  0 0", 98, 0),
+        ("no successors, and a target too large", "2 1 0  0 0  0 0  0 0  0 0  0 1 1  2  0", 53, 14),
+        ("no successors, and the first offset is not 0", "2 1 0  0 0  0 0  0 0  0 0  1 1 1  1  0", 52, 11),
+        ("a cut game", "1 0 0  2  0  0  0  0 0", 53, 3),
+        ("a game and a word more", "1 1 0  0  0  0  0  0 1  0  0  0", 51, 0),
+        ("a game without counts", "1 1 0  0  0  0  0  0 1  0", 51, 0),
+        ("a game without states and items", "1 1 0  0  0  0 1  0  0", 51, 0),
     ];
     let of = |(name, game, number, place): (&'static str, &str, u32, u32)| {
         [99, 0].map(|text| refused(name, Call::Write { game: words(game), text }, number, place))
@@ -107,7 +112,8 @@ fn no_games() -> Vec<Case> {
 
 // ---- reading
 
-/// Texts, a room that holds them exactly, and their games up to the targets: a text says nothing of counts.
+/// Texts, a room that holds them exactly, and their games as the Rust original has them: a text says nothing of states,
+/// items and counts.
 const READ: [(&str, &[u8], u32, u32, &str); 15] = [
     ("case 1", b"parity 2;\n0 0 0 1;\n1 0 0 2;\n2 0 1 0;\n", 3, 3, "3 3 0 0 0 1 0 0 0 0 1 2 3 1 2 0"),
     ("case 1 in another order", b"parity 2;\n2 0 1 0;\n0 0 0 1;\n1 0 0 2;\n", 3, 3, "3 3 0 0 0 1 0 0 0 0 1 2 3 1 2 0"),
@@ -141,8 +147,9 @@ const READ: [(&str, &[u8], u32, u32, &str); 15] = [
 
 fn read() -> Vec<Case> {
     let of = |(name, text, vertices, edges, game)| {
-        let mut game = words(game);
-        game.resize(game_words(game[0] as usize, game[1] as usize), 0);
+        let original = words(game);
+        let [n, m] = [original[0], original[1]].map(|size| vec![0; size as usize]);
+        let game = Columns { states: n.clone(), items: n, counts: m }.into_game(&original);
         let answer = [0, game[0], game[0], game[1]];
         Case { name, call: Call::read(text, vertices, edges), answer, text: None, game: Some(game) }
     };
@@ -161,15 +168,16 @@ fn rooms() -> Vec<Case> {
     ];
     let lengths = [
         ("no game slice", 0),
-        ("game slice too short", 23),
-        ("game slice too long", 25),
-        ("game slice without room for counts", 20),
+        ("game slice too short", 31),
+        ("game slice too long", 33),
+        ("game slice without room for counts", 28),
+        ("game slice without room for states and items", 24),
     ];
     let mut cases = Vec::new();
     for text in [READ[0].1, b"", b"parity 9;\n"] {
         for (name, vertices, edges, number) in out_of_range {
             let call = |game| Call::Read { text: text.into(), vertices, edges, game };
-            cases.extend([24, 0, 4].map(|game| refused(name, call(game), number, 0)));
+            cases.extend([32, 0, 4].map(|game| refused(name, call(game), number, 0)));
         }
         for (name, game) in lengths {
             cases.push(refused(name, Call::Read { text: text.into(), vertices: 4, edges: 4, game }, 2, 0));

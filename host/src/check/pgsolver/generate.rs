@@ -1,7 +1,7 @@
 //! Random games and random texts, most of them of the form, with faults of vertices, room and numbers.
 use super::call::{Call, PLAIN, perform};
-use crate::check::generate::{Random, count, random_game};
-use crate::game_words;
+use crate::check::generate::{Random, any_word, random_game};
+use crate::{Layout, game_words};
 
 /// A game in which most vertices have successors, some of them repeated, and some starts are not vertex 0.
 pub fn game(random: &mut Random, most: usize) -> Vec<u32> {
@@ -15,13 +15,14 @@ pub fn game(random: &mut Random, most: usize) -> Vec<u32> {
     assembled(random, degrees.into_iter().enumerate().map(|(v, d)| if stuck == Some(v) { 0 } else { d }).collect())
 }
 
-/// A game of these out-degrees, with any owners, priorities, targets and counts.
+/// A game of these out-degrees, with any owners, priorities, states, items, targets and counts.
 fn assembled(random: &mut Random, degrees: Vec<u32>) -> Vec<u32> {
     let (n, m) = (degrees.len(), degrees.iter().sum());
     let initial = if random.chance(30) { random.below(n) as u32 } else { 0 };
     let mut words = vec![n as u32, m, initial];
     words.extend((0..n).map(|_| random.below(2) as u32));
     words.extend((0..n).map(|_| priority(random)));
+    words.extend((0..2 * n).map(|_| any_word(random)));
     words.extend(std::iter::once(0).chain(degrees.iter().scan(0, |end, degree| {
         *end += degree;
         Some(*end)
@@ -29,15 +30,17 @@ fn assembled(random: &mut Random, degrees: Vec<u32>) -> Vec<u32> {
     // Few different targets give many repeats.
     let targets = random.pick(&[n, n, n.min(3)]);
     words.extend((0..m).map(|_| random.below(targets) as u32));
-    words.extend((0..m).map(|_| count(random)));
+    words.extend((0..m).map(|_| any_word(random)));
     words
 }
 
-/// The game with other counts, of which its text says nothing.
-pub fn recounted(random: &mut Random, game: &[u32]) -> Vec<u32> {
-    let (rest, counts) = game.split_at(game.len() - game[1] as usize);
-    let counts: Vec<u32> = counts.iter().map(|_| count(random)).collect();
-    [rest, &counts].concat()
+/// The game with other states, items and counts, of which its text says nothing.
+pub fn rewritten(random: &mut Random, game: &[u32]) -> Vec<u32> {
+    let (mut words, layout) = (game.to_vec(), Layout::of(game));
+    for column in [layout.states(), layout.items(), layout.counts()] {
+        words[column].iter_mut().for_each(|word| *word = any_word(random));
+    }
+    words
 }
 
 /// Every count of digits, and the largest.
@@ -99,18 +102,15 @@ pub struct Draft {
 impl Draft {
     /// A line for each vertex of a game, in order and without names.
     pub fn of_game(game: &[u32]) -> Draft {
-        let n = game[0] as usize;
-        let line = |vertex: usize| {
-            let (from, to) = (game[3 + 2 * n + vertex] as usize, game[4 + 2 * n + vertex] as usize);
-            Line {
-                number: vertex.to_string(),
-                priority: game[3 + n + vertex].to_string(),
-                owner: game[3 + vertex].to_string(),
-                successors: game[4 + 3 * n..][from..to].iter().map(u32::to_string).collect(),
-                name: None,
-            }
+        let layout = Layout::of(game);
+        let line = |vertex: usize| Line {
+            number: vertex.to_string(),
+            priority: game[layout.priorities()][vertex].to_string(),
+            owner: game[layout.owners()][vertex].to_string(),
+            successors: game[layout.targets()][layout.edges_of(game, vertex)].iter().map(u32::to_string).collect(),
+            name: None,
         };
-        Draft { highest: (n - 1).to_string(), lines: (0..n).map(line).collect() }
+        Draft { highest: (layout.vertices - 1).to_string(), lines: (0..layout.vertices).map(line).collect() }
     }
 
     pub fn spell(&self) -> Vec<u8> {

@@ -4,17 +4,16 @@ use super::generate::shuffle;
 use crate::check::generate::Random;
 use crate::check::shapes::SHAPES;
 use crate::plain::{MOST_EDGES, MOST_VERTICES};
-use crate::{Answer, Room};
+use crate::{Answer, Layout, Room};
 use std::io::Write;
 
-/// The game with repeated edges removed, from vertex 0 and with all counts 0: what its text says.
+/// The game with repeated edges removed, from vertex 0 and with all states, items and counts 0: what its text says.
 pub fn without_repeats(game: &[u32]) -> Vec<u32> {
-    let n = game[0] as usize;
+    let (layout, n) = (Layout::of(game), game[0] as usize);
     let (mut offsets, mut targets) = (vec![0], Vec::new());
     let mut met = vec![u32::MAX; n];
     for vertex in 0..n {
-        let (from, to) = (game[3 + 2 * n + vertex] as usize, game[4 + 2 * n + vertex] as usize);
-        for &target in &game[4 + 3 * n..][from..to] {
+        for &target in &game[layout.targets()][layout.edges_of(game, vertex)] {
             if met[target as usize] != vertex as u32 {
                 met[target as usize] = vertex as u32;
                 targets.push(target);
@@ -22,8 +21,10 @@ pub fn without_repeats(game: &[u32]) -> Vec<u32> {
         }
         offsets.push(targets.len() as u32);
     }
-    let counts = vec![0; targets.len()];
-    [&[game[0], targets.len() as u32, 0], &game[3..3 + 2 * n], &offsets, &targets, &counts].concat()
+    let head = [game[0], targets.len() as u32, 0];
+    let vertices = &game[layout.owners().start..layout.priorities().end];
+    let (states_and_items, counts) = (vec![0; 2 * n], vec![0; targets.len()]);
+    [&head, vertices, &states_and_items, &offsets, &targets, &counts].concat()
 }
 
 /// So many vertices with so many edges each; of four, about one in eleven repeats the one before it.
@@ -32,6 +33,7 @@ pub fn game(n: u32, degree: u32) -> Vec<u32> {
     let mut words = vec![n, n * degree, 0];
     words.extend((0..n).map(|vertex| vertex % 2));
     words.extend((0..n).map(|vertex| vertex % 7));
+    words.extend((0..2 * n).map(|place| place % 11));
     words.extend((0..=n).map(|vertex| degree * vertex));
     for _ in 0..n * degree {
         let last = words[words.len() - 1];
@@ -44,12 +46,13 @@ pub fn game(n: u32, degree: u32) -> Vec<u32> {
 
 /// A text of a game, repeats and all.
 pub fn text(game: &[u32]) -> Vec<u8> {
-    let n = game[0] as usize;
-    let mut text = format!("parity {};\n", n - 1).into_bytes();
-    for vertex in 0..n {
-        let (from, to) = (game[3 + 2 * n + vertex] as usize, game[4 + 2 * n + vertex] as usize);
-        let mut before = format!("{vertex} {} {} ", game[3 + n + vertex], game[3 + vertex]);
-        for target in &game[4 + 3 * n..][from..to] {
+    let layout = Layout::of(game);
+    let [owners, priorities, targets] =
+        [layout.owners(), layout.priorities(), layout.targets()].map(|column| &game[column]);
+    let mut text = format!("parity {};\n", layout.vertices - 1).into_bytes();
+    for vertex in 0..layout.vertices {
+        let mut before = format!("{vertex} {} {} ", priorities[vertex], owners[vertex]);
+        for target in &targets[layout.edges_of(game, vertex)] {
             write!(text, "{before}{target}").expect("a vector takes every byte");
             before = ",".to_string();
         }
@@ -205,6 +208,7 @@ fn hub(n: u32, degree: u32) -> Vec<u32> {
     let mut words = vec![n, degree + n - 1, 0];
     words.extend((0..n).map(|vertex| vertex % 2));
     words.extend((0..n).map(|vertex| vertex % 7));
+    words.extend((0..2 * n).map(|place| place % 11));
     words.push(0);
     words.extend((0..n).map(|vertex| degree + vertex));
     words.extend((0..degree).map(|_| random.below(n as usize) as u32));

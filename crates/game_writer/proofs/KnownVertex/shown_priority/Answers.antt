@@ -1,6 +1,6 @@
 -- The priority goes by whether the vertex is settled, and by its first edge.
 use mathlib.Core.Path.{sym, ap, ◌∙◌}
-use Rattle.rules.specs.Game.{stuck_priority}
+use Rattle.rules.specs.Vertices.{stuck_priority}
 use Rattle.game_writer.proofs.Vertices.{priority_waits, priority_stuck, ranked_read}
 use Rattle.game_writer.proofs.KnownVertex.shown_priority.Goals as goal
 
