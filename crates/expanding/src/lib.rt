@@ -1,7 +1,7 @@
 // Writing an expanded formula, whose number of nodes is known. The table is filled from right to left, each part just
-// before what stands already, so no part is moved later. The second part of a choice stands before the formula
-// itself, the first before a copy of it. A reference to a fixpoint that is not written yet has a number past all nodes in place of the fixpoint's
-// node. It is bound once that node is known: the number becomes the node.
+// before what stands already, so no part is moved later. The second part of a choice stands before the formula itself,
+// the first before a copy of it. A reference to a fixpoint that is not written yet has a number past all nodes in place
+// of the fixpoint's node. It is bound once that node is known: the number becomes the node.
 #![tactic(auto)]
 
 ghost use Rattle.std.specs.Prelude.{◌≡◌, ◌≤◌, length};

@@ -199,8 +199,8 @@ fn restrict_lent(
     Ok(restrict(game, out, mapping, work))
 }
 
-// The part of the game that its initial vertex reaches; each vertex keeps its owner, priority, state and item, each edge
-// its count. The map has the new number of each vertex, 4,294,967,295 for one that is not reached.
+// The part of the game that its initial vertex reaches; each vertex keeps its owner, priority, state and item, each
+// edge its count. The map has the new number of each vertex, 4,294,967,295 for one that is not reached.
 pub fn compute_reachable(game: &[u32], out: &mut [u32], map: &mut [u32], work: &mut [u32]) -> Answer
     ensures equals { record { answer = result; out = out.new; mapping = map.new; work = work.new }
         ≡ restriction game.now out.old map.old work.old }

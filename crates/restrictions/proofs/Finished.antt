@@ -18,8 +18,8 @@ use Rattle.rules.specs.Answers.{Accepted}
 use Rattle.rules.specs.Depth.{Ranking}
 use Rattle.rules.specs.Pairs.{Pair, initial_pair, targets}
 use Rattle.rules.specs.Reach.{Reachable, at_root, onward, N}
-use Rattle.rules.specs.Game.{Vertex, vertex_columns, blank_vertex, game_of, padded, vertex_count, edges_in, initial_in}
-use Rattle.rules.specs.Game.{vertex_word, pair_in, targets_in}
+use Rattle.rules.specs.Game.{Vertex, blank_vertex, game_of, padded, vertex_count, edges_in, initial_in}
+use Rattle.rules.specs.Game.{pair_in, targets_in}
 use Rattle.rules.specs.GameRefusal.{game_refusal}
 use Rattle.rules.specs.Refusal.{refusal}
 use Rattle.rules.specs.Run.{Outcome, walk_of, exceeds, built_answer, built_outcome, out_of_room, run}
@@ -30,7 +30,8 @@ use Rattle.rules.specs.Restricts.{Restricts}
 use Rattle.lists.proofs.Members.{in_at, in_left, no_more}
 use Rattle.lists.proofs.Ranges.{from-length, in_from}
 use Rattle.walks.proofs.Reached.{reachable_inside}
-use Rattle.games.proofs.Reading.{count_read, vertex_read, edge_words_read}
+use Rattle.games.specs.Rows.{Row}
+use Rattle.games.proofs.Reading.{count_read, row_read}
 use Rattle.theorems.proofs.Pairs.{in_lead, stands_once}
 use Rattle.theorems.proofs.Runs.{run_refused, run-exceeds, run_fits}
 use Rattle.theorems.proofs.Cut.{done_enough}
@@ -182,22 +183,25 @@ module _ (rank : Ranking) (x : Input) (r : Room) (k : ℕ) (game work : List ℕ
       written_initial : initial_in (game_of 0 vs) ≡ 0
       written_initial = unfold game_of in refl
 
-  same_targets : (v : ℕ) → v < vertex_count h → targets_in o.game v ≡ targets_in h v
+  -- each vertex is shown alike by both
+  abbrev shown : ℕ → Vertex
+  shown v = get_or vs v blank_vertex
+
+  row_run : (v : ℕ) → v < length vs → Row o.game v (shown v)
   unfolding padded
+  row_run v l =
+      subst (λ (w : List ℕ). Row w v (shown v)) (sym finished_run.2)
+      (row_read 0 vs (replicate (length game - length (game_of 0 vs)) 0) v blank_vertex (shown v) l refl)
+
+  row_trimmed : (v : ℕ) → v < length vs → Row h v (shown v)
+  row_trimmed v l =
+      subst (λ (w : List ℕ). Row w v (shown v)) (sym (trimmed_is ∙ sym (append-nil (game_of 0 vs))))
+      (row_read 0 vs [] v blank_vertex (shown v) l refl)
+
+  same_targets : (v : ℕ) → v < vertex_count h → targets_in o.game v ≡ targets_in h v
   same_targets v l =
       let i : v < length vs = omega (arith, many-vertices) in
-      ap (λ (w : List ℕ). targets_in w v) finished_run.2
-      ∙ edge_words_read 0 vs (replicate (length game - length (game_of 0 vs)) 0) 0 v blank_vertex (omega arith) i
-      ∙ sym (ap (λ (w : List ℕ). targets_in w v) (trimmed_is ∙ sym (append-nil (game_of 0 vs))) ∙ edge_words_read 0 vs [] 0 v blank_vertex (omega arith) i)
-
-  same_column : (c : ℕ) → c < length vertex_columns → (v : ℕ) → v < vertex_count h
-      → vertex_word o.game c v ≡ vertex_word h c v
-  unfolding padded
-  same_column c b v l =
-      let i : v < length vs = omega (arith, many-vertices) in
-      ap (λ (w : List ℕ). vertex_word w c v) finished_run.2
-      ∙ vertex_read 0 vs (replicate (length game - length (game_of 0 vs)) 0) c v blank_vertex b i
-      ∙ sym (ap (λ (w : List ℕ). vertex_word w c v) (trimmed_is ∙ sym (append-nil (game_of 0 vs))) ∙ vertex_read 0 vs [] c v blank_vertex b i)
+      (row_run v i).targets ∙ sym (row_trimmed v i).targets
 
   pub finished_reached : (v : ℕ) → v < vertex_count (trimmed (run rank x r k game work).game)
       → Reachable (targets_in (trimmed (run rank x r k game work).game)) (initial_in (trimmed (run rank x r k game work).game)) v
@@ -220,9 +224,11 @@ module _ (rank : Ranking) (x : Input) (r : Room) (k : ℕ) (game work : List ℕ
   -- "in a run's game no two vertices have the same two values" (#105), and none of those that its restriction leaves
   pub trimmed_apart : Apart (trimmed (run rank x r k game work).game)
   trimmed_apart u v l i s t =
+      let j : u < length vs = omega (arith, many-vertices) in
+      let k : v < length vs = omega (arith, many-vertices) in
       cut.distinct u v (omega (arith, same_count)) (omega (arith, same_count))
-      (same_column 2 (omega arith) u l ∙ s ∙ sym (same_column 2 (omega arith) v i))
-      (same_column 3 (omega arith) u l ∙ t ∙ sym (same_column 3 (omega arith) v i))
+      ((row_run u j).state ∙ sym (row_trimmed u j).state ∙ s ∙ (row_trimmed v k).state ∙ sym (row_run v k).state)
+      ((row_run u j).item ∙ sym (row_trimmed u j).item ∙ t ∙ (row_trimmed v k).item ∙ sym (row_run v k).item)
 
   pub finished_apart : (a : Answer) (g ns ms : List ℕ) → Restricts (trimmed (run rank x r k game work).game) a g ns ms
       → Apart g

@@ -20,8 +20,8 @@ use Rattle.rules.specs.PgsolverParse.{parse}
 
 -- ---- the game that is read
 
--- a vertex with owner o, priority p and edges to ts, as a text shows it: "games read from text carry 0" as counts (#102),
--- and a game read "has 0 in both", state and item (#105)
+-- a vertex with owner o, priority p and edges to ts, as a text shows it: "games read from text carry 0" as counts
+-- (#102), and a game read "has 0 in both", state and item (#105)
 unfoldable pub text_vertex : (o p : ℕ) (ts : List ℕ) → Vertex
 text_vertex o p ts = record { owner = o; priority = p; state = 0; item = 0; edges = map edge_to ts }
 

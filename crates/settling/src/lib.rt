@@ -4,8 +4,8 @@
 // that the slice is long enough (`Sized`): `Ready` speaks of the counters too, and does not hold between the writes of
 // a step. So three functions would lose a clause, and each contract would still speak of the slice inside the struct,
 // and say besides that slice and room stay the same.
-// Kept (no plainer): that a state can be numbered with an item (`Fitting`) is a clause of four functions here and of one
-// in `modalities`: states come from the words of the system as numbers, and a type for them would be made at each
+// Kept (no plainer): that a state can be numbered with an item (`Fitting`) is a clause of four functions here and of
+// one in `modalities`: states come from the words of the system as numbers, and a type for them would be made at each
 // transition and be taken apart for the key.
 #![tactic(auto)]
 

@@ -1,6 +1,6 @@
 -- The cut theorem leaves nothing open: two slices of one length that satisfy it for the same input, ranking and limit
--- are equal, and so are the answers. So no wrong program can satisfy it, whatever one thinks of the definition of a run.
--- Assumes nothing.
+-- are equal, and so are the answers. So no wrong program can satisfy it, whatever one thinks of the definition of a
+-- run. Assumes nothing.
 use mathlib.Core.Path.{◌≡◌, refl, sym, ap, ◌∙◌, subst}
 use mathlib.Core.Bool.{cond}
 use mathlib.Core.List.{List, [], ◌∷◌, ◌++◌, map}

@@ -1,5 +1,5 @@
--- The measure is twice the number of nodes from a node on; the star of a node comes just before it, and so does a choice
--- after the node that is one.
+-- The measure is twice the number of nodes from a node on; the star of a node comes just before it, and so does a
+-- choice after the node that is one.
 use Prim.Native.Nat.{◌+◌, ◌-◌, ◌*◌}
 use Rattle.rules.specs.Table.{size}
 use Rattle.expanding.proofs.modal.+modal.Given as goal
