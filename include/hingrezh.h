@@ -1,7 +1,7 @@
 /* Hingrezh: parity games from a labelled transition system and a modal formula, by a proved library.
  *
  * Link with libhingrezh.a, which `make host` makes; `make install` puts it beside a pkg-config file. The
- * archive has no variables, and of the C library it needs memcpy, memmove and memset (a later one may need memcmp too).
+ * archive has no variables, and of the C library it needs memcpy and memset (a later one may need memmove or memcmp too).
  *
  * How a game is won: the largest priority that is seen for ever decides; if it is even, Even wins. If Even wins vertex
  * 0 of a finished game, with reasons that check out, the formula holds in the initial state: proved. If Odd wins, the

@@ -26,24 +26,23 @@ fn growth_at(regulars: &[u32], growths: &[Growth; NODES], node: usize) -> Growth
     }
 }
 
-// The growth of each regular formula of a table, at its node.
-#[derive(Drop)]
+// The growth of each regular formula of a table, at its node, in an array that is lent: so no array is copied.
+#[derive(Clone, Copy)]
 pub struct Growths<'a> {
     pub regulars: &'a [u32],
-    of_node: [Growth; NODES],
+    of_node: &'a [Growth; NODES],
     ghost good: { GoodRegulars regulars.now },
-    ghost known: { GrowFrom regulars.now 0 of_node },
+    ghost known: { GrowFrom regulars.now 0 of_node.now },
 }
 
 impl<'a> Growths<'a> {
-    // From right to left: the parts of a regular formula stand at later nodes.
-    pub fn of(regulars: &'a [u32]) -> Growths<'a>
+    // Fills the array, from right to left: the parts of a regular formula stand at later nodes.
+    pub fn of(regulars: &'a [u32], of_node: &'a mut [Growth; NODES]) -> Growths<'a>
         requires { GoodRegulars regulars.now }
         ensures { result.regulars.now ≡ regulars.entry.now }
     {
-        let mut of_node = [Growth::action(); NODES];
         for node in (0..words::at(regulars, 0)).rev() {
-            of_node[node] = growth_at(regulars, &of_node, node);
+            of_node[node] = growth_at(regulars, of_node, node);
         }
         Growths { regulars, of_node }
     }
@@ -53,6 +52,8 @@ impl<'a> Growths<'a> {
         requires { node < size self.now.regulars.now }
         ensures { GrowsBy (regular_tree self.now.regulars.now node) result }
     {
-        self.of_node[node]
+        // Kept (proof): the `let`: how long the lent array is, is known only once the reference is read by itself.
+        let growths = self.of_node;
+        growths[node]
     }
 }

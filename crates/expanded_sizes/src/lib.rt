@@ -13,7 +13,7 @@ ghost use Rattle.expanded_sizes.specs.Growths.{CountedFrom};
 mod growth;
 mod growths;
 
-use growth::counted;
+use growth::{Growth, counted};
 use growths::Growths;
 use node_kinds::FormulaKind;
 use words::NODES;
@@ -38,7 +38,8 @@ pub fn expanded_size(regulars: &[u32], formula: &[u32]) -> usize
     requires { GoodRegulars regulars.now × GoodFormula (size regulars.now) formula.now }
     ensures { result ≡ capped (expanded_size regulars.now formula.now) }
 {
-    let growths = Growths::of(regulars);
+    let mut of_node = [Growth::action(); NODES];
+    let growths = Growths::of(regulars, &mut of_node);
     let mut sizes = [0; NODES];
     for node in (0..words::at(formula, 0)).rev() {
         sizes[node] = node_size(&growths, formula, &sizes, node);

@@ -28,7 +28,7 @@ use Rattle.arena.specs.Arena.{BodyNode}
 use Rattle.arena.proofs.ItemNumbers.{items_few, item_equation, item_subformula, item_below, item_past, item_carried, first_body}
 use Rattle.arena.proofs.Priorities.{equation_priority, other_priority}
 use Rattle.modal_equation_system.specs.declared.EquationTable.{EquationTable}
-use Rattle.modal_equation_system.specs.System.{formula_only, body_in, operator_in, Listed, RankedBy}
+use Rattle.modal_equation_system.specs.System.{formula_only, body_in, operator_in, Listed, Entered, RankedBy}
 use Rattle.alike_nodes.specs.Nodes.{Last, Later, EquationNumbers, FormulaShown}
 use Rattle.alike_nodes.proofs.Showing.{formula_shown_map}
 use Rattle.item_table.specs.Entries.{operator_kind, ActionAt, ItemShown, ShownAt, ItemTable, Ranks, ItemNumbers, FirstShown}
@@ -83,17 +83,17 @@ module _ (x : Input) (good : GoodInput x) where
     pub body_small : (w : ℕ) → w ≡ body_in table i → w < 1_024
     body_small w e = let (p, q) = body_node in omega (arith, listed.body i h, good.formula.few)
 
-    equation_shown : (w o : ℕ) → w ≡ body_in table i → o ≡ operator_in table i → ItemShown x (item_at x i) o (word numbers w) 0
+    equation_shown : Entered x.formula table → (w o : ℕ) → w ≡ body_in table i → o ≡ operator_in table i → ItemShown x (item_at x i) o (word numbers w) 0
     unfolding body_tree
-    equation_shown w o e g =
+    equation_shown entered w o e g =
         let (p, q) = body_node in
         subst (λ (t : Item). ItemShown x t o (word numbers w) 0) (sym (item_equation x i h)) (
-          g ∙ listed.fixpoint i h ∙ operator_word (equation_of x.formula i).operator,
+          g ∙ entered.fixpoint i h ∙ operator_word (equation_of x.formula i).operator,
           ap (word numbers) (e ∙ listed.body i h) ∙ known.number (equation_of x.formula i).body p q,
           refl,
         )
 
-    pub first_next : (kinds lefts rights kinds' lefts' rights' : List ℕ) (w o : ℕ)
+    pub first_next : Entered x.formula table → (kinds lefts rights kinds' lefts' rights' : List ℕ) (w o : ℕ)
         → i < length kinds → i < length lefts → i < length rights
         → w ≡ body_in table i
         → o ≡ operator_in table i
@@ -102,12 +102,12 @@ module _ (x : Input) (good : GoodInput x) where
         → rights' ≡ set rights i 0
         → FirstShown x i kinds lefts rights
         → FirstShown x (i + 1) kinds' lefts' rights'
-    first_next kinds lefts rights kinds' lefts' rights' w o d e f g j a b c s = record { shown = λ q u. at q (ℕ_discrete q i) u }
+    first_next entered kinds lefts rights kinds' lefts' rights' w o d e f g j a b c s = record { shown = λ q u. at q (ℕ_discrete q i) u }
       where
         at : (q : ℕ) → Dec (q ≡ i) → q < i + 1 → ShownAt x kinds' lefts' rights' q
         at q (yes z) u =
             subst (ShownAt x kinds' lefts' rights') (sym z)
-            (put-here x kinds lefts rights kinds' lefts' rights' i o (word numbers w) 0 a b c d e f (equation_shown w o g j))
+            (put-here x kinds lefts rights kinds' lefts' rights' i o (word numbers w) 0 a b c d e f (equation_shown entered w o g j))
         at q (no n) u = put_there x kinds lefts rights kinds' lefts' rights' i o (word numbers w) 0 a b c q n (s.shown q (omega arith))
 
   -- ---- subformulas

@@ -9,7 +9,7 @@ ghost use Rattle.rules.specs.Items.{items};
 ghost use Rattle.labels.specs.Classes.{Classes};
 ghost use Rattle.lent_input.specs.Inputs.{input_in};
 ghost use Rattle.compiled.specs.Tables.{kinds_in, lefts_in, rights_in, priorities_in, classes_in};
-ghost use Rattle.modal_equation_system.specs.System.{Good, Listed, RankedBy};
+ghost use Rattle.modal_equation_system.specs.System.{Good, Listed, Entered, RankedBy};
 ghost use Rattle.alike_nodes.specs.Nodes.{ActionNumbers, FormulaNumbers};
 ghost use Rattle.alike_nodes.specs.Facts.{action_numbers_prop};
 ghost use Rattle.item_table.specs.Entries.{ItemTable, Ranks, ItemNumbers, NodeNumbered};
@@ -67,6 +67,7 @@ struct Source<'a> {
     input: Input<'a>,
     table: &'a EquationTable,
     ghost listed: { Listed input.formula.now table.now },
+    ghost entered: { Entered input.formula.now table.now },
 }
 
 impl<'a> Source<'a> {

@@ -24,7 +24,7 @@ use Rattle.trees.proofs.Fixpoints.{fixpoint_kind, fixpoint_at, no_fixpoint_below
 use Rattle.trees.proofs.Equations.{number_start, number_start_placeholder, number_more, number_same, equations_least, equations_greatest, equations_below, equations_above, number_monotone, count_number, count_limit}
 use Rattle.modal_equation_system.specs.declared.EquationEntry.{EquationEntry}
 use Rattle.modal_equation_system.specs.declared.EquationTable.{EquationTable}
-use Rattle.modal_equation_system.specs.System.{named, Good, placeholder_entry, link_in, kind_in, body_in, operator_in, Link, Linked, Listed}
+use Rattle.modal_equation_system.specs.System.{named, Good, placeholder_entry, link_in, kind_in, body_in, operator_in, Link, Linked, Listed, Entered}
 use Rattle.modal_equation_system.specs.Listing.{missing, Shows, Listing, Linkable, LinkBy}
 
 -- ---- how many equations come before a node
@@ -288,6 +288,8 @@ listing_last f table good s =
       kinds = s.kinds;
       body = s.body;
       operator = λ i h. ap (λ (w : ℕ). one (eqb w 6)) (s.operator i h) ∙ least_shown (equation_of f i).operator;
-      fixpoint = s.operator;
-      count = s.count;
     }
+
+pub entered_last : (f : List ℕ) (table : EquationTable) → Listing f (size f) table → Entered f table
+unfolding equation_count equations equation_of equation_number
+entered_last f table s = record { fixpoint = s.operator; count = s.count }

@@ -61,13 +61,17 @@ abbrev pub Linked : List ℕ → (v : ℕ) (table : EquationTable) → Type 0
 Linked f v t = (u : ℕ) → u < v → Link f u (link_in t u)
 
 -- The table of the equations of f: for each node its link and its kind; for each equation the first node of its body,
--- 1 if it is a least one, and the word for its kind; and how many there are
+-- and 1 if it is a least one
 pub record Listed (f : List ℕ) (table : EquationTable) : Type 0 where
   pub good : Good f
   pub link : Linked f (size f) table
   pub kinds : (v : ℕ) → v < size f → kind_in table v ≡ kind f v
   pub body : (i : ℕ) → i < equation_count f → body_in table i ≡ (equation_of f i).body
   pub operator : (i : ℕ) → i < equation_count f → least_in table i ≡ least_bit (equation_of f i).operator
+
+-- what the table has of the equations of f besides: for each the word for its kind, and how many there are. Depths and
+-- priorities are read without it
+pub record Entered (f : List ℕ) (table : EquationTable) : Type 0 where
   pub fixpoint : (i : ℕ) → i < equation_count f → operator_in table i ≡ 7 - least_bit (equation_of f i).operator
   pub count : table.count ≡ equation_count f
 
@@ -80,6 +84,27 @@ counted f t i j = contribution f t i j (reading (formula_only f) t j)
 -- the largest of these over the references in the subformula of node v
 unfoldable pub body_reading : List ℕ → (t i v : ℕ) → ℕ
 body_reading f t i v = largest (map (counted f t i) (references (formula_tree (formula_only f) v)))
+
+-- the table is that of a formula with this node and this equation
+pub record ListedNode (table : EquationTable) (node equation : ℕ) : Type 0 where
+  pub formula : List ℕ
+  pub listed : Listed formula table
+  pub inside : node < size formula
+  pub below : equation < equation_count formula
+
+-- the table is that of a formula with this equation
+pub record ListedEquation (table : EquationTable) (equation : ℕ) : Type 0 where
+  pub formula : List ℕ
+  pub listed : Listed formula table
+  pub below : equation < equation_count formula
+
+-- r is the reading of a body, whatever formula the table is of
+abbrev pub ReadsBody : (table : EquationTable) (node equation target r : ℕ) → Type 0
+ReadsBody t v i target r = (f : List ℕ) → Listed f t → v < size f → i < equation_count f → r ≡ body_reading f target i v
+
+-- r is the reading of an equation, whatever formula the table is of
+abbrev pub ReadsEquation : (table : EquationTable) (equation target r : ℕ) → Type 0
+ReadsEquation t i target r = (f : List ℕ) → Listed f t → i < equation_count f → r ≡ reading (formula_only f) target i
 
 -- a table that shows the priorities of the first n equations by this ranking, and past them what it showed before
 pub record RankedBy (rank : Ranking) (f : List ℕ) (n : ℕ) (before after : List ℕ) : Type 0 where

@@ -6,11 +6,12 @@ ghost use Rattle.rules.specs.Lists.{one};
 ghost use Rattle.rules.specs.Words.{most_nodes};
 ghost use Rattle.rules.specs.Table.{size, kind, formula_node};
 ghost use Rattle.rules.specs.Formula.{is_fixpoint, equation_count};
-ghost use Rattle.rules.specs.Depth.{depth, by_depth, reading};
+ghost use Rattle.rules.specs.Depth.{depth, by_depth};
 ghost use Rattle.node_kinds.specs.Codes.{formula_code};
 ghost use Rattle.modal_equation_system.specs.System.{formula_only, Good};
 ghost use Rattle.modal_equation_system.specs.System.{placeholder_entry, link_in, kind_in, body_in, operator_in, least_in};
-ghost use Rattle.modal_equation_system.specs.System.{Listed, body_reading, RankedBy};
+ghost use Rattle.modal_equation_system.specs.System.{Listed, Entered, ListedNode, ListedEquation};
+ghost use Rattle.modal_equation_system.specs.System.{ReadsBody, ReadsEquation, RankedBy};
 ghost use Rattle.modal_equation_system.specs.Listing.{Listing, LinkBy, Linkable};
 
 use formula_reader::FormulaReader;
@@ -49,6 +50,12 @@ impl EquationEntry {
         kind: FormulaKind::Least,
         body: 0,
     };
+
+    // The entry that is made of zeros.
+    const ZEROS: EquationEntry = EquationEntry {
+        kind: FormulaKind::True,
+        body: 0,
+    };
 }
 
 #[derive(Clone, Copy)]
@@ -72,12 +79,16 @@ impl EquationTable {
         ensures nodes { (result.links ≡ replicate 1024 0) × (result.kinds ≡ replicate 1024 FormulaKind.True) }
         ensures equations { result.equations ≡ replicate 1025 placeholder_entry }
     {
-        EquationTable {
+        // Kept (speed): zeros first, which are set where the table stands. A table made with other entries is copied
+        // there, by `memcpy`, which a host without a C library would have to bring.
+        let mut table = EquationTable {
             links: [0; NODES],
             kinds: [FormulaKind::True; NODES],
-            equations: [EquationEntry::PLACEHOLDER; EQUATIONS],
+            equations: [EquationEntry::ZEROS; EQUATIONS],
             count: 0,
-        }
+        };
+        table.equations.fill(EquationEntry::PLACEHOLDER);
+        table
     }
 
     // The link of a node.
@@ -162,6 +173,7 @@ impl EquationTable {
         requires { Good formula.now }
         ensures value { result ≡ equation_count formula.now }
         ensures listed { Listed formula.now self.new }
+        ensures entered { Entered formula.now self.new }
     {
         // it counts only if node 0 is no fixpoint
         self.equations[0] = EquationEntry::PLACEHOLDER;
@@ -171,6 +183,55 @@ impl EquationTable {
             self.list_node(reader.moved(node));
         }
         self.count
+    }
+
+    // ---- reading: `read_body` and `read_equation` call each other down to the leaves. They are passed the table alone,
+    // by one pointer, so that a call keeps little on the stack; what they promise holds for every formula of which this
+    // is the table.
+
+    // Reads the subformula of `node` for `target`, in the body of `equation`.
+    // Kept (no plainer): the equation is a number here and below: that it is one of the formula's could be said by a
+    // struct that has the formula too, and a call is to keep little on the stack.
+    #[cycle(read_body_read_equation)]
+    #[tactic(auto, using(crate::proofs::Reading::formula_few, crate::proofs::Reading::next_listed, crate::proofs::Reading::right_listed, crate::proofs::Reading::right_later, crate::proofs::Reading::at_target, crate::proofs::Reading::at_outer))]
+    fn read_body(&self, node: usize, equation: usize, target: usize) -> u32
+        requires { ListedNode self.now node equation }
+        ensures { ReadsBody self.now node equation target result }
+    {
+        match self.kind_of(node) {
+            // This arm stands first, and only a sum comes after its call: so the compiler turns the calls for nested
+            // fixpoints into a loop, and they take no stack.
+            FormulaKind::Least | FormulaKind::Greatest | FormulaKind::Reference => {
+                let referred = self.link_of(node);
+                if referred == target {
+                    return 1;
+                }
+                if referred <= equation {
+                    return 0;
+                }
+                let alternates = self.is_least(equation) != self.is_least(referred);
+                self.read_equation(referred, target) + u32::from(alternates)
+            }
+            FormulaKind::True | FormulaKind::False => 0,
+            FormulaKind::And | FormulaKind::Or => {
+                // read before the first call, so that less is kept over it
+                let operand = self.link_of(node);
+                let left = self.read_body(node + 1, equation, target);
+                let right = self.read_body(operand, equation, target);
+                left.max(right)
+            }
+            FormulaKind::Box | FormulaKind::Diamond => self.read_body(node + 1, equation, target),
+        }
+    }
+
+    // Reads an equation for `target`.
+    #[cycle(read_body_read_equation)]
+    #[tactic(auto, using(crate::proofs::Reading::formula_few, crate::proofs::Reading::body_listed))]
+    fn read_equation(&self, equation: usize, target: usize) -> u32
+        requires { ListedEquation self.now equation }
+        ensures { ReadsEquation self.now equation target result }
+    {
+        self.read_body(self.body_of(equation), equation, target)
     }
 }
 
@@ -184,61 +245,13 @@ pub struct Equations<'a> {
 }
 
 impl<'a> Equations<'a> {
-    // ---- reading: `read_body` and `read_equation` call each other down to the leaves. They are passed the equations
-    // by one pointer, so that a call keeps little on the stack.
-
-    // Reads the subformula of `node` for `target`, in the body of `equation`.
-    // Kept (no plainer): the equation is a number here and below: that it is one of the formula's could be said by a
-    // struct that has the formula too, and a call is to keep little on the stack.
-    #[cycle(read_body_read_equation)]
-    #[tactic(auto, using(crate::proofs::Reading::count_few, crate::proofs::Reading::at_leaf, crate::proofs::Reading::at_two, crate::proofs::Reading::at_modal, crate::proofs::Reading::at_target, crate::proofs::Reading::at_outer, crate::proofs::Reading::link_few, crate::proofs::Reading::formula_few))]
-    fn read_body(&self, node: usize, equation: usize, target: usize) -> u32
-        requires { (node < size self.now.formula.now) × (equation < equation_count self.now.formula.now) }
-        ensures { result ≡ body_reading self.now.formula.now target equation node }
-    {
-        match self.table.kind_of(node) {
-            // This arm stands first, and only a sum comes after its call: so the compiler turns the calls for nested
-            // fixpoints into a loop, and they take no stack.
-            FormulaKind::Least | FormulaKind::Greatest | FormulaKind::Reference => {
-                let referred = self.table.link_of(node);
-                if referred == target {
-                    return 1;
-                }
-                if referred <= equation {
-                    return 0;
-                }
-                let alternates = self.table.is_least(equation) != self.table.is_least(referred);
-                self.read_equation(referred, target) + u32::from(alternates)
-            }
-            FormulaKind::True | FormulaKind::False => 0,
-            FormulaKind::And | FormulaKind::Or => {
-                // read before the first call, so that less is kept over it
-                let operand = self.table.link_of(node);
-                let left = self.read_body(node + 1, equation, target);
-                let right = self.read_body(operand, equation, target);
-                left.max(right)
-            }
-            FormulaKind::Box | FormulaKind::Diamond => self.read_body(node + 1, equation, target),
-        }
-    }
-
-    // Reads an equation for `target`.
-    #[cycle(read_body_read_equation)]
-    #[tactic(auto, using(crate::proofs::Reading::count_few, crate::proofs::Reading::body_few, crate::proofs::Reading::at_equation))]
-    fn read_equation(&self, equation: usize, target: usize) -> u32
-        requires { equation < equation_count self.now.formula.now }
-        ensures { result ≡ reading (formula_only self.now.formula.now) target equation }
-    {
-        self.read_body(self.table.body_of(equation), equation, target)
-    }
-
     // The alternation depth of an equation.
     #[tactic(auto, unfolding(rules::specs::Depth::depth))]
     pub fn alternation_depth(&self, equation: usize) -> u32
         requires { equation < equation_count self.now.formula.now }
         ensures { result ≡ depth (formula_only self.now.formula.now) equation }
     {
-        self.read_equation(equation, equation)
+        self.table.read_equation(equation, equation)
     }
 
     // The priority of an equation: its depth made even, plus 1 for a least equation.

@@ -52,7 +52,7 @@ fn slot_of(key: u32, slots: u32) -> u32
 
 // Where a pair stands: the vertex that it has, or the empty slot that is for it.
 #[derive(Clone, Copy)]
-enum Place {
+pub enum Place {
     Known(VertexIndex),
     Free(usize),
 }

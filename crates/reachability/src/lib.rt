@@ -2,7 +2,7 @@
 // each at its new number, and the map the new number of each vertex, UNREACHED for one that is not met.
 #![tactic(auto)]
 
-ghost use Rattle.std.specs.Prelude.{◌≡◌, map, ℕ, ◌+◌, ◌*◌, ◌<◌, length, take, eqb};
+ghost use Rattle.std.specs.Prelude.{◌≡◌, map, ℕ, ◌+◌, ◌*◌, ◌≤◌, ◌<◌, length, take, eqb};
 ghost use Rattle.rules.specs.Lists.{word, insert, insert_all};
 ghost use Rattle.rules.specs.Answers.{said, Accepted};
 ghost use Rattle.rules.specs.Game.{edge_columns, vertex_count, edge_words_in};
@@ -10,6 +10,7 @@ ghost use Rattle.faults.specs.Answers.{answer_of};
 ghost use Rattle.game_columns.specs.Shown.{edges_of};
 ghost use Rattle.rules.specs.Restrict.{reached_vertices, restriction_refusal, restricted_to, restriction};
 ghost use Rattle.rules.specs.Restricts.{Restricts, RestrictionDemand1};
+ghost use Rattle.words.specs.Stretches.{Wrote};
 ghost use Rattle.restrictions.specs.GoodGame.{GoodGame};
 ghost use Rattle.reachability.specs.Knowing.{Knows, Chosen, Numbered};
 
@@ -100,6 +101,19 @@ fn explore(game: Game<'_>, mapping: &mut [u32], work: &mut [u32]) -> usize
 
 // ---- the game that is written, from left to right
 
+// Words are copied to a place on; the answer is the place past them.
+// Kept (rule): word by word, since `copy_from_slice` is compiled to a call of `memmove`, which a host without a C
+// library would have to bring.
+fn copy(from: &[u32], out: &mut [u32], start: usize) -> usize
+    requires { start + length from.now ≤ length out.old }
+    ensures { Wrote start from.now out.old out.new result }
+{
+    for (i, word) in from.iter().enumerate() {
+        out[start + i] = *word;
+    }
+    start + from.len()
+}
+
 // The part of a game that is reached: its vertices, in the order of their new numbers, and the map from old numbers to
 // new.
 #[derive(Clone, Copy)]
@@ -155,9 +169,7 @@ impl Vertices for Reached<'_, '_> {
         if column == TARGET {
             return words::carry(self.mapping, held, out, start);
         }
-        let past = start + held.len();
-        out[start..past].copy_from_slice(held);
-        past
+        copy(held, out, start)
     }
 }
 

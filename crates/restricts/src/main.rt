@@ -1,6 +1,6 @@
 // Restricts games that stand on standard input as little-endian words: for each the lengths of the game and of the
 // three lent slices, then the game's words. Prints lines as `replay` does; each word of the lent slices is 7 before. A
-// length above 4,096 counts as 4,096.
+// length above 4,096 counts as 4,096. Of a longer input the first 65,536 bytes are read.
 #![tactic(auto)]
 
 ghost use Rattle.std.specs.Prelude.{◌≤◌};
@@ -48,10 +48,12 @@ fn restrict_next<R: Read>(rt: &impl Print, stdin: &mut R, head: Head) -> io::Res
     stored_runs::restrict(rt, game, head.lent)
 }
 
+// All is read before the first game is restricted, and nothing behind the first 65,536 bytes.
 fn main(rt: HostRuntime) -> io::Result<()> {
-    stored_runs::each_record(
-        &mut rt.stdin(),
-        |stdin, head: Head| restrict_next(&rt, stdin, head),
-    )?;
+    let mut bytes = stored_runs::filled::<u8, 65536>(0);
+    let size = reading::read_full(&mut rt.stdin(), &mut bytes)?;
+    stored_runs::each_record(&mut &bytes[..size], |input, head: Head| {
+        restrict_next(&rt, input, head)
+    })?;
     Ok(())
 }

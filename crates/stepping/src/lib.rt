@@ -33,9 +33,9 @@ use work_slice::Region;
 
 // A state and the number of an item.
 #[derive(Clone, Copy)]
-struct Pair {
-    state: u32,
-    item: u32,
+pub struct Pair {
+    pub state: u32,
+    pub item: u32,
 }
 
 // The pair that a vertex stands for.
@@ -52,10 +52,10 @@ fn pair_of(slots: &Slots<'_>, vertex: VertexIndex) -> Pair
 
 // A vertex taken off the stack: the counters without it, and the pair that it stands for.
 #[derive(Clone, Copy)]
-struct Popped {
-    counters: Counters,
-    vertex: VertexIndex,
-    pair: Pair,
+pub struct Popped {
+    pub counters: Counters,
+    pub vertex: VertexIndex,
+    pub pair: Pair,
 }
 
 // Takes the vertex that was numbered last off the stack. Its edges start behind those that there are.
@@ -83,7 +83,6 @@ fn pop(counters: Counters, work: &mut [u32], room: Room) -> Popped
 // state.
 fn settle_at_state(
     counters: Counters,
-    tables: &WalkTables<'_>,
     work: &mut [u32],
     room: Room,
     state: u32,
@@ -128,7 +127,7 @@ fn settle(
         };
         return modalities::settle_modality(counters, &tables.model(), work, room, modality);
     }
-    settle_at_state(counters, tables, work, room, pair.state, item)
+    settle_at_state(counters, work, room, pair.state, item)
 }
 
 // The waiting vertex that was numbered last is settled.

@@ -27,5 +27,5 @@ returns-clause-ranks c =
     let i = c.args.input.now in
     let x = input_in i in
     ranks_made x i.good by_depth (λ q. by_depth_words (formula_only x.formula) x q refl) c.list_equations.new.self.count _
-    (priorities_in c.put_priorities.new.compiled) c.list_equations.ensures.listed.count
+    (priorities_in c.put_priorities.new.compiled) c.list_equations.ensures.entered.count
     (omega (arith, c.put_priorities.ensures.priorities_only.room)) c.put_priorities.ensures.ranked_by

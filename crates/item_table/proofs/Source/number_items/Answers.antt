@@ -13,7 +13,7 @@ unfolding zeros
 loop-node-init c =
     let i = c.args.self.now.input in (
       numbering_first (input_in i) i.good c.args.nodes.now c.requires c.args.numbers.now _
-          c.first_body_node-node.result _ (c.fill.ensures.after (λ y e. e)) c.first_body_node-node.ensures c.args.self.now.listed.count,
+          c.first_body_node-node.result _ (c.fill.ensures.after (λ y e. e)) c.first_body_node-node.ensures c.args.self.now.entered.count,
       omega (arith, c.fill.auto.self),
     )
 

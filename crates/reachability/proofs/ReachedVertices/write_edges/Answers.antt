@@ -2,8 +2,6 @@
 use native.Mathlib.Omega.{arith}
 use mathlib.Core.Path.{refl, ap, ◌∙◌}
 use mathlib.Core.List.{map}
-use Rattle.std.proofs.Common.{rules}
-use Rattle.std.proofs.lemmas.Slice.{overwrites}
 use Rattle.rules.specs.Lists.{word}
 use Rattle.rules.specs.Game.{edge_words_in}
 use Rattle.games.specs.Columns.{edge_column}
@@ -42,4 +40,4 @@ returns c =
     (others_written _ _ c.args.column old _ c.args.self.now.chosen.good inside c.requires.within.0
     (omega (arith, c.if-column-eq-TARGET.false)) c.edge_words-held.ensures.words
     ∙ ap (map (edge_column c.args.column)) (edges_at _ _ c.args.vertex.0 _ c.requires.within.1 refl))
-    (record { past = refl; words = search (rules, overwrites); rest = search (rules, overwrites) })
+    c.copy.ensures
