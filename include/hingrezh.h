@@ -154,7 +154,7 @@
  *
  * hingrezh_refusal_text gives the middle column for a number.
  *
- * Stack: the deepest inputs (511 nested unions or conjunctions) have run in 168 KB as a whole process, the calls on
+ * Stack: the deepest inputs (511 nested unions or conjunctions) have run in 176 KB as a whole process, the calls on
  * PGSolver text in 156 KB, whatever the text, an expansion (1,023 nested fixpoints) in 112 KB; give the calling thread
  * at least 256 KB.
  */
