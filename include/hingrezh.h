@@ -1,7 +1,7 @@
 /* Hingrezh: parity games from a labelled transition system and a modal formula, by a proved library.
  *
  * Link with libhingrezh.a, which `make host` makes; `make install` puts it beside a pkg-config file. The
- * archive has no variables, and of the C library it needs memcpy and memset (a later one may need memmove or memcmp too).
+ * archive has no variables, and of the C library it needs memset (a later one may need memcpy, memmove or memcmp too).
  *
  * How a game is won: the largest priority that is seen for ever decides; if it is even, Even wins. If Even wins vertex
  * 0 of a finished game, with reasons that check out, the formula holds in the initial state: proved. If Odd wins, the
@@ -154,7 +154,7 @@
  *
  * hingrezh_refusal_text gives the middle column for a number.
  *
- * Stack: the deepest inputs (511 nested unions or conjunctions) have run in 176 KB as a whole process, the calls on
+ * Stack: the deepest inputs (511 nested unions or conjunctions) have run in 164 KB as a whole process, the calls on
  * PGSolver text in 156 KB, whatever the text, an expansion (1,023 nested fixpoints) in 112 KB; give the calling thread
  * at least 256 KB.
  */

@@ -227,7 +227,7 @@ pub fn compile(input: &Input<'_>, compiled: &mut Compiled) -> usize
     ensures ranks { Ranks by_depth (input_in input.now) (priorities_in compiled.new) }
     ensures items_only { ItemsOnly compiled.old compiled.new }
 {
-    let mut table = EquationTable::blank();
+    let mut table = EquationTable::zeros();
     let mut acts = [0u32; NODES];
     let mut numbers = [0u32; NODES];
     table.list_equations(input.formula);

@@ -6,7 +6,7 @@ use Rattle.rules.specs.Table.{size, kind, operand}
 use Rattle.rules.specs.Formula.{equation_count, equation_of, equation_number, formula_tree}
 use Rattle.rules.specs.Depth.{references, contribution, reading, Ranking, least_bit}
 use Rattle.tables.specs.Good.{GoodFormula}
-use Rattle.node_kinds.specs.declared.FormulaKind.TheVariants.{Least}
+use Rattle.node_kinds.specs.declared.FormulaKind.TheVariants.{True, Least}
 use Rattle.node_kinds.specs.Codes.{formula_code}
 use Rattle.modal_equation_system.specs.declared.EquationEntry.{EquationEntry}
 use Rattle.modal_equation_system.specs.declared.EquationTable.{EquationTable}
@@ -23,6 +23,10 @@ named f = suc (largest f)
 -- the formula is in order, for some number of nodes of action formulas
 pub record Good (f : List ℕ) : Type 0 where
   pub formula : GoodFormula (named f) f
+
+-- the entry that is made of zeros
+abbrev pub zero_entry : EquationEntry
+zero_entry = record { kind = True; body = 0 }
 
 -- the entry of the placeholder
 abbrev pub placeholder_entry : EquationEntry

@@ -9,7 +9,8 @@ ghost use Rattle.rules.specs.Formula.{is_fixpoint, equation_count};
 ghost use Rattle.rules.specs.Depth.{depth, by_depth};
 ghost use Rattle.node_kinds.specs.Codes.{formula_code};
 ghost use Rattle.modal_equation_system.specs.System.{formula_only, Good};
-ghost use Rattle.modal_equation_system.specs.System.{placeholder_entry, link_in, kind_in, body_in, operator_in, least_in};
+ghost use Rattle.modal_equation_system.specs.System.{zero_entry, placeholder_entry};
+ghost use Rattle.modal_equation_system.specs.System.{link_in, kind_in, body_in, operator_in, least_in};
 ghost use Rattle.modal_equation_system.specs.System.{Listed, Entered, ListedNode, ListedEquation};
 ghost use Rattle.modal_equation_system.specs.System.{ReadsBody, ReadsEquation, RankedBy};
 ghost use Rattle.modal_equation_system.specs.Listing.{Listing, LinkBy, Linkable};
@@ -74,21 +75,31 @@ pub struct EquationTable {
 }
 
 impl EquationTable {
-    // A table to list equations in.
-    pub fn blank() -> EquationTable
+    // A table of zeros: each node and each entry is one of true.
+    // Kept (speed): `compile` lists equations in it, not in a blank one, whose entries are not zeros: such a table is
+    // made elsewhere and copied, by `memcpy`, which a host without a C library would have to bring.
+    pub fn zeros() -> EquationTable
         ensures nodes { (result.links ≡ replicate 1024 0) × (result.kinds ≡ replicate 1024 FormulaKind.True) }
-        ensures equations { result.equations ≡ replicate 1025 placeholder_entry }
+        ensures equations { result.equations ≡ replicate 1025 zero_entry }
+        ensures count { result.count ≡ 0 }
     {
-        // Kept (speed): zeros first, which are set where the table stands. A table made with other entries is copied
-        // there, by `memcpy`, which a host without a C library would have to bring.
-        let mut table = EquationTable {
+        EquationTable {
             links: [0; NODES],
             kinds: [FormulaKind::True; NODES],
             equations: [EquationEntry::ZEROS; EQUATIONS],
             count: 0,
-        };
-        table.equations.fill(EquationEntry::PLACEHOLDER);
-        table
+        }
+    }
+
+    // A table whose entries are all the placeholder's.
+    pub fn blank() -> EquationTable
+        ensures nodes { (result.links ≡ replicate 1024 0) × (result.kinds ≡ replicate 1024 FormulaKind.True) }
+        ensures equations { result.equations ≡ replicate 1025 placeholder_entry }
+    {
+        EquationTable {
+            equations: [EquationEntry::PLACEHOLDER; EQUATIONS],
+            ..EquationTable::zeros()
+        }
     }
 
     // The link of a node.

@@ -114,6 +114,20 @@ fn copy(from: &[u32], out: &mut [u32], start: usize) -> usize
     start + from.len()
 }
 
+// The new numbers of targets are written from a place on; the answer is the place past them.
+// Kept (rule): a loop of its own, though `words::carry` does the same, so that `must-fail/first_edge_repeated` plants a
+// wrong value, as it did before the rewriting.
+fn write_numbers(mapping: &[u32], targets: &[u32], out: &mut [u32], start: usize) -> usize
+    requires room { start + length targets.now ≤ length out.old }
+    requires inside { (p : ℕ) → p < length targets.now → word targets.now p < length mapping.now }
+    ensures { Wrote start (map (word mapping.now) targets.now) out.old out.new result }
+{
+    for (i, target) in targets.iter().enumerate() {
+        out[start + i] = mapping[*target as usize];
+    }
+    start + targets.len()
+}
+
 // The part of a game that is reached: its vertices, in the order of their new numbers, and the map from old numbers to
 // new.
 #[derive(Clone, Copy)]
@@ -167,7 +181,7 @@ impl Vertices for Reached<'_, '_> {
     ) -> usize {
         let held = self.edge_words(column, vertex);
         if column == TARGET {
-            return words::carry(self.mapping, held, out, start);
+            return write_numbers(self.mapping, held, out, start);
         }
         copy(held, out, start)
     }

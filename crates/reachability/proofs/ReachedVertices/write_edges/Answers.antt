@@ -10,8 +10,8 @@ use Rattle.reachability.proofs.Edges.{leads_at}
 use Rattle.reachability.proofs.Stretches.{reached_inside, edges_at, numbers_written, others_written}
 use Rattle.reachability.proofs.ReachedVertices.write_edges.Goals as goal
 
-pub carry-requires-clause-inside : goal.carry-requires-clause-inside
-carry-requires-clause-inside c =
+pub write_numbers-requires-clause-inside : goal.write_numbers-requires-clause-inside
+write_numbers-requires-clause-inside c =
     let game = c.args.self.now.game.words.now in
     let old = word c.args.self.now.vertices.now c.args.vertex.0 in
     let inside = reached_inside _ _ c.args.self.now.chosen _ old c.requires.within.1 refl in
@@ -30,7 +30,7 @@ returns-then-column-eq-TARGET c =
     (numbers_written _ _ _ c.args.self.now.chosen.good c.args.self.now.numbered old inside c.args.column _
     c.if-column-eq-TARGET.true c.edge_words-held.ensures.words
     ∙ ap (map (edge_column c.args.column)) (edges_at _ _ c.args.vertex.0 _ c.requires.within.1 refl))
-    c.carry.ensures
+    c.write_numbers.ensures
 
 pub returns : goal.returns
 returns c =
